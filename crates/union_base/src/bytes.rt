@@ -1,0 +1,95 @@
+//! An owned byte text.
+ghost use Rattle.std.specs.Prelude.{◌≡◌, IfOk, Some, nat_eq, refl};
+ghost use Rattle.std.specs.Ordering.{nat_cmp};
+ghost use Rattle.std.specs.Cmp.Lexicographic.{pointwise, slice_cmp, nat_list_eq_equiv, nat_list_cmp_total, texts_ties, texts_po};
+ghost use Rattle.std.specs.Cmp.{partial_equiv_from_equiv};
+
+use crate::memory::Memory;
+use std::alloc::Global;
+use std::cmp::Ordering;
+use std::marker::Model;
+
+/// An owned byte text, which contracts see as a list of bytes. Texts are ordered as lists, byte by byte.
+#[derive(Debug, Drop)]
+pub struct Bytes {
+    content: Vec<u8>,
+}
+
+impl Model for Bytes {
+    ghost use Rattle.std.specs.Prelude.{List, ℕ};
+
+    ghost Value = { List ℕ };
+
+    ghost view = { λ b. b.content.items };
+}
+
+impl Bytes {
+    /// A copy of the text.
+    pub fn of(alloc: Global, text: &[u8]) -> Result<Bytes, Memory>
+        ensures { IfOk result (λ b. b ≡ text.now) }
+    {
+        Ok(Bytes {
+            content: Vec::from_slice(alloc, text)?,
+        })
+    }
+
+    /// The bytes. Takes no memory.
+    pub fn bytes(&self) -> &[u8]
+        ensures { result.now ≡ self.now }
+    {
+        self.content.as_slice()
+    }
+
+    /// An equal text.
+    pub fn copied(&self, alloc: Global) -> Result<Bytes, Memory>
+        ensures { IfOk result (λ b. b ≡ self.now) }
+    {
+        Bytes::of(alloc, self.bytes())
+    }
+}
+
+impl From<Vec<u8>> for Bytes {
+    ghost from_gives = { λ content b. b ≡ content.items };
+
+    fn from(content: Vec<u8>) -> Bytes {
+        Bytes { content }
+    }
+}
+
+impl PartialEq for Bytes {
+    ghost eq = { pointwise nat_eq };
+
+    ghost laws = { partial_equiv_from_equiv nat_list_eq_equiv };
+
+    fn eq(&self, other: &Bytes) -> bool {
+        self.bytes() == other.bytes()
+    }
+}
+
+impl Eq for Bytes {
+    ghost laws = { nat_list_eq_equiv };
+}
+
+impl PartialOrd for Bytes {
+    ghost partial_cmp = { λ x y. Some (slice_cmp nat_cmp x y) };
+
+    ghost laws = { texts_po };
+
+    fn partial_cmp(&self, other: &Bytes) -> Option<Ordering> {
+        Some(self.cmp(other))
+    }
+}
+
+impl Ord for Bytes {
+    ghost cmp = { slice_cmp nat_cmp };
+
+    ghost total = { nat_list_cmp_total };
+
+    ghost matches_partial_cmp = { λ x y. refl };
+
+    ghost matches_eq = { texts_ties };
+
+    fn cmp(&self, other: &Bytes) -> Ordering {
+        self.bytes().cmp(other.bytes())
+    }
+}

@@ -1,0 +1,7 @@
+//! The ground that every crate of the union catalogue stands on: owned texts, library codes, record ids and MARC
+//! fields, each with one total order by its bytes, and the two lists that contracts see as plain lists.
+#![tactic(auto)]
+
+pub mod bytes;
+pub mod memory;
+pub mod subfield;
