@@ -3,5 +3,6 @@
 #![tactic(auto)]
 
 pub mod bytes;
+pub mod library_code;
 pub mod memory;
 pub mod subfield;
