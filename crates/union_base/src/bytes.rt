@@ -4,6 +4,7 @@ ghost use Rattle.std.specs.Ordering.{nat_cmp};
 ghost use Rattle.std.specs.Cmp.Lexicographic.{pointwise, slice_cmp, nat_list_eq_equiv, nat_list_cmp_total, texts_ties, texts_po};
 ghost use Rattle.std.specs.Cmp.{partial_equiv_from_equiv};
 
+use crate::copied::Copied;
 use crate::memory::Memory;
 use std::alloc::Global;
 use std::cmp::Ordering;
@@ -39,11 +40,10 @@ impl Bytes {
     {
         self.content.as_slice()
     }
+}
 
-    /// An equal text.
-    pub fn copied(&self, alloc: Global) -> Result<Bytes, Memory>
-        ensures { IfOk result (λ b. b ≡ self.now) }
-    {
+impl Copied for Bytes {
+    fn copied(&self, alloc: Global) -> Result<Bytes, Memory> {
         Bytes::of(alloc, self.bytes())
     }
 }

@@ -3,6 +3,11 @@
 #![tactic(auto)]
 
 pub mod bytes;
+pub mod body;
+pub mod copied;
 pub mod library_code;
 pub mod memory;
+pub mod record_id;
+pub mod sequence;
+pub mod spelled;
 pub mod subfield;
