@@ -1,3 +1,4 @@
+pub mod FieldOrder
 pub mod Fields
 pub mod LibraryCodes
 pub mod SpelledBytes

@@ -10,7 +10,9 @@ use std::alloc::Global;
 #[derive(Debug, Drop)]
 pub enum Body {
     /// A control field's text.
-    Control { text: Bytes },
+    Control {
+        text: Bytes,
+    },
     /// A data field's two indicators and its subfields.
     Data {
         ind1: u8,

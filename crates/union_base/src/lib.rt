@@ -2,9 +2,10 @@
 //! fields, each with one total order by its bytes, and the two lists that contracts see as plain lists.
 #![tactic(auto)]
 
-pub mod bytes;
 pub mod body;
+pub mod bytes;
 pub mod copied;
+pub mod field;
 pub mod library_code;
 pub mod memory;
 pub mod record_id;

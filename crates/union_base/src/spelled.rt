@@ -1,11 +1,14 @@
 //! The bytes of a field as they stand in a record.
 ghost use Rattle.std.specs.Prelude.{◌≡◌, ◌++◌};
+ghost use Rattle.std.specs.Ordering.{nat_cmp};
+ghost use Rattle.std.specs.Cmp.Lexicographic.{slice_cmp};
 ghost use Rattle.std.specs.Iterator.{YieldsFirst, item_count};
 ghost use Rattle.union_base.specs.Fields.{spelled};
 ghost use Rattle.union_base.specs.SpelledBytes.{bytes_left};
 
 use crate::body::Body;
 use crate::subfield::Subfield;
+use std::cmp::Ordering;
 
 /// Begins a subfield (ISO 2709).
 pub const DELIMITER: u8 = 0x1F;
@@ -70,4 +73,11 @@ impl Iterator for Spelled<'_> {
         self.subfields = subfields;
         Some(DELIMITER)
     }
+}
+
+/// Which of two fields' bytes come first. Takes no memory.
+pub fn compare_spelled(one: &Body, other: &Body) -> Ordering
+    ensures { result ≡ slice_cmp nat_cmp (spelled one.now) (spelled other.now) }
+{
+    Spelled::of(one).cmp(Spelled::of(other))
 }
