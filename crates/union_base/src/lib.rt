@@ -10,5 +10,6 @@ pub mod library_code;
 pub mod memory;
 pub mod record_id;
 pub mod sequence;
+pub mod sorted_list;
 pub mod spelled;
 pub mod subfield;
