@@ -1,5 +1,5 @@
 -- What follows for lists in ascending order: the same members make the same list, and from that the laws of the union.
-use Rattle.std.proofs.Common.{◌≡◌, Bool, true, false, ◌&&◌, ◌||◌, IsTrue, List, [], ◌∷◌, length, refl, sym, ap, ◌∙◌, Contains}
+use Rattle.std.proofs.Common.{◌≡◌, Bool, true, false, ◌&&◌, ◌||◌, IsTrue, List, [], ◌∷◌, ◌++◌, append_assoc, append-nil, refl, sym, ap, ◌∙◌}
 use Rattle.std.specs.declared.cmp.Ordering.{Ordering}
 use Rattle.std.specs.declared.cmp.Ordering.TheVariants.{Less, Equal, Greater}
 use Rattle.std.specs.Ordering.{is_lt, is_eq, eq_by_cmp, match_ordering, ordering_reverse}
@@ -219,3 +219,103 @@ module _ {K : Type 0} {R : K → K → Ordering} (o : IsTotalOrder R) where
 
   pub have_common-itself : (x : K) (xs : List K) → have_common R (x ∷ xs) (x ∷ xs) ≡ true
   have_common-itself x xs = ap (λ t. t || have_common R xs (x ∷ xs)) (has_first x xs)
+
+  -- ---- a walk along both lists
+
+  below-union : (z : K) (xs ys : List K) → below z xs ≡ true → below z ys ≡ true → below z (union R xs ys) ≡ true
+  below-union z xs [] a b = a
+  below-union z xs (y ∷ ys) a b =
+      let parts = both_true (is_lt (R z y)) (below z ys) b in
+      below-put z y (union R xs ys) (lt_is (R z y) parts.0) (below-union z xs ys a parts.1)
+
+  module _ (ties : IsAntisymmetric R) where
+    union_nothing : (ys : List K) → is_ascending R ys ≡ true → union R [] ys ≡ ys
+    union_nothing ys b = same_ascending ties (union R [] ys) ys (is_ascending-union [] ys refl) b (λ q. has-union [] ys q)
+
+    union-less : (x y : K) (xs ys : List K) → R x y ≡ Less → is_ascending R (x ∷ xs) ≡ true → is_ascending R (y ∷ ys) ≡ true
+        → union R (x ∷ xs) (y ∷ ys) ≡ x ∷ union R xs (y ∷ ys)
+    union-less x y xs ys e a b =
+        let left = both_true (below x xs) (is_ascending R xs) a in
+        let right = both_true (below y ys) (is_ascending R ys) b in
+        let under : below x (y ∷ ys) ≡ true = true_both (is_lt (R x y)) (below x ys) (ap is_lt e) (below_more x y ys e right.0) in
+        same_ascending ties (union R (x ∷ xs) (y ∷ ys)) (x ∷ union R xs (y ∷ ys)) (is_ascending-union (x ∷ xs) (y ∷ ys) a)
+          (true_both (below x (union R xs (y ∷ ys))) (is_ascending R (union R xs (y ∷ ys))) (below-union x xs (y ∷ ys) left.0 under) (is_ascending-union xs (y ∷ ys) left.1))
+          (λ q. has-union (x ∷ xs) (y ∷ ys) q ∙ or_assoc (eq_by_cmp R q x) (has R xs q) (has R (y ∷ ys) q) ∙ ap (λ t. eq_by_cmp R q x || t) (sym (has-union xs (y ∷ ys) q)))
+
+    union-greater : (x y : K) (xs ys : List K) → R x y ≡ Greater → is_ascending R (x ∷ xs) ≡ true → is_ascending R (y ∷ ys) ≡ true
+        → union R (x ∷ xs) (y ∷ ys) ≡ y ∷ union R (x ∷ xs) ys
+    union-greater x y xs ys e a b =
+        let right = both_true (below y ys) (is_ascending R ys) b in
+        union-commutative ties (x ∷ xs) (y ∷ ys) a b ∙ union-less y x ys xs (above x y e) b a
+          ∙ ap (λ zs. y ∷ zs) (union-commutative ties ys (x ∷ xs) right.1 a)
+
+    union-equal : (x y : K) (xs ys : List K) → R x y ≡ Equal → is_ascending R (x ∷ xs) ≡ true → is_ascending R (y ∷ ys) ≡ true
+        → union R (x ∷ xs) (y ∷ ys) ≡ x ∷ union R xs ys
+    union-equal x y xs ys e a b =
+        let left = both_true (below x xs) (is_ascending R xs) a in
+        let right = both_true (below y ys) (is_ascending R ys) b in
+        let same : x ≡ y = ties x y e in
+        let under : below x ys ≡ true = ap (λ z. below z ys) same ∙ right.0 in
+        same_ascending ties (union R (x ∷ xs) (y ∷ ys)) (x ∷ union R xs ys) (is_ascending-union (x ∷ xs) (y ∷ ys) a)
+          (true_both (below x (union R xs ys)) (is_ascending R (union R xs ys)) (below-union x xs ys left.0 under) (is_ascending-union xs ys left.1))
+          (λ q. has-union (x ∷ xs) (y ∷ ys) q ∙ ap (λ z. (eq_by_cmp R q x || has R xs q) || (eq_by_cmp R q z || has R ys q)) (sym same)
+            ∙ or_pair (eq_by_cmp R q x) (has R xs q) (eq_by_cmp R q x) (has R ys q)
+            ∙ ap (λ t. t || (has R xs q || has R ys q)) (or_self (eq_by_cmp R q x)) ∙ ap (λ t. eq_by_cmp R q x || t) (sym (has-union xs ys q)))
+
+    -- a step of the merge: the smaller first value goes to the values so far
+    module _ (x y : K) (xs ys left right done whole : List K) (l : left ≡ x ∷ xs) (r : right ≡ y ∷ ys)
+      (a : is_ascending R left ≡ true) (b : is_ascending R right ≡ true) (all : done ++ union R left right ≡ whole) where
+      left_ascends : is_ascending R (x ∷ xs) ≡ true
+      left_ascends = ap (is_ascending R) (sym l) ∙ a
+
+      right_ascends : is_ascending R (y ∷ ys) ≡ true
+      right_ascends = ap (is_ascending R) (sym r) ∙ b
+
+      pub left_rest : is_ascending R xs ≡ true
+      left_rest = (both_true (below x xs) (is_ascending R xs) left_ascends).1
+
+      pub right_rest : is_ascending R ys ≡ true
+      right_rest = (both_true (below y ys) (is_ascending R ys) right_ascends).1
+
+      joined : (z : K) (rest : List K) → union R (x ∷ xs) (y ∷ ys) ≡ z ∷ rest → (done ++ z ∷ []) ++ rest ≡ whole
+      joined z rest e = append_assoc done (z ∷ []) rest ∙ ap (λ zs. done ++ zs) (sym e ∙ (λ i. union R (sym l i) (sym r i))) ∙ all
+
+      pub merged_less : R x y ≡ Less → (done ++ x ∷ []) ++ union R xs right ≡ whole
+      merged_less e = ap (λ zs. (done ++ x ∷ []) ++ union R xs zs) r ∙ joined x (union R xs (y ∷ ys)) (union-less x y xs ys e left_ascends right_ascends)
+
+      pub merged_equal : R x y ≡ Equal → (done ++ x ∷ []) ++ union R xs ys ≡ whole
+      merged_equal e = joined x (union R xs ys) (union-equal x y xs ys e left_ascends right_ascends)
+
+      pub merged_greater : R x y ≡ Greater → (done ++ y ∷ []) ++ union R left ys ≡ whole
+      merged_greater e = ap (λ zs. (done ++ y ∷ []) ++ union R zs ys) l ∙ joined y (union R (x ∷ xs) ys) (union-greater x y xs ys e left_ascends right_ascends)
+
+    -- the end of the merge: one list is empty, and the other follows
+    pub merged_left : (done left right whole : List K) → right ≡ [] → done ++ union R left right ≡ whole → (done ++ left) ++ right ≡ whole
+    merged_left done left right whole r all =
+        append_assoc done left right ∙ ap (λ zs. done ++ (left ++ zs)) r ∙ ap (λ zs. done ++ zs) (append-nil left) ∙ ap (λ zs. done ++ union R left zs) (sym r) ∙ all
+
+    pub merged_right : (done left right whole : List K) → left ≡ [] → is_ascending R right ≡ true → done ++ union R left right ≡ whole → (done ++ left) ++ right ≡ whole
+    merged_right done left right whole l b all =
+        append_assoc done left right ∙ ap (λ zs. done ++ (zs ++ right)) l ∙ ap (λ zs. done ++ zs) (sym (union_nothing right b)) ∙ ap (λ zs. done ++ union R zs right) (sym l) ∙ all
+
+  -- a step of the search for a common value: the smaller first value is in one list alone
+  module _ (x y : K) (xs ys left right : List K) (l : left ≡ x ∷ xs) (r : right ≡ y ∷ ys)
+    (a : is_ascending R left ≡ true) (b : is_ascending R right ≡ true) where
+    both : have_common R (x ∷ xs) (y ∷ ys) ≡ have_common R left right
+    both = λ i. have_common R (sym l i) (sym r i)
+
+    pub common_less : R x y ≡ Less → (is_ascending R xs ≡ true) × (have_common R xs right ≡ have_common R left right)
+    common_less e =
+        ((both_true (below x xs) (is_ascending R xs) (ap (is_ascending R) (sym l) ∙ a)).1,
+        ap (have_common R xs) r ∙ sym (ap (λ t. t || have_common R xs (y ∷ ys)) (has_none x y ys e (ap (is_ascending R) (sym r) ∙ b))) ∙ both)
+
+    pub common_greater : R x y ≡ Greater → (is_ascending R ys ≡ true) × (have_common R left ys ≡ have_common R left right)
+    common_greater e =
+        ((both_true (below y ys) (is_ascending R ys) (ap (is_ascending R) (sym r) ∙ b)).1,
+        ap (λ zs. have_common R zs ys) l ∙ sym (have_common-more (x ∷ xs) y ys ∙ ap (λ t. t || have_common R (x ∷ xs) ys) (has_none y x xs (above x y e) (ap (is_ascending R) (sym l) ∙ a))) ∙ both)
+
+    pub common_equal : R x y ≡ Equal → true ≡ have_common R left right
+    common_equal e = sym (ap (λ o. (is_eq o || has R ys x) || have_common R xs (y ∷ ys)) e) ∙ both
+
+  pub common_none : (left right : List K) → right ≡ [] → false ≡ have_common R left right
+  common_none left right r = sym (have_common-none left) ∙ ap (have_common R left) (sym r)

@@ -6,6 +6,7 @@ pub mod body;
 pub mod bytes;
 pub mod copied;
 pub mod field;
+pub mod laws;
 pub mod library_code;
 pub mod memory;
 pub mod record_id;
