@@ -6,6 +6,7 @@ ghost use Rattle.std.specs.Cmp.{partial_equiv_from_equiv};
 
 use crate::copied::Copied;
 use crate::memory::Memory;
+use crate::sorted_list::Element;
 use std::alloc::Global;
 use std::cmp::Ordering;
 use std::marker::Model;
@@ -92,4 +93,10 @@ impl Ord for Bytes {
     fn cmp(&self, other: &Bytes) -> Ordering {
         self.bytes().cmp(other.bytes())
     }
+}
+
+impl Element for Bytes {
+    ghost use Rattle.union_base.specs.Ties.{texts_apart};
+
+    ghost ties = { texts_apart };
 }
