@@ -9,6 +9,7 @@ use crate::memory::Memory;
 use crate::sorted_list::Element;
 use std::alloc::Global;
 use std::cmp::Ordering;
+use std::hash::{Hash, Hasher};
 use std::marker::Model;
 
 /// An owned byte text, which contracts see as a list of bytes. Texts are ordered as lists, byte by byte.
@@ -99,4 +100,18 @@ impl Element for Bytes {
     ghost use Rattle.union_base.specs.Ties.{texts_apart};
 
     ghost ties = { texts_apart };
+}
+
+impl Hash for Bytes {
+    ghost use Rattle.std.specs.Hash as fed;
+    ghost use Rattle.std.specs.Cmp.Rules.{hashing};
+    ghost use Rattle.std.proofs.Common.{rules};
+
+    ghost hash_input = { fed.slice fed.u8 };
+
+    ghost respects_eq = { Prim.search (hashing, rules) };
+
+    fn hash<H: Hasher>(&self, state: &mut H) {
+        self.bytes().hash(state);
+    }
 }
