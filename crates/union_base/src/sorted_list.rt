@@ -126,8 +126,7 @@ fn merged<K: Element>(alloc: Global, one: &[K], other: &[K]) -> Result<Vec<K>, M
             }
             Ordering::Equal => {
                 items.push(x.copied(alloc)?)?;
-                left = lefts;
-                right = rights;
+                (left, right) = (lefts, rights);
             }
             Ordering::Greater => {
                 items.push(y.copied(alloc)?)?;
