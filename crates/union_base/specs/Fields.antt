@@ -1,5 +1,5 @@
 -- What a MARC field is made of, and how it is spelled in a record.
-use Rattle.std.specs.Prelude.{ℕ, Bool, not, ◌&&◌, ◌||◌, ◌==◌, nat_le, List, ◌∷◌, ◌++◌, length, slice_index}
+use Rattle.std.specs.Prelude.{ℕ, Bool, not, ◌&&◌, ◌==◌, nat_le, List, ◌∷◌, length, slice_index}
 use Rattle.std.specs.List.{list_all, flat_map}
 use Rattle.std.specs.Char.{is_ascii_alphanumeric}
 use Rattle.union_base.specs.declared.subfield.Subfield.{Subfield}

@@ -1,8 +1,8 @@
 -- Which texts are library codes, and how one lies in its sixteen bytes.
-use Rattle.std.specs.Prelude.{◌≡◌, ℕ, ◌+◌, ◌-◌, ◌≤◌, Bool, ◌&&◌, ◌||◌, nat_le, IsTrue, List, length, take, drop, ◌++◌, replicate}
+use Rattle.std.specs.Prelude.{◌≡◌, ℕ, ◌-◌, ◌≤◌, Bool, ◌&&◌, ◌||◌, nat_le, IsTrue, List, length, take, drop, ◌++◌, replicate}
 use Rattle.std.specs.Char.{is_ascii_digit, is_ascii_uppercase}
 use Rattle.std.specs.List.{list_all}
-use Rattle.std.proofs.Common.{sym, ◌∙◌, ap, subst, arith, length-append, length-drop, refl}
+use Rattle.std.proofs.Common.{sym, arith, length-append, length-drop, refl}
 use Rattle.std.proofs.lemmas.Bool.Decides.{nat_tests}
 use Rattle.std.proofs.lemmas.List.{drop-replicate, length-take, length-replicate}
 use Rattle.std.proofs.Math.Seq.{take-append_seam}

@@ -1,4 +1,4 @@
-use Rattle.std.proofs.Common.{◌++◌, sym}
+use Rattle.std.proofs.Common.{sym}
 use Rattle.std.proofs.lemmas.List.{nil_from_length}
 use Rattle.union_base.proofs.SortedListLaws.{left_rest, right_rest, merged_less, merged_equal, merged_greater, merged_left, merged_right}
 use Rattle.union_base.proofs.sorted_list.merged.Goals as goal

@@ -1,4 +1,4 @@
-use Rattle.std.proofs.Common.{sym, ◌∙◌}
+use Rattle.std.proofs.Common.{◌∙◌}
 use Rattle.std.proofs.lemmas.List.Filters.{dedup_is}
 use Rattle.union_base.proofs.SortedListMaking.{ascending-dedup, set_of-from_sort}
 use Rattle.union_base.proofs.sorted_list.SortedList.of.Goals as goal
