@@ -1,5 +1,5 @@
 -- An entry is read from the bytes that spell it, and what is read spells the bytes.
-use Rattle.std.proofs.Common.{◌≡◌, ℕ, ◌+◌, ◌^◌, ◌<◌, ◌≤◌, Bool, true, false, ◌&&◌, cond, List, [], ◌∷◌, ◌++◌, length, get_or, subst, take, drop, Result, Ok, Err, refl, sym, ◌∙◌, ap, arith}
+use Rattle.std.proofs.Common.{◌≡◌, ℕ, ◌^◌, ◌<◌, true, List, [], ◌∷◌, ◌++◌, length, get_or, subst, take, Ok, refl, sym, ◌∙◌, ap}
 use Rattle.marc_leader.specs.Entry.{entry_text, entry_of, is_tag, tag_place, size_place, start_place}
 use Rattle.marc_leader.specs.Numeral.{are_digits, number_of, numeral}
 use Rattle.marc_leader.specs.declared.entry.Entry.{Entry}

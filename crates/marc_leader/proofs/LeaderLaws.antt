@@ -1,13 +1,13 @@
 -- A leader is read from the bytes that spell it, and what is read spells the bytes.
-use Rattle.std.proofs.Common.{◌≡◌, ℕ, suc, ◌+◌, ◌/◌, ◌%◌, ◌^◌, ◌<◌, ◌≤◌, Bool, true, false, ◌&&◌, cond, List, [], ◌∷◌, ◌++◌, length, get_or, take, drop, Option, None, Result, Ok, Err, refl, sym, ◌∙◌, ap, arith, lit<}
+use Rattle.std.proofs.Common.{◌≡◌, ℕ, ◌+◌, ◌/◌, ◌%◌, ◌^◌, ◌<◌, true, List, [], ◌∷◌, ◌++◌, length, get_or, None, Ok, refl, sym, ◌∙◌, ap, arith, lit<}
 use Rattle.std.proofs.lemmas.Bool.{and_parts, and_from, eqb-true}
 use Rattle.std.proofs.lemmas.Bool.Decides.{nat_tests}
 use Rattle.marc_leader.specs.Codes.{Codes, is_printable, are_printable}
-use Rattle.marc_leader.specs.Leader.{leader_text, leader_of, may_stand, misfit, misfit_from, length_place, base_place, codes_of, counted}
+use Rattle.marc_leader.specs.Leader.{leader_text, leader_of, may_stand, misfit, length_place, base_place, codes_of, counted}
 use Rattle.marc_leader.specs.Numeral.{are_digits, number_of, numeral}
 use Rattle.marc_leader.specs.declared.leader.Leader.{Leader}
 use Rattle.marc_leader.proofs.Numerals.{number_of-numeral, are_digits-numeral, numeral-number_of}
-use Rattle.marc_leader.proofs.Places.{reads, drop-reads, stands_from, AllStand, misfit-AllStand}
+use Rattle.marc_leader.proofs.Places.{reads, drop-reads, stands_from, misfit-AllStand}
 
 -- the leader whose values stand at the places of the text
 abbrev pub leader_at : List ℕ → Leader

@@ -1,6 +1,5 @@
 -- The nine bytes of a leader that a record chooses itself.
-use Rattle.std.specs.Prelude.{ℕ, Bool, ◌&&◌, nat_le, List, [], ◌∷◌}
-use Rattle.std.specs.List.{list_all}
+use Rattle.std.specs.Prelude.{ℕ, Bool, ◌&&◌, nat_le}
 
 -- the codes of a leader, in the order of their places: bytes 05, 06, 07, 08, 09, 17, 18, 19 and 23
 pub record Codes : Type 0 where

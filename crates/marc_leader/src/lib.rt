@@ -6,3 +6,5 @@ pub mod codes;
 pub mod entry;
 pub mod leader;
 pub mod numeral;
+#[cfg(test)]
+mod tests;

@@ -1,5 +1,5 @@
-use Rattle.std.proofs.Common.{◌≡◌, ℕ, length, sym, ap, ◌∙◌, true}
-use Rattle.marc_leader.specs.Entry.{entry_text, entry_of, is_tag, size_place, start_place, tag_place}
+use Rattle.std.proofs.Common.{ap, ◌∙◌}
+use Rattle.marc_leader.specs.Entry.{entry_text, size_place, start_place}
 use Rattle.marc_leader.specs.Numeral.{are_digits, number_of}
 use Rattle.marc_leader.proofs.EntryLaws.{entry_at-is, entry_text-at}
 use Rattle.marc_leader.proofs.Numerals.{told}

@@ -1,7 +1,7 @@
-use Rattle.std.proofs.Common.{◌≡◌, ℕ, ◌^◌, ◌<◌, true, rules, arith, ap, ◌∙◌}
+use Rattle.std.proofs.Common.{◌≡◌, ◌^◌, ◌<◌, true, rules, arith, ap, ◌∙◌}
 use Rattle.marc_leader.specs.Codes.{are_printable}
 use Rattle.marc_leader.specs.Leader.{leader_text, leader_of}
-use Rattle.marc_leader.proofs.LeaderLaws.{leader_of-text, leader_text-at}
+use Rattle.marc_leader.proofs.LeaderLaws.{leader_of-text}
 use Rattle.marc_leader.proofs.leader.write_leader.Goals as goal
 
 pub returns-clause-read : goal.returns-clause-read

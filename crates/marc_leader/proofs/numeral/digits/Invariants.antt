@@ -1,4 +1,4 @@
-use Rattle.std.proofs.Common.{◌≡◌, ◌^◌, ◌<◌, ◌≤◌, length, drop}
+use Rattle.std.proofs.Common.{◌≡◌, ◌^◌, ◌<◌, drop}
 use Rattle.marc_leader.specs.Numeral.{are_digits, number_after, number_of}
 use Rattle.marc_leader.proofs.numeral.digits.Given as goal
 

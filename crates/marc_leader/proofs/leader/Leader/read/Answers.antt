@@ -1,6 +1,5 @@
-use Rattle.std.proofs.Common.{◌≡◌, ℕ, ◌+◌, ◌<◌, length, get_or, sym, ap, ◌∙◌, true, None, Ok, lit<}
-use Rattle.std.proofs.lemmas.Bool.{and_from}
-use Rattle.marc_leader.specs.Leader.{leader_text, leader_of, misfit, length_place, base_place}
+use Rattle.std.proofs.Common.{◌≡◌, sym, ap, ◌∙◌, None, Ok}
+use Rattle.marc_leader.specs.Leader.{leader_text, misfit, length_place, base_place}
 use Rattle.marc_leader.specs.Numeral.{are_digits, number_of}
 use Rattle.marc_leader.proofs.LeaderLaws.{leader_at-is, leader_of-kept, leader_text-at, printable-at}
 use Rattle.marc_leader.proofs.Numerals.{told}
