@@ -5,6 +5,7 @@ pub const RECORD_TERMINATOR: u8 = 0x1D;
 
 /// The bytes that may stand in front of a record and are skipped there. This project's own.
 pub const CARRIAGE_RETURN: u8 = 0x0D;
+
 pub const LINE_FEED: u8 = 0x0A;
 
 /// How many bytes the largest frame has, as a leader gives its length in five digits (ISO 2709, 'Record length').

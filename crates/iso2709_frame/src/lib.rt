@@ -6,3 +6,5 @@
 pub mod cut;
 pub mod cutter;
 pub mod stream;
+#[cfg(test)]
+mod tests;
