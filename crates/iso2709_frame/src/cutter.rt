@@ -89,8 +89,12 @@ fn gather(held: &mut Vec<u8>, overfull: bool, part: &[u8]) -> bool
     ensures overfull { result ≡ (overfull || nat_lt LARGEST_FRAME (length (skip_breaks (held.old.items ++ part.now)))) }
     ensures held { held.new.items ≡ (if result then [] else skip_breaks (held.old.items ++ part.now)) }
 {
+    if overfull {
+        held.clear();
+        return true;
+    }
     let part = kept_part(held.as_slice(), part);
-    if overfull || LARGEST_FRAME - held.len() < part.len() {
+    if LARGEST_FRAME - held.len() < part.len() {
         held.clear();
         return true;
     }
