@@ -3,8 +3,9 @@
 #
 # usage: bench/frames.sh PROGRAM [FILE]
 #
-# PROGRAM is what `rt run` builds in crates/bench_frames: crates/bench_frames/out/bench_frames. FILE is a file of MARC 21 records (ISO 2709); without one, made-up
-# frames are used. The file is repeated until it has 300 MB at least, in a folder that is removed afterwards. Each of
+# PROGRAM is what `rt run` builds in crates/bench_frames, crates/bench_frames/out/bench_frames. FILE is a file of MARC 21
+# records (ISO 2709); without one, made-up frames are used. The file is repeated until it has 300 MB at least, in a folder
+# that is removed afterwards. Each of
 # - 'scan', a count of the record terminators by the C library's memchr (a small C program; left out where there is no cc),
 # - 'tr', the same count by tr and wc,
 # - 'cut', the program,
@@ -12,7 +13,7 @@
 # ratio to the first. Compare ratios of one run only: the times mean nothing on another machine or under another load.
 set -eu
 
-[ $# -ge 1 ] && [ $# -le 2 ] || { sed -n '2,5p' "$0" >&2; exit 2; }
+[ $# -ge 1 ] && [ $# -le 2 ] || { sed -n '2,4p' "$0" >&2; exit 2; }
 program=$1
 [ -x "$program" ] || { echo "not a program: $program" >&2; exit 2; }
 
