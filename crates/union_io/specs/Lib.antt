@@ -1,0 +1,6 @@
+-- What the contracts of sources, sinks and shelves cite.
+pub mod Causes
+pub mod Reading
+pub mod Writing
+pub mod Files
+pub mod Opened
