@@ -4,3 +4,7 @@ pub mod Reading
 pub mod Writing
 pub mod Files
 pub mod Opened
+pub mod Pieces
+pub mod Script
+pub mod MemSource
+pub mod MemSink

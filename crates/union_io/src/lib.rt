@@ -11,7 +11,11 @@
 
 pub mod failed;
 pub mod gate;
+pub mod mem_sink;
+pub mod mem_source;
 mod opened_names;
+mod pieces;
+mod script;
 pub mod shelf;
 pub mod sink;
 pub mod source;

@@ -1,6 +1,6 @@
 -- A failed write leaves a front of the text written, and a write that took something leaves its rest to come.
 use Rattle.std.proofs.Common.{rules, ◌∙◌}
-use Rattle.union_io.proofs.Pieces.{front_written, written_more}
+use Rattle.union_io.proofs.Writes.{front_written, written_more}
 use Rattle.union_io.proofs.sink.put_all.Goals as goal
 
 pub returns-in_err-taken-clause-front : goal.returns-in_err-taken-clause-front

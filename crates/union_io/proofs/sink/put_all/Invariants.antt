@@ -1,5 +1,5 @@
 use Rattle.std.proofs.Common.{◌≡◌, length}
-use Rattle.union_io.proofs.Pieces.{IsWrittenUpTo}
+use Rattle.union_io.proofs.Writes.{IsWrittenUpTo}
 use Rattle.union_io.proofs.sink.put_all.Given as goal
 
 abbrev pub invariant-loop-rest : goal.invariant-loop-rest
