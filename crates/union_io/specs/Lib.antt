@@ -8,3 +8,7 @@ pub mod Pieces
 pub mod Script
 pub mod MemSource
 pub mod MemSink
+pub mod Store
+pub mod MemShelf
+pub mod SureSource
+pub mod SureShelf

@@ -11,6 +11,7 @@
 
 pub mod failed;
 pub mod gate;
+pub mod mem_shelf;
 pub mod mem_sink;
 pub mod mem_source;
 mod opened_names;

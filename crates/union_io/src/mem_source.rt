@@ -18,20 +18,19 @@ use union_base::bytes::Bytes;
 /// A source that tells its bytes. Contracts see its name, what it has left, its script and its count of faults.
 #[derive(Drop)]
 pub struct MemSource {
-    name: Option<Bytes>,
+    name: Bytes,
     pieces: PieceReader,
     script: FailScript,
     faults: u64,
 }
 
 impl Model for MemSource {
-    ghost use Rattle.std.specs.Prelude.{[], unwrap_or, ◌<◌};
     ghost use Rattle.union_io.specs.MemSource.{SourceState};
 
     ghost Value = { SourceState };
 
     ghost view = { λ source. record {
-        name = unwrap_or source.name [];
+        name = source.name;
         left = source.pieces.left;
         most = source.pieces.most;
         script = source.script;
@@ -46,12 +45,8 @@ impl MemSource {
         requires { 0 < most }
         ensures { result ≡ new_source [] content fails.items most }
     {
-        MemSource {
-            name: None,
-            pieces: PieceReader::of(content, most),
-            script: FailScript::of(fails),
-            faults: 0,
-        }
+        let unnamed = Bytes::from(Vec::new(*fails.allocator()));
+        MemSource::named(unnamed, content, fails, most)
     }
 
     /// The same with a name.
@@ -60,11 +55,25 @@ impl MemSource {
         ensures { result ≡ new_source name content fails.items most }
     {
         MemSource {
-            name: Some(name),
+            name,
             pieces: PieceReader::of(content, most),
             script: FailScript::of(fails),
             faults: 0,
         }
+    }
+
+    /// The name under which it was opened.
+    pub(crate) fn name(&self) -> &Bytes
+        ensures { result.now ≡ self.now.name }
+    {
+        &self.name
+    }
+
+    /// How often a read failed.
+    pub(crate) fn faults(&self) -> u64
+        ensures { result ≡ self.now.faults }
+    {
+        self.faults
     }
 }
 

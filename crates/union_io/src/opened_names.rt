@@ -1,6 +1,6 @@
 //! The names that were opened at a shelf, each with its count of faults. A look-up takes time by the logarithm of their
 //! number.
-ghost use Rattle.std.specs.Prelude.{◌≡◌, Contains, OnOk, OnErr, [], List, ℕ};
+ghost use Rattle.std.specs.Prelude.{◌≡◌, ◌<◌, ◌≤◌, Contains, OnOk, OnErr, [], List, ℕ};
 ghost use Rattle.union_io.specs.Causes.{next_count};
 ghost use Rattle.union_io.specs.Files.{AddsName, SameCounts, SameElsewhere};
 ghost use Rattle.union_io.specs.Opened.{names_in, count_in};
@@ -52,10 +52,25 @@ impl OpenedNames {
         requires { Contains (names_in self.old) name.now }
         ensures names { names_in self.new ≡ names_in self.old }
         ensures raised { count_in self.new name.now ≡ next_count (count_in self.old name.now) }
+        ensures later { count_in self.old name.now ≤ count_in self.new name.now }
         ensures others { SameElsewhere (count_in self.old) (count_in self.new) name.now }
     {
         if let Some(count) = self.counts.get_mut(name) {
             *count = count.saturating_add(1);
+        }
+    }
+
+    /// Takes back what was opened under the name, and counts one fault more of it if it had any. Takes no memory.
+    pub fn take_back(&mut self, name: &Bytes, faults: u64)
+        requires { Contains (names_in self.old) name.now }
+        ensures names { names_in self.new ≡ names_in self.old }
+        ensures raised { 0 < faults → count_in self.new name.now ≡ next_count (count_in self.old name.now) }
+        ensures calm { faults ≡ 0 → self.new ≡ self.old }
+        ensures later { count_in self.old name.now ≤ count_in self.new name.now }
+        ensures others { SameElsewhere (count_in self.old) (count_in self.new) name.now }
+    {
+        if faults > 0 {
+            self.count_fault(name);
         }
     }
 }

@@ -27,6 +27,13 @@ impl FailScript {
         FailScript { fails, calls: 0 }
     }
 
+    /// Sets which calls are to fail. The calls that came so far stay counted.
+    pub fn set_fails(&mut self, fails: Vec<u64>)
+        ensures { self.new ≡ record self.old { fails = fails.items } }
+    {
+        self.fails = fails;
+    }
+
     /// Whether the call that comes now is to fail.
     pub fn next_fails(&mut self) -> bool
         ensures answer { result ≡ fails_next self.old }
