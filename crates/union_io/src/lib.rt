@@ -10,6 +10,7 @@
 #![tactic(auto)]
 
 pub mod failed;
+pub mod file_shelf;
 pub mod gate;
 pub mod mem_shelf;
 pub mod mem_sink;
@@ -20,3 +21,7 @@ mod script;
 pub mod shelf;
 pub mod sink;
 pub mod source;
+pub mod sure_shelf;
+pub mod sure_sink;
+pub mod sure_source;
+pub mod writer_sink;
