@@ -69,9 +69,9 @@ found_from_contains (e ∷ es) name there =
     as (λ t. (name ≡ e.0 → t ≡ true) → is_some (cond t (Some e.1) (lookup (is_at (text_cmp name)) es)) ≡ true) [
       | true ↦ λ same. refl
       | false ↦ λ same. elim (contains_cases e.0 (names_in es) name there) [
-          | inl here ↦ let false_is_true : false ≡ true = same here in cc
-          | inr later ↦ found_from_contains es name later
-        ]
+        | inl here ↦ let false_is_true : false ≡ true = same here in cc
+        | inr later ↦ found_from_contains es name later
+      ]
     ] (passes_itself name e.0)
 
 insert_added : (counts : List (List ℕ × ℕ)) (name : List ℕ) (count : ℕ) → Contains (names_in (insert_entry text_cmp counts name count)) name
@@ -93,9 +93,9 @@ insert_kept (e ∷ es) name count other there =
       | Less ↦ contains_later name (e.0 ∷ names_in es) other there
       | Equal ↦ there
       | Greater ↦ elim (contains_cases e.0 (names_in es) other there) [
-          | inl here ↦ subst (Contains (e.0 ∷ names_in (insert_entry text_cmp es name count))) (sym here) (contains_first e.0 (names_in (insert_entry text_cmp es name count)))
-          | inr later ↦ contains_later e.0 (names_in (insert_entry text_cmp es name count)) other (insert_kept es name count other later)
-        ]
+        | inl here ↦ subst (Contains (e.0 ∷ names_in (insert_entry text_cmp es name count))) (sym here) (contains_first e.0 (names_in (insert_entry text_cmp es name count)))
+        | inr later ↦ contains_later e.0 (names_in (insert_entry text_cmp es name count)) other (insert_kept es name count other later)
+      ]
     ]
 
 insert_only : (counts : List (List ℕ × ℕ)) (name : List ℕ) (count : ℕ) (other : List ℕ)
@@ -104,16 +104,16 @@ insert_only [] name count other = λ there. inr (sym (contains_one name other th
 insert_only (e ∷ es) name count other =
     elim (text_cmp name e.0)
     as (λ o. Contains (names_in (match_ordering o ((name, count) ∷ e ∷ es) ((e.0, count) ∷ es) (e ∷ insert_entry text_cmp es name count))) other
-        → Contains (e.0 ∷ names_in es) other ⊎ (other ≡ name)) [
+    → Contains (e.0 ∷ names_in es) other ⊎ (other ≡ name)) [
       | Less ↦ λ there. elim (contains_cases name (e.0 ∷ names_in es) other there) [ inl here ↦ inr here | inr later ↦ inl later ]
       | Equal ↦ λ there. inl there
       | Greater ↦ λ there. elim (contains_cases e.0 (names_in (insert_entry text_cmp es name count)) other there) [
-          | inl here ↦ inl (subst (Contains (e.0 ∷ names_in es)) (sym here) (contains_first e.0 (names_in es)))
-          | inr later ↦ elim (insert_only es name count other later) [
-              | inl old ↦ inl (contains_later e.0 (names_in es) other old)
-              | inr new ↦ inr new
-            ]
+        | inl here ↦ inl (subst (Contains (e.0 ∷ names_in es)) (sym here) (contains_first e.0 (names_in es)))
+        | inr later ↦ elim (insert_only es name count other later) [
+          | inl old ↦ inl (contains_later e.0 (names_in es) other old)
+          | inr new ↦ inr new
         ]
+      ]
     ]
 
 -- an entry that is put in adds its name, and no other
@@ -121,7 +121,7 @@ pub AddsName-insert : (counts : List (List ℕ × ℕ)) (name : List ℕ) (count
 AddsName-insert counts name count = record {
   added = insert_added counts name count;
   kept = insert_kept counts name count;
-  only = insert_only counts name count
+  only = insert_only counts name count;
 }
 
 -- a name that is there already adds nothing
@@ -129,7 +129,7 @@ pub AddsName-found : (counts : List (List ℕ × ℕ)) (name : List ℕ) → is_
 AddsName-found counts name found = record {
   added = contains_from_found counts name found;
   kept = λ other there. there;
-  only = λ other there. inl there
+  only = λ other there. inl there;
 }
 
 is_missed : (found : Option ℕ) → is_some found ≡ false → found ≡ None

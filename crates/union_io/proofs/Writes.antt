@@ -24,7 +24,7 @@ pub written_more : (old mid new : Option (List ℕ)) (text rest : List ℕ) (tak
 written_more old mid new text rest taken so_far piece = record {
   front = so_far.front ++ take taken rest;
   split = so_far.split ∙ ap (λ l. so_far.front ++ l) (sym (take-append-drop taken rest)) ∙ sym (append_assoc so_far.front (take taken rest) (drop taken rest));
-  grown = Appends-trans old mid new so_far.front (take taken rest) so_far.grown piece
+  grown = Appends-trans old mid new so_far.front (take taken rest) so_far.grown piece;
 }
 
 -- a failure that wrote nothing leaves a front of the text written

@@ -12,3 +12,4 @@ pub mod Store
 pub mod MemShelf
 pub mod SureSource
 pub mod SureShelf
+pub mod ReaderSource

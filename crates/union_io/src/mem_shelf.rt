@@ -83,7 +83,13 @@ impl MemShelf {
 
     /// Stores a file, in place of one of that name. Its opened source gives at most `most` bytes per read, and the reads
     /// with the numbers `fails` fail, counted from 1.
-    pub fn put(&mut self, name: Bytes, content: Bytes, fails: Vec<u64>, most: usize) -> Result<(), Memory>
+    pub fn put(
+        &mut self,
+        name: Bytes,
+        content: Bytes,
+        fails: Vec<u64>,
+        most: usize,
+    ) -> Result<(), Memory>
         requires { 0 < most }
         ensures file { OnOk result (at_name self.new.files name
             ≡ Some (record { content = content; fails = fails.items; most = most })) }
@@ -116,7 +122,7 @@ impl MemShelf {
         ensures { IfOk result (λ found. MatchOption found
             (at_name self.now.files name.now ≡ None)
             (λ source. IsSomeAnd (at_name self.now.files name.now)
-                (λ file. source ≡ new_source name.now file.content file.fails file.most))) }
+            (λ file. source ≡ new_source name.now file.content file.fails file.most))) }
     {
         match self.files.get(name) {
             Some(file) => Ok(Some(file.opened(alloc, name)?)),
@@ -135,7 +141,7 @@ impl MemShelf {
         ensures found { IfOk result (λ found. MatchOption found
             (IsTrue (open_fails self.old path.now))
             (λ source. (open_fails self.old path.now ≡ false) × IsSomeAnd (at_name self.old.files path.now)
-                (λ file. source ≡ new_source path.now file.content file.fails file.most))) }
+            (λ file. source ≡ new_source path.now file.content file.fails file.most))) }
     {
         let source = self.source_of(alloc, path)?;
         self.names.add(path.copied(alloc)?)?;
@@ -178,7 +184,7 @@ impl Shelf for MemShelf {
         ensures fails { IsErrOf result OpenFail.Failed → IsTrue (open_fails self.old path.now) }
         ensures ok { IfOk result (λ source. (open_fails self.old path.now ≡ false)
             × IsSomeAnd (at_name self.old.files path.now)
-                (λ file. source ≡ new_source path.now file.content file.fails file.most)) }
+            (λ file. source ≡ new_source path.now file.content file.fails file.most)) }
         ensures counted { result ≢ Err OpenFail.Memory → self.new.script ≡ after_call self.old.script }
         ensures uncounted { IsErrOf result OpenFail.Memory → self.new.script ≡ self.old.script }
     {

@@ -38,11 +38,7 @@ impl SureFile {
         ensures { IfOk result (λ source. source
             ≡ record { name = name.now; left = self.now.content; most = self.now.most }) }
     {
-        Ok(SureSource::named(
-            name.copied(alloc)?,
-            self.content.copied(alloc)?,
-            self.most,
-        ))
+        Ok(SureSource::named(name.copied(alloc)?, self.content.copied(alloc)?, self.most))
     }
 }
 
@@ -94,11 +90,7 @@ impl SureShelf {
     {
         match self.files.get(name) {
             Some(file) => file.opened(alloc, name),
-            None => Ok(SureSource::named(
-                name.copied(alloc)?,
-                Bytes::from(Vec::new(alloc)),
-                1,
-            )),
+            None => Ok(SureSource::named(name.copied(alloc)?, Bytes::from(Vec::new(alloc)), 1)),
         }
     }
 }
