@@ -1,7 +1,9 @@
 //! A shelf in memory, whose opens and reads fail where its scripts say so.
-ghost use Rattle.std.specs.Prelude.{◌≡◌, ◌≢◌, ◌<◌, ◌≤◌, ◌↔◌, ℕ, List, [], Some, None, false, Contains, IsTrue, IsErrOf, IfOk, OnOk, OnErr, IsSomeAnd, MatchOption};
-ghost use Rattle.union_io.specs.Causes.{Rose};
-ghost use Rattle.union_io.specs.Files.{told_of, SameCounts, SameElsewhere, AddsName};
+ghost use Rattle.std.specs.Prelude.{◌≡◌, ◌≢◌, ◌<◌, ◌≤◌, ◌↔◌, ℕ, List, [], Some, None, false, IsTrue, IsErrOf, IfOk, OnOk, OnErr, IsSomeAnd, MatchOption};
+ghost use Rattle.union_io.specs.Counts.{SameCounts, SameElsewhere};
+ghost use Rattle.union_io.specs.Files.{told_of};
+ghost use Rattle.union_io.specs.Names.{AddsName};
+ghost use Rattle.union_io.specs.Opening.{CountsOpen, ListsOpen};
 ghost use Rattle.union_io.specs.Opened.{names_in, count_in};
 ghost use Rattle.union_io.specs.Script.{after_call, new_script};
 ghost use Rattle.union_io.specs.Store.{at_name};
@@ -171,14 +173,10 @@ impl Shelf for MemShelf {
         ensures fresh { IfOk result (λ source. source.faults ≡ 0) }
 
         ensures later { count_in self.old.names path.now ≤ count_in self.new.names path.now }
-        ensures failed { IsErrOf result OpenFail.Failed
-            → Rose (count_in self.old.names path.now) (count_in self.new.names path.now) }
-        ensures calm { result ≢ Err OpenFail.Failed → SameCounts (count_in self.old.names) (count_in self.new.names) }
+        ensures counts { CountsOpen result (count_in self.old.names) (count_in self.new.names) path.now }
         ensures others { SameElsewhere (count_in self.old.names) (count_in self.new.names) path.now }
 
-        ensures opened { result ≢ Err OpenFail.Memory
-            → AddsName (names_in self.old.names) (names_in self.new.names) path.now }
-        ensures memory { IsErrOf result OpenFail.Memory → names_in self.new.names ≡ names_in self.old.names }
+        ensures names { ListsOpen result (names_in self.old.names) (names_in self.new.names) path.now }
 
         // exactly these opens fail, and each other gives the file from its beginning
         ensures fails { IsErrOf result OpenFail.Failed → IsTrue (open_fails self.old path.now) }
