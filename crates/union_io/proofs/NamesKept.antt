@@ -66,7 +66,7 @@ pub AddsName-found : (counts : List (List ℕ × ℕ)) (name : List ℕ)
 AddsName-found counts name found = record {
   added = is_among-names_in counts name ∙ found;
   kept = λ other there. there;
-  only = λ other there. inl there
+  only = λ other there. inl there;
 }
 
 -- what a look-up finds after one name was set
@@ -86,16 +86,16 @@ set_only false found is = inl is
 pub AddsName-set : (old new : List (List ℕ × ℕ)) (name : List ℕ) → SetsName old new name → AddsName (names_in old) (names_in new) name
 AddsName-set old new name sets = record {
   added =
-    is_among-names_in new name ∙ ap is_some (sets name) ∙
-    ap (λ passes. is_some (cond passes (Some 0) (lookup (is_at (text_cmp name)) old))) (passes_itself name name refl);
+      is_among-names_in new name ∙ ap is_some (sets name) ∙
+      ap (λ passes. is_some (cond passes (Some 0) (lookup (is_at (text_cmp name)) old))) (passes_itself name name refl);
   kept = λ other there.
-    is_among-names_in new other ∙ ap is_some (sets other) ∙
-    set_kept (is_at (text_cmp name) other) (lookup (is_at (text_cmp other)) old) (sym (is_among-names_in old other) ∙ there);
+      is_among-names_in new other ∙ ap is_some (sets other) ∙
+      set_kept (is_at (text_cmp name) other) (lookup (is_at (text_cmp other)) old) (sym (is_among-names_in old other) ∙ there);
   only = λ other there.
-    elim (set_only (is_at (text_cmp name) other) (lookup (is_at (text_cmp other)) old) (sym (ap is_some (sets other)) ∙ sym (is_among-names_in new other) ∙ there)) [
-      | inl was ↦ inl (is_among-names_in old other ∙ was)
-      | inr passed ↦ inr (sym (passed_text name other passed))
-    ]
+      elim (set_only (is_at (text_cmp name) other) (lookup (is_at (text_cmp other)) old) (sym (ap is_some (sets other)) ∙ sym (is_among-names_in new other) ∙ there)) [
+        | inl was ↦ inl (is_among-names_in old other ∙ was)
+        | inr passed ↦ inr (sym (passed_text name other passed))
+      ];
 }
 
 is_missed : (found : Option ℕ) → is_some found ≡ false → found ≡ None

@@ -1,5 +1,5 @@
 //! What no clause says: the objects in memory on their scripts, and the adapters on real files, streams and pipes.
-ghost use Rattle.std.specs.Prelude.{◌<◌, length};
+ghost use Rattle.std.specs.Prelude.{◌≡◌, ◌<◌, length};
 
 use crate::failed::Failed;
 use crate::file_shelf::FileShelf;
@@ -21,24 +21,36 @@ use std::io::{ErrorKind, Read, Write};
 use std::test::Fail;
 use std::{fs, io};
 use union_base::bytes::Bytes;
+use union_base::memory::Memory;
 
-/// What so many reads answer: the bytes of each, `.` for the end and `!` for a failure, with a bar behind.
+/// Appends what one read answers: its bytes, `.` for the end or `!` for a failure, with a bar behind.
+fn read_once<S: Source>(source: &mut S, into: &mut [u8], text: &mut Vec<u8>) -> Result<(), Memory>
+    requires { 0 < length into.old }
+    ensures { S.name source.new ≡ S.name source.old }
+{
+    let answer: &[u8] = match source.read(into) {
+        Ok(0) => b".",
+        Ok(count) => into.split_at(count).0,
+        Err(Failed) => b"!",
+    };
+    text.extend_from_slice(answer)?;
+    text.push(b'|')?;
+    Ok(())
+}
+
+/// What so many reads answer.
 fn reads<S: Source>(
     alloc: Global,
     source: &mut S,
     into: &mut [u8],
     calls: u32,
-) -> Result<Vec<u8>, Fail>
+) -> Result<Vec<u8>, Memory>
     requires { 0 < length into.old }
+    ensures { S.name source.new ≡ S.name source.old }
 {
     let mut text = Vec::new(alloc);
     for _ in 0..calls {
-        match source.read(into) {
-            Ok(0) => text.extend_from_slice(b".")?,
-            Ok(count) => text.extend_from_slice(into.split_at(count).0)?,
-            Err(Failed) => text.extend_from_slice(b"!")?,
-        }
-        text.push(b'|')?;
+        read_once(source, into, &mut text)?;
     }
     Ok(text)
 }
@@ -50,7 +62,7 @@ fn opens<F: Shelf>(alloc: Global, shelf: &mut F, path: &[u8], calls: u32) -> Res
         Ok(mut source) => {
             let text = reads(alloc, &mut source, &mut [0; 4], calls);
             shelf.give_back(source);
-            text
+            Ok(text?)
         }
         Err(OpenFail::Failed) => Ok(b"!".to_vec(alloc)?),
         Err(OpenFail::Memory) => Err(Fail::from(OpenFail::Memory)),
