@@ -1,5 +1,5 @@
 -- The name was opened, so it is found; its count is raised, and no other name's.
-use Rattle.std.proofs.Common.{◌≡◌, Some, ap, ◌∙◌, subst, unwrap_or, refl, sym}
+use Rattle.std.proofs.Common.{Some, ap, ◌∙◌, subst, unwrap_or, refl, sym}
 use Rattle.std.specs.Option.{is_some, IsSome}
 use Rattle.union_io.proofs.opened_names.OpenedNames.count_fault.Goals.{in-Some, in_default}
 use Rattle.union_io.proofs.opened_names.OpenedNames.count_fault.Goals as goal
