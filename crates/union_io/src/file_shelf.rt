@@ -11,6 +11,7 @@ use std::fs::File;
 use std::rt::Files;
 use std::str;
 use union_base::bytes::Bytes;
+use union_base::copied::Copied;
 
 /// The files of a runtime, by their paths in UTF-8. It tells no content.
 #[derive(Drop)]
