@@ -1,0 +1,3 @@
+pub mod Reach
+pub mod Resolution
+pub mod Withdrawal
