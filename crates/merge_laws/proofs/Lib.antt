@@ -1,3 +1,6 @@
+pub mod Inserting
 pub mod Places
 pub mod Resolutions
+pub mod Resolving
+mod Spending
 pub mod Withdrawing

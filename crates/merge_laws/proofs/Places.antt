@@ -1,5 +1,5 @@
 -- Lists seen by their places: which places a relation can hold between, and what an order of the members leaves alone.
-use Rattle.std.proofs.Common.{◌≡◌, ℕ, zero, suc, ◌+◌, ◌<◌, ◌≢◌, ◌==◌, Bool, true, false, cond, List, [], ◌∷◌, ◌++◌, length, get_or, set, refl, sym, ◌∙◌, ap, subst, inl, inr, arith}
+use Rattle.std.proofs.Common.{◌≡◌, ℕ, zero, suc, ◌+◌, ◌<◌, ◌≢◌, ◌==◌, Bool, true, false, cond, List, [], ◌∷◌, ◌++◌, length, get_or, length-append, refl, sym, ◌∙◌, ap, subst, inl, inr, arith}
 use Rattle.std.specs.Prelude.{◌⊎◌, All, Contains, AllPairs, swap, remove}
 use Rattle.std.proofs.Math.Decide.{dec_lt}
 use Rattle.std.proofs.lemmas.Bool.Decides.{nat_tests}
@@ -120,3 +120,14 @@ AllPairs-append R (x ∷ xs) ys first second across =
       | inr cy ↦ across x y (Contains-head x xs) cy
       ]))
       (AllPairs-append R xs ys (AllPairs-rest R x xs first) second (λ a b ca cb. across a b (Contains-tail x xs a ca) cb))
+
+-- a list of no members, or of one, has no pair
+pub AllPairs-none : {A : Type 0} (R : A → A → Type 0) → AllPairs R []
+AllPairs-none R i j d ij jl = absurd (omega arith)
+
+pub AllPairs-one : {A : Type 0} (R : A → A → Type 0) (x : A) → AllPairs R (x ∷ [])
+AllPairs-one R x i j d ij jl = absurd (omega arith)
+
+-- a list with one more at its end
+pub length-from_push : {A : Type 0} (xs ys : List A) (x : A) → ys ≡ xs ++ x ∷ [] → length ys ≡ length xs + 1
+length-from_push xs ys x e = ap length e ∙ length-append xs (x ∷ [])

@@ -5,7 +5,7 @@ use Rattle.std.specs.List.Sorted.{IsPermutation}
 use Rattle.std.proofs.lemmas.List.{get_or_default}
 use Rattle.std.proofs.lemmas.List.Elements.{Contains-append_left, Contains-append_right, Contains-append_cases}
 use Rattle.std.proofs.lemmas.List.Sorted.{IsPermutation-sym, Contains-permutation}
-use Rattle.merge_laws.specs.Resolution.{JoinLaws, MatchLaws, Derives, member, merged, IsDominated, IsCovered, IsResolution, AreApart, IsDominatedOnce}
+use Rattle.merge_laws.specs.Resolution.{JoinLaws, MatchLaws, Derives, member, merged, IsDominated, IsCovered, IsResolution, DoNotMatch, AreApart, IsDominatedOnce}
 use Rattle.merge_laws.proofs.Places.{Contains-head, Contains-tail, Contains-cases, place-from_related, same-from_related, AllPairs-permutation, AllPairs-rest, AllPairs-first, IsPermutation-from_members}
 
 module _ {A : Type 0} {match : A → A → Bool} {merge : A → A → A} (join : JoinLaws merge) (laws : MatchLaws match merge) where
@@ -136,7 +136,7 @@ module _ {A : Type 0} {match : A → A → Bool} {merge : A → A → A} (join :
       IsResolution-from_apart I F
         (λ e c. r.derived e (Contains-permutation F E e back c))
         (λ x c. let (s, cs, ds) = r.covered x (member c) in (s, Contains-permutation E F s p cs, ds))
-        (AllPairs-permutation (λ (x : A) (y : A). (IsTrue (match x y) → ⊥) × (IsTrue (match y x) → ⊥)) (λ x y h. (h.1, h.0)) E F p (apart-from_resolution I E r))
+        (AllPairs-permutation (DoNotMatch match) (λ x y h. (h.1, h.0)) E F p (apart-from_resolution I E r))
 
   -- what resolves values that derive from a list, and that cover its members, resolves the list
   pub IsResolution-through : (I J E : List A) → ((y : A) → Contains J y → Derives match merge I y) → ((x : A) → Contains I x → IsCovered match merge J x) → IsResolution match merge J E → IsResolution match merge I E

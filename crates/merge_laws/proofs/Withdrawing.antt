@@ -4,7 +4,7 @@ use Rattle.std.specs.Prelude.{◌⊎◌, Contains, AllPairs}
 use Rattle.std.specs.List.Sorted.{IsPermutation}
 use Rattle.std.proofs.lemmas.List.Elements.{Contains-append_left, Contains-append_right, Contains-append_cases}
 use Rattle.std.proofs.lemmas.List.Sorted.{IsPermutation-sym, Contains-permutation}
-use Rattle.merge_laws.specs.Resolution.{JoinLaws, MatchLaws, Derives, member, merged, IsDominated, IsCovered, IsResolution, AreApart}
+use Rattle.merge_laws.specs.Resolution.{JoinLaws, MatchLaws, Derives, member, merged, IsDominated, IsCovered, IsResolution, DoNotMatch, AreApart}
 use Rattle.merge_laws.specs.Withdrawal.{IsWithdrawn}
 use Rattle.merge_laws.proofs.Places.{Contains-head, Contains-tail, Contains-cases, AllPairs-permutation, AllPairs-rest, AllPairs-first, AllPairs-append}
 use Rattle.merge_laws.proofs.Resolutions.{IsDominated-refl, IsDominated-trans, IsDominated-left, IsDominated-right, IsDominated-derived, matches-above, Derives-through, IsResolution-from_apart, apart-from_resolution}
@@ -13,10 +13,10 @@ module _ {A : Type 0} {match : A → A → Bool} {merge : A → A → A} (join :
   -- the block and the other blocks do not match one another
   apart_blocks : AreApart match (block ∷ others)
   apart_blocks =
-      AllPairs-permutation (λ (x : A) (y : A). (IsTrue (match x y) → ⊥) × (IsTrue (match y x) → ⊥)) (λ x y h. (h.1, h.0)) resolution (block ∷ others) w.in_resolution (apart-from_resolution join laws list resolution w.resolved)
+      AllPairs-permutation (DoNotMatch match) (λ x y h. (h.1, h.0)) resolution (block ∷ others) w.in_resolution (apart-from_resolution join laws list resolution w.resolved)
 
   block-from_match : (e : A) → Contains others e → IsTrue (match block e) → ⊥
-  block-from_match e c m = (AllPairs-first (λ (x : A) (y : A). (IsTrue (match x y) → ⊥) × (IsTrue (match y x) → ⊥)) block others apart_blocks e c).0 m
+  block-from_match e c m = (AllPairs-first (DoNotMatch match) block others apart_blocks e c).0 m
 
   in_list-from_rest : (x : A) → Contains rest x → Contains list x
   in_list-from_rest x c = Contains-permutation (gone ∷ rest) list x (IsPermutation-sym list (gone ∷ rest) w.in_list) (Contains-tail gone rest x c)
@@ -61,7 +61,7 @@ module _ {A : Type 0} {match : A → A → Bool} {merge : A → A → A} (join :
                (p, Contains-append_right others parts p cp, dp))
           | inr co ↦ (s, Contains-append_left others parts s co, ds)
           ])
-        (AllPairs-append (λ (x : A) (y : A). (IsTrue (match x y) → ⊥) × (IsTrue (match y x) → ⊥)) others parts
-          (AllPairs-rest (λ (x : A) (y : A). (IsTrue (match x y) → ⊥) × (IsTrue (match y x) → ⊥)) block others apart_blocks)
+        (AllPairs-append (DoNotMatch match) others parts
+          (AllPairs-rest (DoNotMatch match) block others apart_blocks)
           (apart-from_resolution join laws kept parts w.resolved_parts)
           (λ e q ce cq. (λ m. part-from_match q e cq ce (laws.symmetric e q m), λ m. part-from_match q e cq ce m)))

@@ -43,9 +43,13 @@ pub record IsResolution {A : Type 0} (match : A → A → Bool) (merge : A → A
   pub covered : (r : A) → Derives match merge list r → IsCovered match merge resolution r
   pub minimal : AllPairs (λ x y. (IsDominated match merge x y → ⊥) × (IsDominated match merge y x → ⊥)) resolution
 
+-- x and y do not match, whichever of them is asked.
+abbrev pub DoNotMatch : {A : Type 0} → (A → A → Bool) → A → A → Type 0
+DoNotMatch match x y = (IsTrue (match x y) → ⊥) × (IsTrue (match y x) → ⊥)
+
 -- No two members at different places match.
 abbrev pub AreApart : {A : Type 0} → (A → A → Bool) → List A → Type 0
-AreApart match list = AllPairs (λ x y. (IsTrue (match x y) → ⊥) × (IsTrue (match y x) → ⊥)) list
+AreApart match list = AllPairs (DoNotMatch match) list
 
 -- r is dominated by the member at one place of the list, and by none at another place.
 pub record IsDominatedOnce {A : Type 0} (match : A → A → Bool) (merge : A → A → A) (list : List A) (r : A) : Type 0 where
