@@ -60,7 +60,7 @@ module _ {A K : Type 0} {match : A → A → Bool} {merge : A → A → A} {has_
     fewer = omega arith;
     spent = λ x d. omega arith;
     matched = λ x d. omega arith;
-    nearer = λ x. omega arith
+    nearer = λ x. omega arith;
   }
 
   -- a look that finds u, which matches the value
@@ -73,20 +73,20 @@ module _ {A K : Type 0} {match : A → A → Bool} {merge : A → A → A} {has_
         above = IsDominated-trans join laws v value (merge u value) s.above up;
         fewer = let f = s.fewer in omega arith;
         spent = λ x d.
-          let e : IsDominated match merge value x = IsDominated-trans join laws value (merge u value) x up d in
-          let most : near shares done value ≤ near shares list x = le_trans (near-above done value x e) (s.nearer x) in
-          paid-more (length list) (length done) (length rest) start now then' (near shares done value) (near shares list x) shorter s.fewer (s.spent x e) paid most;
+            let e : IsDominated match merge value x = IsDominated-trans join laws value (merge u value) x up d in
+            let most : near shares done value ≤ near shares list x = le_trans (near-above done value x e) (s.nearer x) in
+            paid-more (length list) (length done) (length rest) start now then' (near shares done value) (near shares list x) shorter s.fewer (s.spent x e) paid most;
         matched = λ x d.
-          let e : IsDominated match merge value x = IsDominated-trans join laws value (merge u value) x up d in
-          let counted : count_by (λ w. match w x) rest + cond (match u x) 1 0 ≡ count_by (λ w. match w x) done = sum_by_popped (λ w. cond (match w x) 1 0) u done rest p in
-          let one : cond {A = ℕ} (match u x) 1 0 ≡ 1 = let h : match u x ≡ true = (IsDominated-trans join laws u (merge u value) x (IsDominated-left join laws u value) d).matches in rw h in
-          let before = s.matched x e in
-          let f = s.fewer in
-          omega arith;
+            let e : IsDominated match merge value x = IsDominated-trans join laws value (merge u value) x up d in
+            let counted : count_by (λ w. match w x) rest + cond (match u x) 1 0 ≡ count_by (λ w. match w x) done = sum_by_popped (λ w. cond (match w x) 1 0) u done rest p in
+            let one : cond {A = ℕ} (match u x) 1 0 ≡ 1 = let h : match u x ≡ true = (IsDominated-trans join laws u (merge u value) x (IsDominated-left join laws u value) d).matches in rw h in
+            let before = s.matched x e in
+            let f = s.fewer in
+            omega arith;
         nearer = λ x.
-          let counted : near shares rest x + cond (shares u x) 1 0 ≡ near shares done x = sum_by_popped (λ w. cond (shares w x) 1 0) u done rest p in
-          let before = s.nearer x in
-          omega arith
+            let counted : near shares rest x + cond (shares u x) 1 0 ≡ near shares done x = sum_by_popped (λ w. cond (shares w x) 1 0) u done rest p in
+            let before = s.nearer x in
+            omega arith;
       }
 
   -- after the last look, for whichever resolution is meant and whichever member of it dominates the value
@@ -96,4 +96,4 @@ module _ {A K : Type 0} {match : A → A → Bool} {merge : A → A → A} {has_
       let one : y ≡ x = same-from_dominating join laws (list ++ v ∷ []) all r v y x cy c (IsDominated-trans join laws v value y s.above dy) d in
       let up : IsDominated match merge value x = subst (IsDominated match merge value) one dy in
       paid-last (length list - length done) (count_by (λ w. match w x) done) (count_by (λ w. match w x) list) start now then' (near shares done value) (near shares list x)
-        (s.matched x up) (s.spent x up) paid (le_trans (near-above done value x up) (s.nearer x))
+      (s.matched x up) (s.spent x up) paid (le_trans (near-above done value x up) (s.nearer x))

@@ -69,10 +69,10 @@ module _ {A : Type 0} (R : A → A → Type 0) (symmetric : (x y : A) → R x y 
   AllPairs-swap xs i j il jl all a b d ab bl =
       let n = length-swap xs i j in
       rw (get_or-swap xs i j a d il jl, get_or-swap xs i j b d il jl)
-        (at_places xs all (origin i j a) (origin i j b) d
-          (origin-below (length xs) i j a il jl (omega arith))
-          (origin-below (length xs) i j b il jl (omega arith))
-          (origin-apart i j a b (λ e. omega arith)))
+      (at_places xs all (origin i j a) (origin i j b) d
+      (origin-below (length xs) i j a il jl (omega arith))
+      (origin-below (length xs) i j b il jl (omega arith))
+      (origin-apart i j a b (λ e. omega arith)))
 
   -- of pairs it does not matter in which order the members stand
   pub AllPairs-permutation : (xs ys : List A) → IsPermutation xs ys → AllPairs R xs → AllPairs R ys
@@ -96,30 +96,30 @@ IsPermutation-from_members {A} (x ∷ xs) ys once once' there back =
     let moved : IsPermutation ys (x ∷ rest) = IsPermutation-remove ys j x jl (sym e) in
     let once'' : AllPairs (λ x y. x ≢ y) (x ∷ rest) = AllPairs-permutation (λ (x : A) (y : A). x ≢ y) (λ x y ne e. ne (sym e)) ys (x ∷ rest) moved once' in
     let to : (y : A) → Contains xs y → Contains rest y = λ y c.
-      elim (Contains-cases x rest y (Contains-permutation ys (x ∷ rest) y moved (there y (Contains-tail x xs y c)))) [
-        inl same ↦ absurd (AllPairs-first (λ (x : A) (y : A). x ≢ y) x xs once y c same)
+    elim (Contains-cases x rest y (Contains-permutation ys (x ∷ rest) y moved (there y (Contains-tail x xs y c)))) [
+      | inl same ↦ absurd (AllPairs-first (λ (x : A) (y : A). x ≢ y) x xs once y c same)
       | inr c' ↦ c'
-      ] in
+    ] in
     let from : (y : A) → Contains rest y → Contains xs y = λ y c.
-      elim (Contains-cases x xs y (back y (Contains-permutation (x ∷ rest) ys y (IsPermutation-sym ys (x ∷ rest) moved) (Contains-tail x rest y c)))) [
-        inl same ↦ absurd (AllPairs-first (λ (x : A) (y : A). x ≢ y) x rest once'' y c same)
+    elim (Contains-cases x xs y (back y (Contains-permutation (x ∷ rest) ys y (IsPermutation-sym ys (x ∷ rest) moved) (Contains-tail x rest y c)))) [
+      | inl same ↦ absurd (AllPairs-first (λ (x : A) (y : A). x ≢ y) x rest once'' y c same)
       | inr c' ↦ c'
-      ] in
+    ] in
     IsPermutation-trans (x ∷ xs) (x ∷ rest) ys
-      (IsPermutation-cons x xs rest
-        (IsPermutation-from_members xs rest (AllPairs-rest (λ (x : A) (y : A). x ≢ y) x xs once) (AllPairs-rest (λ (x : A) (y : A). x ≢ y) x rest once'') to from))
-      (IsPermutation-sym ys (x ∷ rest) moved)
+    (IsPermutation-cons x xs rest
+    (IsPermutation-from_members xs rest (AllPairs-rest (λ (x : A) (y : A). x ≢ y) x xs once) (AllPairs-rest (λ (x : A) (y : A). x ≢ y) x rest once'') to from))
+    (IsPermutation-sym ys (x ∷ rest) moved)
 
 -- two lists of pairs, and the pairs across them
 pub AllPairs-append : {A : Type 0} (R : A → A → Type 0) (xs ys : List A) → AllPairs R xs → AllPairs R ys → ((x y : A) → Contains xs x → Contains ys y → R x y) → AllPairs R (xs ++ ys)
 AllPairs-append R [] ys first second across = second
 AllPairs-append R (x ∷ xs) ys first second across =
     AllPairs-cons R x (xs ++ ys)
-      (All-from_members (R x) (xs ++ ys) (λ y c. elim (Contains-append_cases xs ys y c) [
-        inl cx ↦ AllPairs-first R x xs first y cx
+    (All-from_members (R x) (xs ++ ys) (λ y c. elim (Contains-append_cases xs ys y c) [
+      | inl cx ↦ AllPairs-first R x xs first y cx
       | inr cy ↦ across x y (Contains-head x xs) cy
-      ]))
-      (AllPairs-append R xs ys (AllPairs-rest R x xs first) second (λ a b ca cb. across a b (Contains-tail x xs a ca) cb))
+    ]))
+    (AllPairs-append R xs ys (AllPairs-rest R x xs first) second (λ a b ca cb. across a b (Contains-tail x xs a ca) cb))
 
 -- a list of no members, or of one, has no pair
 pub AllPairs-none : {A : Type 0} (R : A → A → Type 0) → AllPairs R []

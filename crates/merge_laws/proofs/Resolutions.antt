@@ -19,14 +19,14 @@ module _ {A : Type 0} {match : A → A → Bool} {merge : A → A → A} (join :
   pub IsDominated-trans : (x y z : A) → IsDominated match merge x y → IsDominated match merge y z → IsDominated match merge x z
   IsDominated-trans x y z p q = record {
     matches = let m : IsTrue (match x (merge y z)) = laws.representative x y z p.matches in rw q.absorbed at m;
-    absorbed = ap (merge x) (sym q.absorbed) ∙ sym (join.associative x y z) ∙ ap (λ w. merge w z) p.absorbed ∙ q.absorbed
+    absorbed = ap (merge x) (sym q.absorbed) ∙ sym (join.associative x y z) ∙ ap (λ w. merge w z) p.absorbed ∙ q.absorbed;
   }
 
   -- a merge dominates its sides
   pub IsDominated-left : (x y : A) → IsDominated match merge x (merge x y)
   IsDominated-left x y = record {
     matches = laws.representative x x y (laws.reflexive x);
-    absorbed = sym (join.associative x x y) ∙ ap (λ w. merge w y) (join.idempotent x)
+    absorbed = sym (join.associative x x y) ∙ ap (λ w. merge w y) (join.idempotent x);
   }
 
   pub IsDominated-right : (x y : A) → IsDominated match merge y (merge x y)
@@ -36,7 +36,7 @@ module _ {A : Type 0} {match : A → A → Bool} {merge : A → A → A} (join :
   pub IsDominated-merge : (x y z : A) → IsDominated match merge x z → IsDominated match merge y z → IsDominated match merge (merge x y) z
   IsDominated-merge x y z p q = record {
     matches = laws.symmetric z (merge x y) (laws.representative z x y (laws.symmetric x z p.matches));
-    absorbed = join.associative x y z ∙ ap (merge x) q.absorbed ∙ p.absorbed
+    absorbed = join.associative x y z ∙ ap (merge x) q.absorbed ∙ p.absorbed;
   }
 
   -- what dominates the one matches what dominates the other, where the two match
@@ -72,7 +72,7 @@ module _ {A : Type 0} {match : A → A → Bool} {merge : A → A → A} (join :
   IsResolution-from_apart I E derives covers apart = record {
     derived = derives;
     covered = IsCovered-derived I E covers apart;
-    minimal = λ i j d ij jl. (λ p. (apart i j d ij jl).0 p.matches, λ p. (apart i j d ij jl).1 p.matches)
+    minimal = λ i j d ij jl. (λ p. (apart i j d ij jl).0 p.matches, λ p. (apart i j d ij jl).1 p.matches);
   }
 
   -- members of a resolution that match stand at one place
@@ -100,8 +100,12 @@ module _ {A : Type 0} {match : A → A → Bool} {merge : A → A → A} (join :
   once-from_resolution I E r x c =
       let (s, (k, kl, es), above) = r.covered x (member c) in
       record {
-        by = s; place = k; below = kl; value = es; dominates = above;
-        only = λ j y jl ey also. place-from_match I E r y s j k jl kl ey es (matches-above x x y s (laws.reflexive x) also above)
+        by = s;
+        place = k;
+        below = kl;
+        value = es;
+        dominates = above;
+        only = λ j y jl ey also. place-from_match I E r y s j k jl kl ey es (matches-above x x y s (laws.reflexive x) also above);
       }
 
   -- a member of a resolution that dominates what derives from the list is the one that does
@@ -134,34 +138,34 @@ module _ {A : Type 0} {match : A → A → Bool} {merge : A → A → A} (join :
   IsResolution-permutation I E F p r =
       let back = IsPermutation-sym E F p in
       IsResolution-from_apart I F
-        (λ e c. r.derived e (Contains-permutation F E e back c))
-        (λ x c. let (s, cs, ds) = r.covered x (member c) in (s, Contains-permutation E F s p cs, ds))
-        (AllPairs-permutation (DoNotMatch match) (λ x y h. (h.1, h.0)) E F p (apart-from_resolution I E r))
+      (λ e c. r.derived e (Contains-permutation F E e back c))
+      (λ x c. let (s, cs, ds) = r.covered x (member c) in (s, Contains-permutation E F s p cs, ds))
+      (AllPairs-permutation (DoNotMatch match) (λ x y h. (h.1, h.0)) E F p (apart-from_resolution I E r))
 
   -- what resolves values that derive from a list, and that cover its members, resolves the list
   pub IsResolution-through : (I J E : List A) → ((y : A) → Contains J y → Derives match merge I y) → ((x : A) → Contains I x → IsCovered match merge J x) → IsResolution match merge J E → IsResolution match merge I E
   IsResolution-through I J E derives covers r =
       IsResolution-from_apart I E
-        (λ e c. Derives-through J I derives e (r.derived e c))
-        (λ x c.
-          let (y, cy, dy) = covers x c in
-          let (e, ce, de) = r.covered y (member cy) in
-          (e, ce, IsDominated-trans x y e dy de))
-        (apart-from_resolution J E r)
+      (λ e c. Derives-through J I derives e (r.derived e c))
+      (λ x c.
+      let (y, cy, dy) = covers x c in
+      let (e, ce, de) = r.covered y (member cy) in
+      (e, ce, IsDominated-trans x y e dy de))
+      (apart-from_resolution J E r)
 
   -- what resolves two resolutions together resolves the two lists together
   pub IsResolution-append : (I J E F X : List A) → IsResolution match merge I E → IsResolution match merge J F → IsResolution match merge (E ++ F) X → IsResolution match merge (I ++ J) X
   IsResolution-append I J E F X p q r =
       IsResolution-through (I ++ J) (E ++ F) X
-        (λ y c. elim (Contains-append_cases E F y c) [
-          inl ce ↦ Derives-through I (I ++ J) (λ x cx. member (Contains-append_left I J x cx)) y (p.derived y ce)
+      (λ y c. elim (Contains-append_cases E F y c) [
+        | inl ce ↦ Derives-through I (I ++ J) (λ x cx. member (Contains-append_left I J x cx)) y (p.derived y ce)
         | inr cf ↦ Derives-through J (I ++ J) (λ x cx. member (Contains-append_right I J x cx)) y (q.derived y cf)
-        ])
-        (λ x c. elim (Contains-append_cases I J x c) [
-          inl ci ↦ (let (s, cs, ds) = p.covered x (member ci) in (s, Contains-append_left E F s cs, ds))
+      ])
+      (λ x c. elim (Contains-append_cases I J x c) [
+        | inl ci ↦ (let (s, cs, ds) = p.covered x (member ci) in (s, Contains-append_left E F s cs, ds))
         | inr cj ↦ (let (s, cs, ds) = q.covered x (member cj) in (s, Contains-append_right E F s cs, ds))
-        ])
-        r
+      ])
+      r
 
   -- a list of one value is its resolution
   pub IsResolution-one : (v : A) → IsResolution match merge (v ∷ []) (v ∷ [])

@@ -23,7 +23,7 @@ module _ {A : Type 0} {match : A → A → Bool} {merge : A → A → A} (join :
     left_derives = λ r c. member c;
     done_derives = λ r (k, kl, e). absurd (omega arith);
     covered = λ r c. inl (r, c, IsDominated-refl join laws r);
-    apart = AllPairs-none (DoNotMatch match)
+    apart = AllPairs-none (DoNotMatch match);
   }
 
   -- a value that matches nothing done is done
@@ -33,21 +33,21 @@ module _ {A : Type 0} {match : A → A → Bool} {merge : A → A → A} (join :
       record {
         left_derives = λ r c. s.left_derives r (Contains-append_left left (v ∷ []) r c);
         done_derives = λ r c. elim (Contains-push_cases done v r c) [
-          inl d ↦ s.done_derives r d
-        | inr same ↦ subst (Derives match merge list) same (s.left_derives v (Contains-push left v))
+          | inl d ↦ s.done_derives r d
+          | inr same ↦ subst (Derives match merge list) same (s.left_derives v (Contains-push left v))
         ];
         covered = λ r c. elim (s.covered r c) [
-          inl (x, cx, dx) ↦ elim (Contains-push_cases left v x cx) [
-            inl l ↦ inl (x, l, dx)
-          | inr same ↦ inr (v, Contains-push done v, subst (IsDominated match merge r) (sym same) dx)
+          | inl (x, cx, dx) ↦ elim (Contains-push_cases left v x cx) [
+            | inl l ↦ inl (x, l, dx)
+            | inr same ↦ inr (v, Contains-push done v, subst (IsDominated match merge r) (sym same) dx)
           ]
-        | inr (x, cx, dx) ↦ inr (x, Contains-append_left done (v ∷ []) x cx, dx)
+          | inr (x, cx, dx) ↦ inr (x, Contains-append_left done (v ∷ []) x cx, dx)
         ];
         apart = AllPairs-append (DoNotMatch match) done (v ∷ []) s.apart (AllPairs-one (DoNotMatch match) v)
-          (λ x y cx cy. elim (Contains-cases v [] y cy) as (λ _. DoNotMatch match x y) [
-            inl same ↦ subst (DoNotMatch match x) same (λ m. never x cx (laws.symmetric x v m), λ m. never x cx m)
-          | inr (k, kl, e) ↦ absurd (omega arith)
-          ])
+            (λ x y cx cy. elim (Contains-cases v [] y cy) as (λ _. DoNotMatch match x y) [
+              | inl same ↦ subst (DoNotMatch match x) same (λ m. never x cx (laws.symmetric x v m), λ m. never x cx m)
+              | inr (k, kl, e) ↦ absurd (omega arith)
+            ]);
       }
 
   -- a value and a value that is done, which match, leave their merge in their place
@@ -57,31 +57,31 @@ module _ {A : Type 0} {match : A → A → Bool} {merge : A → A → A} (join :
       let w = merge u v in
       record {
         left_derives = λ r c. elim (Contains-push_cases left w r c) [
-          inl l ↦ s.left_derives r (Contains-append_left left (v ∷ []) r l)
-        | inr same ↦ subst (Derives match merge list) same
-            (merged (s.done_derives u (Contains-permutation (u ∷ rest) done u back (Contains-head u rest))) (s.left_derives v (Contains-push left v)) (laws.symmetric v u m))
+          | inl l ↦ s.left_derives r (Contains-append_left left (v ∷ []) r l)
+          | inr same ↦ subst (Derives match merge list) same
+              (merged (s.done_derives u (Contains-permutation (u ∷ rest) done u back (Contains-head u rest))) (s.left_derives v (Contains-push left v)) (laws.symmetric v u m))
         ];
         done_derives = λ r c. s.done_derives r (Contains-permutation (u ∷ rest) done r back (Contains-tail u rest r c));
         covered = λ r c. elim (s.covered r c) [
-          inl (x, cx, dx) ↦ elim (Contains-push_cases left v x cx) [
-            inl l ↦ inl (x, Contains-append_left left (w ∷ []) x l, dx)
-          | inr same ↦ inl (w, Contains-push left w, IsDominated-trans join laws r v w (subst (IsDominated match merge r) (sym same) dx) (IsDominated-right join laws u v))
+          | inl (x, cx, dx) ↦ elim (Contains-push_cases left v x cx) [
+            | inl l ↦ inl (x, Contains-append_left left (w ∷ []) x l, dx)
+            | inr same ↦ inl (w, Contains-push left w, IsDominated-trans join laws r v w (subst (IsDominated match merge r) (sym same) dx) (IsDominated-right join laws u v))
           ]
-        | inr (x, cx, dx) ↦ elim (Contains-cases u rest x (Contains-permutation done (u ∷ rest) x p cx)) [
-            inl same ↦ inl (w, Contains-push left w, IsDominated-trans join laws r u w (subst (IsDominated match merge r) (sym same) dx) (IsDominated-left join laws u v))
-          | inr d ↦ inr (x, d, dx)
+          | inr (x, cx, dx) ↦ elim (Contains-cases u rest x (Contains-permutation done (u ∷ rest) x p cx)) [
+            | inl same ↦ inl (w, Contains-push left w, IsDominated-trans join laws r u w (subst (IsDominated match merge r) (sym same) dx) (IsDominated-left join laws u v))
+            | inr d ↦ inr (x, d, dx)
           ]
         ];
         apart = AllPairs-rest (DoNotMatch match) u rest
-          (AllPairs-permutation (DoNotMatch match) (λ x y h. (h.1, h.0)) done (u ∷ rest) p s.apart)
+            (AllPairs-permutation (DoNotMatch match) (λ x y h. (h.1, h.0)) done (u ∷ rest) p s.apart);
       }
 
   -- where nothing is left, what is done is the resolution
   pub IsResolution-from_resolving : (list done : List A) → IsResolving match merge list [] done → IsResolution match merge list done
   IsResolution-from_resolving list done s =
       IsResolution-from_apart join laws list done s.done_derives
-        (λ x c. elim (s.covered x c) [ inl (y, (k, kl, e), d) ↦ absurd (omega arith) | inr covers ↦ covers ])
-        s.apart
+      (λ x c. elim (s.covered x c) [ inl (y, (k, kl, e), d) ↦ absurd (omega arith) | inr covers ↦ covers ])
+      s.apart
 
   -- to insert a value into values that are apart, begin with these as done
   pub resolving_inserted : (list : List A) (v : A) → AreApart match list → IsResolving match merge (list ++ v ∷ []) (v ∷ []) list
@@ -89,10 +89,10 @@ module _ {A : Type 0} {match : A → A → Bool} {merge : A → A → A} (join :
     left_derives = λ r c. member (Contains-append_right list (v ∷ []) r c);
     done_derives = λ r c. member (Contains-append_left list (v ∷ []) r c);
     covered = λ r c. elim (Contains-append_cases list (v ∷ []) r c) [
-      inl d ↦ inr (r, d, IsDominated-refl join laws r)
-    | inr l ↦ inl (r, l, IsDominated-refl join laws r)
+      | inl d ↦ inr (r, d, IsDominated-refl join laws r)
+      | inr l ↦ inl (r, l, IsDominated-refl join laws r)
     ];
-    apart = apart
+    apart = apart;
   }
 
   -- to resolve two lists together, begin with the resolution of the one as done and that of the other as left
@@ -101,8 +101,8 @@ module _ {A : Type 0} {match : A → A → Bool} {merge : A → A → A} (join :
     left_derives = λ r c. Derives-through join laws J (I ++ J) (λ x cx. member (Contains-append_right I J x cx)) r (q.derived r c);
     done_derives = λ r c. Derives-through join laws I (I ++ J) (λ x cx. member (Contains-append_left I J x cx)) r (p.derived r c);
     covered = λ r c. elim (Contains-append_cases I J r c) [
-      inl ci ↦ inr (p.covered r (member ci))
-    | inr cj ↦ inl (q.covered r (member cj))
+      | inl ci ↦ inr (p.covered r (member ci))
+      | inr cj ↦ inl (q.covered r (member cj))
     ];
-    apart = apart-from_resolution join laws I E p
+    apart = apart-from_resolution join laws I E p;
   }

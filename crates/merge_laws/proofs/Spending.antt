@@ -5,16 +5,16 @@ use Rattle.std.proofs.Common.{◌≡◌, ℕ, ◌+◌, ◌*◌, ◌≤◌, arith
 
 -- the value is kept: one less is left, and one more is done
 pub spent-kept : (start k steps more left' done left done' : ℕ) → left ≡ left' + 1 → done' ≡ done + 1 → more ≤ steps + done
-  → 2 * steps + 2 * ((left + done) * (left + done)) ≤ 2 * start + 2 * (k * k) + done * done
-  → 2 * more + 2 * ((left' + done') * (left' + done')) ≤ 2 * start + 2 * (k * k) + done' * done'
+    → 2 * steps + 2 * ((left + done) * (left + done)) ≤ 2 * start + 2 * (k * k) + done * done
+    → 2 * more + 2 * ((left' + done') * (left' + done')) ≤ 2 * start + 2 * (k * k) + done' * done'
 spent-kept start k steps more left' done left done' l d paid before =
     let before' : 2 * steps + 2 * (((left' + 1) + done) * ((left' + 1) + done)) ≤ 2 * start + 2 * (k * k) + done * done = rw l at before in
     rw d (omega arith)
 
 -- the value is merged with one that is done, and the merge is left: as many are left, and one less is done
 pub spent-joined : (start k steps more left' done left done' : ℕ) → left ≡ left' + 1 → done ≡ done' + 1 → more ≤ steps + done
-  → 2 * steps + 2 * ((left + done) * (left + done)) ≤ 2 * start + 2 * (k * k) + done * done
-  → 2 * more + 2 * (((left' + 1) + done') * ((left' + 1) + done')) ≤ 2 * start + 2 * (k * k) + done' * done'
+    → 2 * steps + 2 * ((left + done) * (left + done)) ≤ 2 * start + 2 * (k * k) + done * done
+    → 2 * more + 2 * (((left' + 1) + done') * ((left' + 1) + done')) ≤ 2 * start + 2 * (k * k) + done' * done'
 spent-joined start k steps more left' done left done' l d paid before =
     let before' : 2 * steps + 2 * (((left' + 1) + (done' + 1)) * ((left' + 1) + (done' + 1))) ≤ 2 * start + 2 * (k * k) + (done' + 1) * (done' + 1) = rw (l, d) at before in
     let paid' : more ≤ steps + (done' + 1) = rw d at paid in

@@ -25,14 +25,14 @@ module _ {A : Type 0} {match : A → A → Bool} {merge : A → A → A} (join :
   Derives-rest : (e : A) → Contains others e → (r : A) → Derives match merge list r → IsDominated match merge r e → Derives match merge rest r
   Derives-rest e c r (member cr) below =
       elim (Contains-cases gone rest r (Contains-permutation list (gone ∷ rest) r w.in_list cr)) [
-        inl same ↦ absurd (block-from_match e c (matches-above join laws r r block e (laws.reflexive r) (subst (λ x. IsDominated match merge x block) same w.dominated) below))
-      | inr there ↦ member there
+        | inl same ↦ absurd (block-from_match e c (matches-above join laws r r block e (laws.reflexive r) (subst (λ x. IsDominated match merge x block) same w.dominated) below))
+        | inr there ↦ member there
       ]
   Derives-rest e c _ (merged {a = a} {b = b} p q m) below =
       merged
-        (Derives-rest e c a p (IsDominated-trans join laws a (merge a b) e (IsDominated-left join laws a b) below))
-        (Derives-rest e c b q (IsDominated-trans join laws b (merge a b) e (IsDominated-right join laws a b) below))
-        m
+      (Derives-rest e c a p (IsDominated-trans join laws a (merge a b) e (IsDominated-left join laws a b) below))
+      (Derives-rest e c b q (IsDominated-trans join laws b (merge a b) e (IsDominated-right join laws a b) below))
+      m
 
   -- the block dominates each of the parts
   part-below : (q : A) → Contains parts q → IsDominated match merge q block
@@ -46,22 +46,22 @@ module _ {A : Type 0} {match : A → A → Bool} {merge : A → A → A} (join :
   pub IsResolution-withdrawn : IsResolution match merge rest (others ++ parts)
   IsResolution-withdrawn =
       IsResolution-from_apart join laws rest (others ++ parts)
-        (λ e c. elim (Contains-append_cases others parts e c) [
-          inl co ↦ Derives-rest e co e
+      (λ e c. elim (Contains-append_cases others parts e c) [
+        | inl co ↦ Derives-rest e co e
             (w.resolved.derived e (Contains-permutation (block ∷ others) resolution e (IsPermutation-sym resolution (block ∷ others) w.in_resolution) (Contains-tail block others e co)))
             (IsDominated-refl join laws e)
         | inr cp ↦ Derives-through join laws kept rest (λ x k. member ((w.keeps x).0 k).0) e (w.resolved_parts.derived e cp)
-        ])
-        (λ x c.
-          let (s, cs, ds) = w.resolved.covered x (member (in_list-from_rest x c)) in
-          elim (Contains-cases block others s (Contains-permutation resolution (block ∷ others) s w.in_resolution cs)) [
-            inl same ↦
-              (let k : Contains kept x = (w.keeps x).1 (c, subst (IsDominated match merge x) (sym same) ds) in
-               let (p, cp, dp) = w.resolved_parts.covered x (member k) in
-               (p, Contains-append_right others parts p cp, dp))
-          | inr co ↦ (s, Contains-append_left others parts s co, ds)
-          ])
-        (AllPairs-append (DoNotMatch match) others parts
-          (AllPairs-rest (DoNotMatch match) block others apart_blocks)
-          (apart-from_resolution join laws kept parts w.resolved_parts)
-          (λ e q ce cq. (λ m. part-from_match q e cq ce (laws.symmetric e q m), λ m. part-from_match q e cq ce m)))
+      ])
+      (λ x c.
+      let (s, cs, ds) = w.resolved.covered x (member (in_list-from_rest x c)) in
+      elim (Contains-cases block others s (Contains-permutation resolution (block ∷ others) s w.in_resolution cs)) [
+        | inl same ↦
+            (let k : Contains kept x = (w.keeps x).1 (c, subst (IsDominated match merge x) (sym same) ds) in
+            let (p, cp, dp) = w.resolved_parts.covered x (member k) in
+            (p, Contains-append_right others parts p cp, dp))
+        | inr co ↦ (s, Contains-append_left others parts s co, ds)
+      ])
+      (AllPairs-append (DoNotMatch match) others parts
+      (AllPairs-rest (DoNotMatch match) block others apart_blocks)
+      (apart-from_resolution join laws kept parts w.resolved_parts)
+      (λ e q ce cq. (λ m. part-from_match q e cq ce (laws.symmetric e q m), λ m. part-from_match q e cq ce m)))

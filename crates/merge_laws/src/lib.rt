@@ -12,5 +12,9 @@
 pub mod join;
 pub mod laws;
 pub mod resolvable;
+#[cfg(test)]
+mod small_sets;
 pub mod steps;
 pub mod swoosh;
+#[cfg(test)]
+mod tests;

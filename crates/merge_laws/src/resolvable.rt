@@ -2,13 +2,12 @@
 ghost use Rattle.std.specs.Prelude.{◌≡◌, ◌≢◌, ◌+◌, ◌↔◌, Bool, IfOk, Contains, AllPairs};
 ghost use Rattle.merge_laws.specs.Resolution.{MatchLaws, KeyLaws};
 
+use crate::join::Join;
+use crate::steps::Steps;
 use std::alloc::Global;
 use std::hash::Hash;
 use std::sync::ledger::Ledger;
 use union_base::memory::Memory;
-
-use crate::join::Join;
-use crate::steps::Steps;
 
 /// Values that can be resolved: a test says whether two of them stand for one thing, and then they merge. Values that
 /// match have an index key in common, so an index over keys finds all that a value can match.

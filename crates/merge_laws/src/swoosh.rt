@@ -5,14 +5,17 @@
 ghost use Rattle.std.specs.Prelude.{◌≡◌, ℕ, ◌+◌, ◌*◌, ◌<◌, ◌≤◌, false, IsTrue, length, slice_index_or, IfOk, IfSome, IfNone, All};
 ghost use Rattle.merge_laws.specs.Resolution.{IsResolution};
 
+use crate::resolvable::Resolvable;
+use crate::steps::Steps;
 use std::sync::ledger::Ledger;
 use union_base::memory::Memory;
 
-use crate::resolvable::Resolvable;
-use crate::steps::Steps;
-
 /// The place of the first of the values that the given one matches.
-fn first_match<R: Resolvable, L: Ledger>(done: &[R], value: &R, steps: &mut Steps<L>) -> Option<usize>
+fn first_match<R: Resolvable, L: Ledger>(
+    done: &[R],
+    value: &R,
+    steps: &mut Steps<L>,
+) -> Option<usize>
     ensures within { IfSome result (λ i. i < length done.now) }
     ensures found { IfSome result (λ i. (d : R) → IsTrue (R.meets value.now (slice_index_or done.now i d))) }
     ensures none { IfNone result (All (λ x. R.meets value.now x ≡ false) done.now) }
@@ -28,7 +31,10 @@ fn first_match<R: Resolvable, L: Ledger>(done: &[R], value: &R, steps: &mut Step
 
 /// The resolution of the list, in an order that is not fixed. Counts at most k * k steps for k values, also where it
 /// answers Memory. Memory where it runs out.
-pub fn resolve_plain<R: Resolvable, L: Ledger>(list: Vec<R>, steps: &mut Steps<L>) -> Result<Vec<R>, Memory>
+pub fn resolve_plain<R: Resolvable, L: Ledger>(
+    list: Vec<R>,
+    steps: &mut Steps<L>,
+) -> Result<Vec<R>, Memory>
     ensures resolved { IfOk result (λ done. IsResolution R.meets R.join list.items done.items) }
     ensures cost { steps.new ≤ steps.old + length list.items * length list.items }
 {

@@ -10,7 +10,7 @@ use Rattle.merge_laws.proofs.swoosh.resolve_plain.Goals as goal
 pub loop-value-init : goal.loop-value-init
 loop-value-init g c =
     rw c.in_ok-done.ensures.items
-      (record { resolving = resolving_none g.met.R.Join.join_laws g.met.R.Resolvable.match_laws c.args.list.items; cost = omega arith })
+    (record { resolving = resolving_none g.met.R.Join.join_laws g.met.R.Resolvable.match_laws c.args.list.items; cost = omega arith })
 
 -- the value matched nothing
 pub loop-value-preserved-in_ok-push-in-None : goal.loop-value-preserved-in_ok-push-in-None
@@ -21,13 +21,13 @@ loop-value-preserved-in_ok-push-in-None g c =
     let paid : c.first_match.new.steps ≤ c.loop-value.steps + length done = rw c.as_slice.ensures.value at c.in-None.ensures.cost in
     record {
       resolving = rw c.in_ok-push-in-None.ensures.items
-        (resolving_kept g.met.R.Join.join_laws g.met.R.Resolvable.match_laws c.args.list.items left done value
+          (resolving_kept g.met.R.Join.join_laws g.met.R.Resolvable.match_laws c.args.list.items left done value
           (rw c.in-Some.ensures.items at c.loop-value.invariant.resolving)
           (rw c.as_slice.ensures.value at c.in-None.ensures.none));
       cost = spent-kept c.args.steps.now (length c.args.list.items) c.loop-value.steps c.first_match.new.steps (length left) (length done) (length c.loop-value.left.items) (length c.push.new.self.items)
-        (length-from_push left c.loop-value.left.items value c.in-Some.ensures.items)
-        (length-from_push done c.push.new.self.items value c.in_ok-push-in-None.ensures.items)
-        paid c.loop-value.invariant.cost
+          (length-from_push left c.loop-value.left.items value c.in-Some.ensures.items)
+          (length-from_push done c.push.new.self.items value c.in_ok-push-in-None.ensures.items)
+          paid c.loop-value.invariant.cost;
     }
 
 -- the value matched one that was done
@@ -50,11 +50,11 @@ loop-value-preserved g c =
     let longer : length next ≡ length left + 1 = length-from_push left next joined c.in_ok-push-in-Some-first_match.ensures.items in
     record {
       resolving = rw (c.in_ok-push-in-Some-first_match.ensures.items, c.in_ok-joined-in-Some-first_match.ensures)
-        (resolving_joined g.met.R.Join.join_laws g.met.R.Resolvable.match_laws c.args.list.items left done value other rest
+          (resolving_joined g.met.R.Join.join_laws g.met.R.Resolvable.match_laws c.args.list.items left done value other rest
           (rw c.in-Some.ensures.items at c.loop-value.invariant.resolving) moved matched);
       cost = rw longer
-        (spent-joined c.args.steps.now (length c.args.list.items) c.loop-value.steps c.first_match.new.steps (length left) (length done) (length c.loop-value.left.items) (length rest)
-          (length-from_push left c.loop-value.left.items value c.in-Some.ensures.items) shorter paid c.loop-value.invariant.cost)
+          (spent-joined c.args.steps.now (length c.args.list.items) c.loop-value.steps c.first_match.new.steps (length left) (length done) (length c.loop-value.left.items) (length rest)
+          (length-from_push left c.loop-value.left.items value c.in-Some.ensures.items) shorter paid c.loop-value.invariant.cost);
     }
 
 -- at last nothing is left

@@ -8,7 +8,7 @@ use Rattle.merge_laws.proofs.swoosh.resolve_plain.Given as goal
 abbrev pub invariant-loop-value : goal.invariant-loop-value
 invariant-loop-value g l = record {
   resolving : IsResolving g.R.Resolvable.meets g.R.Join.join l.fn.list.items l.left.items l.done.items;
-  cost : 2 * l.steps + 2 * ((length l.left.items + length l.done.items) * (length l.left.items + length l.done.items)) ≤ 2 * l.initial.steps + 2 * (length l.fn.list.items * length l.fn.list.items) + length l.done.items * length l.done.items
+  cost : 2 * l.steps + 2 * ((length l.left.items + length l.done.items) * (length l.left.items + length l.done.items)) ≤ 2 * l.initial.steps + 2 * (length l.fn.list.items * length l.fn.list.items) + length l.done.items * length l.done.items;
 }
 
 abbrev pub decreases-loop-value : goal.decreases-loop-value
