@@ -1,3 +1,4 @@
+mod Digits
 pub mod Inserting
 pub mod Places
 pub mod Resolutions

@@ -57,7 +57,7 @@ digit_of_or m n k =
       λ h. bit_at_or m n k ∙ elim h [ inl e ↦ omega arith | inr e ↦ omega arith ],
     )
 
-bit_or-positive : (m n : ℕ) → 0 < m → 0 < bit_or m n
+pub bit_or-positive : (m n : ℕ) → 0 < m → 0 < bit_or m n
 bit_or-positive m n some =
     elim (dec_lt 0 (bit_or m n)) [
       | yes more ↦ more

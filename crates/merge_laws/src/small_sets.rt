@@ -77,9 +77,10 @@ impl Resolvable for SmallSet {
     }
 
     fn index_keys(&self, alloc: Global) -> Result<Vec<u32>, Memory> {
+        let mask = self.mask;
         let mut keys = Vec::new(alloc);
         for k in 0..64 {
-            if self.mask >> k & 1 == 1 {
+            if mask >> k & 1 == 1 {
                 keys.push(k)?;
             }
         }
