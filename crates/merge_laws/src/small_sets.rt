@@ -1,5 +1,9 @@
-//! Sets of numbers below 64 that are not empty, which match where they meet and merge by union.
-ghost use Rattle.std.specs.Prelude.{◌≡◌, ◌≢◌, ◌+◌, ◌-◌, ◌<◌, ◌↔◌, ℕ, IfOk, IfSome, Contains, AllPairs};
+//! A worked example of the traits: sets of numbers below 64 that are not empty, which match where they meet and merge by
+//! union. The tests of the resolvers run on it.
+//!
+//! Guarantee: the laws of both traits, by specs/SmallSets.antt. Cost: a set is one word, and no call takes memory but
+//! `index_keys`.
+ghost use Rattle.std.specs.Prelude.{◌≡◌, ◌≢◌, ◌+◌, ◌-◌, ◌<◌, ◌↔◌, ℕ, IfOk, IfSome, IsNone, Contains, AllPairs};
 ghost use Rattle.merge_laws.specs.SmallSets.{HasNumber, union, meet, union_laws, meet_laws, number_laws};
 
 use crate::join::Join;
@@ -10,7 +14,8 @@ use std::marker::Model;
 use std::sync::ledger::Ledger;
 use union_base::memory::Memory;
 
-/// A set as a mask: the number k is in it where digit k of the mask is 1.
+/// A set of numbers below 64 that is not empty. Contracts see it as the number that is one less than its mask, the sum
+/// of 2 to the power of k over its numbers k.
 #[derive(Drop)]
 pub struct SmallSet {
     mask: u64,
@@ -27,9 +32,10 @@ impl Model for SmallSet {
 }
 
 impl SmallSet {
-    /// The set of the mask's numbers, or None where it has none.
+    /// The set of the places of the mask's binary digits 1. None exactly where it has none. Takes no memory.
     pub fn of(mask: u64) -> Option<SmallSet>
-        ensures { IfSome result (λ s. s + 1 ≡ mask) }
+        ensures some { IfSome result (λ s. s + 1 ≡ mask) }
+        ensures none { IsNone result ↔ (mask ≡ 0) }
     {
         if mask == 0 {
             None
@@ -38,7 +44,7 @@ impl SmallSet {
         }
     }
 
-    /// The mask.
+    /// The mask. Takes no memory.
     pub fn mask(&self) -> u64
         ensures { result ≡ self.now + 1 }
     {

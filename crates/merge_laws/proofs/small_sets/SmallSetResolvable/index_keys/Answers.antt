@@ -12,8 +12,8 @@ loop-k-preserved c =
     let mask = c.self.inside.mask in
     let digit : bit_at mask c.loop-k.k ≡ _ = sym (shr_and_one mask c.loop-k.k) in
     elim c.if-mask-k-eq1.branch [
-      then-mask-k-eq1+in_ok-push w ↦ rw (w.keys-is, w.in_ok-push.ensures.items) (places_pushed mask c.loop-k.k c.loop-k.keys.items c.loop-k.invariant (digit ∙ w.if-mask-k-eq1.true))
-    | else-mask-k-eq1 w ↦ rw w.keys-is (places_passed mask c.loop-k.k c.loop-k.keys.items c.loop-k.invariant (λ e. w.if-mask-k-eq1.false (sym digit ∙ e)))
+      | then-mask-k-eq1+in_ok-push w ↦ rw (w.keys-is, w.in_ok-push.ensures.items) (places_pushed mask c.loop-k.k c.loop-k.keys.items c.loop-k.invariant (digit ∙ w.if-mask-k-eq1.true))
+      | else-mask-k-eq1 w ↦ rw w.keys-is (places_passed mask c.loop-k.k c.loop-k.keys.items c.loop-k.invariant (λ e. w.if-mask-k-eq1.false (sym digit ∙ e)))
     ]
 
 pub returns-clause-keys : goal.returns-clause-keys
