@@ -1,9 +1,9 @@
 -- The places of the binary digits 1 of a number, collected one after another.
-use Rattle.std.proofs.Common.{◌≡◌, ℕ, ◌+◌, ◌<◌, ◌≤◌, ◌^◌, ◌≢◌, List, [], ◌∷◌, ◌++◌, length, refl, sym, ◌∙◌, inl, inr, arith}
-use Rattle.std.specs.Prelude.{◌↔◌, ◌⊎◌, Contains, AllPairs}
+use Rattle.std.proofs.Common.{◌≡◌, ℕ, ◌+◌, ◌<◌, ◌^◌, ◌≢◌, List, [], ◌∷◌, ◌++◌, inl, inr, arith}
+use Rattle.std.specs.Prelude.{◌↔◌, Contains, AllPairs}
 use Rattle.std.specs.Int.{bit_at}
 use Rattle.std.proofs.Math.Decide.{dec_lt}
-use Rattle.std.proofs.lemmas.Nat.Bits.{bit_at_above, bit_at-lt}
+use Rattle.std.proofs.lemmas.Nat.Bits.{bit_at_above}
 use Rattle.std.proofs.lemmas.List.Elements.{Contains-append_left, Contains-push, Contains-push_cases}
 use Rattle.merge_laws.proofs.Places.{Contains-cases, AllPairs-none, AllPairs-one, AllPairs-append}
 

@@ -1,16 +1,15 @@
 -- How many match tests an insertion into values that are apart takes, if each look tests only values that share a key
 -- with the value at hand.
-use Rattle.std.proofs.Common.{◌≡◌, ℕ, ◌+◌, ◌-◌, ◌*◌, ◌≤◌, Bool, true, false, cond, IsTrue, List, [], ◌∷◌, ◌++◌, length, refl, sym, ◌∙◌, ap, subst, inl, inr, arith}
-use Rattle.std.specs.Prelude.{◌⊎◌, ◌↔◌, Contains, AllPairs, count_by, sum_by}
+use Rattle.std.proofs.Common.{◌≡◌, ℕ, ◌+◌, ◌-◌, ◌*◌, ◌≤◌, Bool, true, false, cond, IsTrue, List, [], ◌∷◌, ◌++◌, length, refl, subst, inl, arith}
+use Rattle.std.specs.Prelude.{Contains, count_by}
 use Rattle.std.specs.List.Sorted.{IsPermutation}
-use Rattle.std.proofs.lemmas.List.Elements.{Contains-append_left, Contains-append_right}
-use Rattle.std.proofs.lemmas.List.Sorted.{IsPermutation-sym, Contains-permutation, length_permutation, sum_by_popped}
+use Rattle.std.proofs.lemmas.List.Sorted.{length_permutation, sum_by_popped}
 use Rattle.std.proofs.lemmas.List.Sums.{sum_by-le-sum_by}
 use Rattle.std.proofs.Math.Nat.{le_trans}
-use Rattle.merge_laws.specs.Resolution.{JoinLaws, MatchLaws, KeyLaws, Derives, member, merged, IsDominated, IsCovered, IsResolution, DoNotMatch, AreApart}
+use Rattle.merge_laws.specs.Resolution.{JoinLaws, MatchLaws, KeyLaws, IsDominated, IsResolution, AreApart}
 use Rattle.merge_laws.specs.Reach.{near, reach}
 use Rattle.merge_laws.proofs.Places.{Contains-head}
-use Rattle.merge_laws.proofs.Resolutions.{IsDominated-refl, IsDominated-trans, IsDominated-left, IsDominated-right, IsDominated-merge, same-from_dominating}
+use Rattle.merge_laws.proofs.Resolutions.{IsDominated-refl, IsDominated-trans, IsDominated-left, IsDominated-right, same-from_dominating}
 use Rattle.merge_laws.proofs.Resolving.{IsResolving, resolving_inserted, resolving_joined}
 
 -- An insertion of v into list, on its way: value is what v came to, and done are the members that are not in it. Whatever

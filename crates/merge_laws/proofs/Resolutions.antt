@@ -1,12 +1,12 @@
 -- The facts on domination and on resolutions, from the laws of matching and merging alone.
-use Rattle.std.proofs.Common.{◌≡◌, ℕ, ◌<◌, ◌≢◌, Bool, true, IsTrue, List, [], ◌∷◌, ◌++◌, length, get_or, refl, sym, ◌∙◌, ap, subst, inl, inr, arith}
-use Rattle.std.specs.Prelude.{◌⊎◌, ◌↔◌, Contains, AllPairs}
+use Rattle.std.proofs.Common.{◌≡◌, ℕ, ◌<◌, ◌≢◌, Bool, IsTrue, List, [], ◌∷◌, ◌++◌, length, get_or, sym, ◌∙◌, ap, subst, inl, inr, arith}
+use Rattle.std.specs.Prelude.{Contains, AllPairs}
 use Rattle.std.specs.List.Sorted.{IsPermutation}
 use Rattle.std.proofs.lemmas.List.{get_or_default}
 use Rattle.std.proofs.lemmas.List.Elements.{Contains-append_left, Contains-append_right, Contains-append_cases}
 use Rattle.std.proofs.lemmas.List.Sorted.{IsPermutation-sym, Contains-permutation}
 use Rattle.merge_laws.specs.Resolution.{JoinLaws, MatchLaws, Derives, member, merged, IsDominated, IsCovered, IsResolution, DoNotMatch, AreApart, IsDominatedOnce}
-use Rattle.merge_laws.proofs.Places.{Contains-head, Contains-tail, Contains-cases, place-from_related, same-from_related, AllPairs-permutation, AllPairs-rest, AllPairs-first, IsPermutation-from_members}
+use Rattle.merge_laws.proofs.Places.{place-from_related, same-from_related, AllPairs-permutation, IsPermutation-from_members}
 
 module _ {A : Type 0} {match : A → A → Bool} {merge : A → A → A} (join : JoinLaws merge) (laws : MatchLaws match merge) where
   -- domination is an order

@@ -1,12 +1,11 @@
 -- What a resolution becomes when one value is withdrawn from the list.
-use Rattle.std.proofs.Common.{◌≡◌, ℕ, Bool, IsTrue, List, ◌∷◌, ◌++◌, sym, subst, inl, inr}
-use Rattle.std.specs.Prelude.{◌⊎◌, Contains, AllPairs}
-use Rattle.std.specs.List.Sorted.{IsPermutation}
+use Rattle.std.proofs.Common.{Bool, IsTrue, List, ◌∷◌, ◌++◌, sym, subst, inl, inr}
+use Rattle.std.specs.Prelude.{Contains}
 use Rattle.std.proofs.lemmas.List.Elements.{Contains-append_left, Contains-append_right, Contains-append_cases}
 use Rattle.std.proofs.lemmas.List.Sorted.{IsPermutation-sym, Contains-permutation}
-use Rattle.merge_laws.specs.Resolution.{JoinLaws, MatchLaws, Derives, member, merged, IsDominated, IsCovered, IsResolution, DoNotMatch, AreApart}
+use Rattle.merge_laws.specs.Resolution.{JoinLaws, MatchLaws, Derives, member, merged, IsDominated, IsResolution, DoNotMatch, AreApart}
 use Rattle.merge_laws.specs.Withdrawal.{IsWithdrawn}
-use Rattle.merge_laws.proofs.Places.{Contains-head, Contains-tail, Contains-cases, AllPairs-permutation, AllPairs-rest, AllPairs-first, AllPairs-append}
+use Rattle.merge_laws.proofs.Places.{Contains-tail, Contains-cases, AllPairs-permutation, AllPairs-rest, AllPairs-first, AllPairs-append}
 use Rattle.merge_laws.proofs.Resolutions.{IsDominated-refl, IsDominated-trans, IsDominated-left, IsDominated-right, IsDominated-derived, matches-above, Derives-through, IsResolution-from_apart, apart-from_resolution}
 
 module _ {A : Type 0} {match : A → A → Bool} {merge : A → A → A} (join : JoinLaws merge) (laws : MatchLaws match merge) {list resolution : List A} {gone : A} {rest : List A} {block : A} {others kept parts : List A} (w : IsWithdrawn match merge list resolution gone rest block others kept parts) where

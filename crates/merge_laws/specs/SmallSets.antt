@@ -1,7 +1,7 @@
 -- Sets of numbers that are not empty, which match where they meet and merge by union: the values that the tests resolve.
 -- A set is seen as a number n, where the binary digits of n + 1 say which numbers are in it. So each n is a set, and no
 -- set is empty.
-use Rattle.std.specs.Prelude.{◌≡◌, ℕ, zero, suc, ◌+◌, ◌-◌, ◌/◌, ◌%◌, ◌<◌, ◌≤◌, ◌↔◌, ◌⊎◌, Bool, true, false, IsTrue, nat_lt, bit_and, bit_or, refl, max, min}
+use Rattle.std.specs.Prelude.{◌≡◌, ℕ, zero, suc, ◌+◌, ◌-◌, ◌/◌, ◌%◌, ◌<◌, ◌≤◌, ◌↔◌, ◌⊎◌, Bool, IsTrue, nat_lt, bit_and, bit_or, refl, max, min}
 use Rattle.std.specs.Int.{bit_at}
 use Rattle.std.proofs.Common.{sym, ◌∙◌, ap, inl, inr, arith}
 use Rattle.std.proofs.Math.Decide.{dec_lt}

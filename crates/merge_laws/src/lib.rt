@@ -13,8 +13,6 @@ pub mod join;
 pub mod laws;
 pub mod resolvable;
 pub mod small_sets;
-#[cfg(test)]
-mod small_sets;
 pub mod steps;
 pub mod swoosh;
 #[cfg(test)]

@@ -1,8 +1,8 @@
-use Rattle.std.proofs.Common.{◌≡◌, ◌+◌, ◌*◌, ◌<◌, ◌≤◌, IsTrue, List, [], ◌∷◌, ◌++◌, length, slice_index_or, sym, arith}
+use Rattle.std.proofs.Common.{◌≡◌, ◌+◌, ◌<◌, ◌≤◌, IsTrue, [], ◌∷◌, length, slice_index_or, arith}
 use Rattle.std.specs.List.Sorted.{IsPermutation}
 use Rattle.std.proofs.lemmas.List.Sorted.{IsPermutation-swap_remove, length_permutation}
 use Rattle.merge_laws.proofs.Places.{length-from_push}
-use Rattle.merge_laws.proofs.Resolving.{IsResolving, resolving_none, resolving_kept, resolving_joined, IsResolution-from_resolving}
+use Rattle.merge_laws.proofs.Resolving.{resolving_none, resolving_kept, resolving_joined, IsResolution-from_resolving}
 use Rattle.merge_laws.proofs.Spending.{spent-kept, spent-joined}
 use Rattle.merge_laws.proofs.swoosh.resolve_plain.Goals as goal
 

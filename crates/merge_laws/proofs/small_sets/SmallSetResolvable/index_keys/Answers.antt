@@ -1,8 +1,6 @@
-use Rattle.std.proofs.Common.{◌≡◌, ℕ, ◌+◌, ◌-◌, ◌<◌, ◌^◌, sym, ◌∙◌, arith}
-use Rattle.std.specs.Prelude.{◌↔◌, Contains}
+use Rattle.std.proofs.Common.{◌≡◌, ◌+◌, ◌-◌, ◌<◌, ◌^◌, sym, ◌∙◌, arith}
 use Rattle.std.specs.Int.{bit_at}
 use Rattle.std.proofs.lemmas.Nat.Bits.{shr_and_one}
-use Rattle.merge_laws.specs.SmallSets.{HasNumber}
 use Rattle.merge_laws.proofs.Digits.{places_passed, places_pushed, places_all}
 use Rattle.merge_laws.proofs.small_sets.SmallSetResolvable.index_keys.Goals as goal
 use Rattle.merge_laws.proofs.small_sets.SmallSetResolvable.index_keys.Goals.{then-mask-k-eq1+in_ok-push, else-mask-k-eq1}
