@@ -1,6 +1,8 @@
 //! The plain resolver on small sets of numbers, in every order, and against closures computed by brute force.
 ghost use Rattle.std.specs.Prelude.{◌≡◌, ◌<◌};
 
+use crate::join::Join;
+use crate::resolvable::Resolvable;
 use crate::small_sets::SmallSet;
 use crate::steps::Steps;
 use crate::swoosh::resolve_plain;
@@ -121,5 +123,16 @@ fn resolves_as_the_closure_does(rt: HostRuntime) -> Result<(), Fail> {
         let values = derived(alloc, &masks)?;
         assert_eq!(rt; resolved(alloc, &masks)?, greatest(alloc, &values)?);
     }
+    Ok(())
+}
+
+#[test]
+fn copies_and_keys(rt: HostRuntime) -> Result<(), Fail> {
+    let set = SmallSet::of(0b110).ok_or("no set")?;
+    assert_eq!(rt; set.copied(rt.alloc())?.mask(), 0b110);
+    let keys = set.index_keys(rt.alloc())?;
+    assert_eq!(rt; keys.as_slice(), [1, 2].as_slice());
+    assert_eq!(rt; SmallSet::copy_key(rt.alloc(), &7)?, 7);
+    assert!(rt; SmallSet::of(0).is_none());
     Ok(())
 }
