@@ -1,7 +1,7 @@
 -- Sets of numbers that are not empty, which match where they meet and merge by union: the values that the tests resolve.
 -- A set is seen as a number n, where the binary digits of n + 1 say which numbers are in it. So each n is a set, and no
 -- set is empty.
-use Rattle.std.specs.Prelude.{◌≡◌, ℕ, zero, suc, ◌+◌, ◌-◌, ◌/◌, ◌%◌, ◌<◌, ◌≤◌, ◌↔◌, ◌⊎◌, Bool, IsTrue, nat_lt, bit_and, bit_or, refl, max, min}
+use Rattle.std.specs.Prelude.{◌≡◌, ℕ, zero, suc, ◌+◌, ◌-◌, ◌/◌, ◌%◌, ◌<◌, ◌≤◌, ◌↔◌, ◌⊎◌, Bool, true, IsTrue, nat_eq, nat_lt, bit_and, bit_or, refl, max, min}
 use Rattle.std.specs.Int.{bit_at}
 use Rattle.std.proofs.Common.{sym, ◌∙◌, ap, inl, inr, arith}
 use Rattle.std.proofs.Math.Decide.{dec_lt}
@@ -114,3 +114,7 @@ number_laws = record {
   merged = HasNumber-union;
   shared = λ m n. (number-from_meet m n, λ (k, p, q). meet-from_number m n k p q);
 }
+
+-- numbers that compare as equal are one
+pub numbers_exact : (j k : ℕ) → nat_eq j k ≡ true → j ≡ k
+numbers_exact j k h = grind (arith, nat_tests)

@@ -1,5 +1,5 @@
 //! Values that match or do not, and merge where they do.
-ghost use Rattle.std.specs.Prelude.{◌≡◌, ◌≢◌, ◌+◌, ◌↔◌, Bool, IfOk, Contains, AllPairs};
+ghost use Rattle.std.specs.Prelude.{◌≡◌, ◌≢◌, ◌+◌, ◌↔◌, Bool, true, IfOk, Contains, AllPairs};
 ghost use Rattle.merge_laws.specs.Resolution.{MatchLaws, KeyLaws};
 
 use crate::join::Join;
@@ -43,4 +43,7 @@ pub trait Resolvable: Join {
 
     /// Values that match share a key, and a merge has the keys of its two sides.
     ghost key_laws: { KeyLaws meets Self.join has_key shares };
+
+    /// Keys that compare as equal are one key, so what is found under a key has that key.
+    ghost exact_keys: { (j k : Self.Key) → Self.Key.eq j k ≡ true → j ≡ k };
 }

@@ -4,7 +4,7 @@
 //! Guarantee: the laws of both traits, by specs/SmallSets.antt. Cost: a set is one word, and no call takes memory but
 //! `index_keys`.
 ghost use Rattle.std.specs.Prelude.{◌≡◌, ◌≢◌, ◌+◌, ◌-◌, ◌<◌, ◌↔◌, ℕ, IfOk, IfSome, IsNone, Contains, AllPairs};
-ghost use Rattle.merge_laws.specs.SmallSets.{HasNumber, union, meet, union_laws, meet_laws, number_laws};
+ghost use Rattle.merge_laws.specs.SmallSets.{HasNumber, union, meet, union_laws, meet_laws, number_laws, numbers_exact};
 
 use crate::join::Join;
 use crate::resolvable::Resolvable;
@@ -100,4 +100,6 @@ impl Resolvable for SmallSet {
     ghost match_laws = { meet_laws };
 
     ghost key_laws = { number_laws };
+
+    ghost exact_keys = { numbers_exact };
 }
