@@ -1,4 +1,4 @@
-//! The desk.
+//! The desk, and what its calls answer.
 ghost use Rattle.std.specs.Prelude.{◌≡◌};
 
 mod calls;
@@ -9,7 +9,9 @@ mod turns;
 use crate::board::Board;
 use crate::machine::Machine;
 
-/// The desk.
+/// One machine for many threads, which share it by reference.
+///
+/// Its word is twice the number of finished turns, and 1 more while a pass holds the turn.
 #[derive(Drop)]
 pub struct Desk<M: Machine> {
     pub(crate) board: Board<M>,
@@ -19,15 +21,24 @@ pub struct Desk<M: Machine> {
 /// A turn that was taken.
 #[derive(Debug, Drop)]
 pub struct Turned<O> {
-    /// The turn's number, counted from 1.
+    /// The number of the turn, which is the number of its entry in the history, counted from 1.
     pub turn: u64,
+    /// What the machine answered.
     pub outcome: O,
 }
 
 /// Why a turn was not taken.
 #[derive(Debug, Drop)]
 pub enum TryRefusal<C> {
-    /// Another pass held the turn, or took it first.
-    Busy { loaded: u64, found: u64, change: C },
+    /// Another pass held the turn, or took it between the two steps of this call.
+    Busy {
+        /// The word that the load of this call read.
+        loaded: u64,
+        /// The same where it is odd; else the other word that the compare and exchange of this call read.
+        found: u64,
+        /// The change comes back.
+        change: C,
+    },
+    /// The machine found no memory. The change is dropped.
     Memory,
 }

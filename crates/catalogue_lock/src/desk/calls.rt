@@ -1,4 +1,4 @@
-//! What a pass calls at the desk.
+//! What a pass calls at its desk.
 ghost use Rattle.std.specs.Prelude.{◌≡◌, ◌+◌, ◌/◌, ◌≤◌, IfOk, OnErr, MatchResult};
 ghost use Rattle.catalogue_lock.specs.Views.{looked};
 ghost use Rattle.catalogue_lock.specs.Calls.{IsTurn, IsRefused, IsAnswer, IsRefusal};
@@ -13,7 +13,15 @@ use union_base::memory::Memory;
 impl<M: Machine> Desk<M> {
     ghost use Rattle.catalogue_lock.specs.Tokens.{view, IsPassOf, IsSamePass};
 
-    /// Waits for the turn.
+    /// Waits for the turn, and applies the change in it.
+    ///
+    /// The change becomes the last entry of the history, and what this pass had seen stands before it. The outcome is the
+    /// machine's for its setting and exactly the entries before. The turn's number is above the pass's floor, so a turn that
+    /// the pass knew to be finished comes first.
+    ///
+    /// # Errors
+    ///
+    /// `Memory`: the machine found none. No entry is appended, and the change is dropped.
     pub fn turn<R: Wait>(
         &self,
         alloc: Global,
@@ -31,7 +39,14 @@ impl<M: Machine> Desk<M> {
         self.run(alloc, &mut pass.place, pass.number, change)
     }
 
-    /// Waits for the turn.
+    /// Waits for the turn, and asks the question in it.
+    ///
+    /// It answers a number of turns with the answer, which is the machine's for its setting and all entries of those turns:
+    /// at least those that the pass had seen, or knew to be finished.
+    ///
+    /// # Errors
+    ///
+    /// `Memory`: the machine found none.
     pub fn ask<R: Wait>(
         &self,
         alloc: Global,
@@ -49,7 +64,14 @@ impl<M: Machine> Desk<M> {
         self.reply(alloc, &mut pass.place, question)
     }
 
-    /// Waits for nobody.
+    /// Applies the change, as `turn` does, where no other pass holds the turn. It waits for nobody: it makes one load and at
+    /// most one compare and exchange.
+    ///
+    /// # Errors
+    ///
+    /// - `Busy`: the word was odd, or the compare and exchange found another word than the load. The two words that it
+    ///   carries are those of this call. The change comes back, and the pass has seen no more than before.
+    /// - `Memory`: the machine found none. No entry is appended, and the change is dropped.
     pub fn try_turn(
         &self,
         alloc: Global,
@@ -85,7 +107,8 @@ impl<M: Machine> Desk<M> {
         }
     }
 
-    /// The number of finished turns.
+    /// The number of finished turns, by one load: at least the pass's floor, which rises to it. It waits for nobody and takes
+    /// no memory. Of what the pass knows nothing else changes but the count of its looks.
     pub fn glance(&self, pass: &mut Pass<M>) -> u64
         requires { IsPassOf pass.old self.now }
         ensures desk { IsPassOf pass.new self.now }

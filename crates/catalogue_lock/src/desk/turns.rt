@@ -1,5 +1,5 @@
-//! The parts of a call that take the turn and give it up.
-ghost use Rattle.std.specs.Prelude.{◌≡◌, ℕ, List, ◌∷◌, ◌++◌, IfOk, OnErr};
+//! The parts of a call that take the turn, use the machine and give the turn up.
+ghost use Rattle.std.specs.Prelude.{◌≡◌, IfOk, OnErr};
 ghost use Rattle.catalogue_lock.specs.Steps.{Rests, Works, Waited};
 ghost use Rattle.catalogue_lock.specs.Calls.{IsTurn, IsRefused, IsAnswer};
 
@@ -7,12 +7,25 @@ use super::{Desk, Turned};
 use crate::board::Place;
 use crate::machine::Machine;
 use std::alloc::Global;
+use std::hint::spin_loop;
 use std::sync::Wait;
 use std::thread::yield_now;
 use union_base::memory::Memory;
 
+/// Tries before a waiting call lets other threads run. A turn is short where no thread stops within it.
+const SPINS: u64 = 16;
+
+/// What a waiting call does after so many tries in vain.
+fn pause(tries: u64) {
+    if tries < SPINS {
+        spin_loop();
+    } else {
+        yield_now();
+    }
+}
+
 impl<M: Machine> Desk<M> {
-    /// Waits for the turn, and takes it.
+    /// Takes the turn, and tries again until it has it.
     pub(crate) fn win<R: Wait>(&self, rt: &R, place: &mut Place<M>)
         requires desk { place.old.table_id ≡ self.now.board.shared.table_id }
         requires rests { Rests place.old.me }
@@ -20,12 +33,14 @@ impl<M: Machine> Desk<M> {
         ensures waited { Waited place.old.me.0 place.new.me.0 }
         ensures works { (x : M) × Works M.setting M.entries place.new.me x }
     {
+        let mut tries: u64 = 0;
         for _ in rt.forever() {
             let loaded = self.look(place);
             if loaded % 2 == 0 && self.claim(place, loaded) == loaded {
                 return;
             }
-            yield_now();
+            pause(tries);
+            tries = tries.saturating_add(1);
         }
         unreachable!()
     }
