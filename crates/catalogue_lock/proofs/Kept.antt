@@ -1,5 +1,5 @@
 -- Each kind of step keeps the desk's rule.
-use Rattle.std.proofs.Common.{◌≡◌, ◌≢◌, ◌⊎◌, ⊎_elim, inl, inr, ℕ, ◌+◌, ◌-◌, ◌*◌, ◌/◌, ◌%◌, ◌^◌, ◌<◌, ◌≤◌, Bool, true, false, cond, eqb, eq-eqb, List, [], ◌∷◌, ◌++◌, length, set, sym, refl, ap, ◌∙◌, subst, arith, max, MatchBool, Option, Some, None, slice_index}
+use Rattle.std.proofs.Common.{◌≡◌, ◌≢◌, ⊎_elim, ℕ, ◌+◌, ◌-◌, ◌*◌, ◌/◌, ◌%◌, ◌^◌, ◌<◌, ◌≤◌, Bool, true, false, eqb, eq-eqb, List, [], ◌∷◌, ◌++◌, length, set, sym, refl, ap, ◌∙◌, subst, arith, MatchBool, Option, Some, None, slice_index}
 use Rattle.std.proofs.lemmas.Bool.{ltb-true, eqb-true}
 use Rattle.std.specs.List.{All, count_by}
 use Rattle.std.specs.Prelude.{nat_lt, ◌==◌, ◌&&◌}
@@ -12,10 +12,10 @@ use Rattle.atomic_table.specs.Table.Act.{keeps, takes, gives}
 use Rattle.atomic_table.proofs.Lists.{at_set}
 use Rattle.catalogue_lock.specs.History.{changes_of, IsPrefix}
 use Rattle.catalogue_lock.specs.Ended.{Role, Ended, is_pass}
-use Rattle.catalogue_lock.specs.Ended.Role.{AsRoot, AsPass, Spent}
+use Rattle.catalogue_lock.specs.Ended.Role.{AsRoot, AsPass}
 use Rattle.catalogue_lock.specs.Views.{looked, tried, taken, released}
-use Rattle.catalogue_lock.specs.Rule.{Ruled, SeatOk, PassOk, RootOk, EndedOk, one_if, lives, lives_as, has_turn, ended_as}
-use Rattle.catalogue_lock.specs.Steps.{loads, claims, releases, Wins, Loses, Follows}
+use Rattle.catalogue_lock.specs.Rule.{Ruled, SeatOk, PassOk, EndedOk, one_if, lives, lives_as, has_turn, ended_as}
+use Rattle.catalogue_lock.specs.Steps.{loads, claims, releases, Wins, Loses}
 use Rattle.catalogue_lock.specs.declared.view.View.{View}
 use Rattle.catalogue_lock.proofs.Counting.{count_set, count_one, count_two, one}
 use Rattle.catalogue_lock.proofs.Histories.{prefix_all, prefix_more, prefix_length, changes_other}

@@ -1,9 +1,9 @@
 -- The root's steps keep the desk's rule: a pass is made, a pass is ended, a desk is opened and closed.
-use Rattle.std.proofs.Common.{◌≡◌, ◌≢◌, ◌⊎◌, ⊎_elim, inl, inr, ℕ, zero, suc, ◌+◌, ◌*◌, ◌<◌, ◌≤◌, Bool, true, false, cond, eqb, eq-eqb, List, [], ◌∷◌, ◌++◌, length, set, get_or, sym, refl, ap, ◌∙◌, subst, arith, max, MatchBool, Option, Some, None}
+use Rattle.std.proofs.Common.{◌≡◌, ◌≢◌, ⊎_elim, ℕ, zero, suc, ◌+◌, ◌<◌, ◌≤◌, Bool, true, false, List, [], ◌∷◌, ◌++◌, length, set, get_or, sym, refl, ap, ◌∙◌, subst, arith, MatchBool, Option, Some, None}
 use Rattle.std.proofs.lemmas.Bool.{eqb-true, lt-ltb, le-ltb}
 use Rattle.std.proofs.lemmas.Bool.Decides.{nat_tests}
 use Rattle.std.specs.Option.{IsSome}
-use Rattle.std.specs.List.{All, Any, count_by, sum_by}
+use Rattle.std.specs.List.{All, Any, count_by}
 use Rattle.std.specs.Prelude.{nat_lt, ◌==◌, ◌&&◌}
 use Rattle.std.proofs.lemmas.List.Sums.{sum_by_push}
 use mathlib.Core.Option.{some, none, some-injective, some-ne-none}
@@ -12,11 +12,11 @@ use Rattle.std.proofs.lemmas.List.{length_push}
 use lib.ListN.{get_elem?}
 use Rattle.atomic_table.specs.Table.{State, Splits, Joins, opening, Final, Seen}
 use Rattle.atomic_table.proofs.Lists.{at_set, at_snoc, set_else}
-use Rattle.catalogue_lock.specs.History.{changes_of, IsPrefix}
-use Rattle.catalogue_lock.specs.Ended.{Role, Ended, is_pass}
-use Rattle.catalogue_lock.specs.Ended.Role.{AsRoot, AsPass, Spent}
-use Rattle.catalogue_lock.specs.Views.{root_view, pass_view, spent_view, dealt, dealt_pass, gathered}
-use Rattle.catalogue_lock.specs.Rule.{Ruled, SeatOk, PassOk, RootOk, EndedOk, one_if, lives, lives_as, has_turn, ended_as}
+use Rattle.catalogue_lock.specs.History.{changes_of}
+use Rattle.catalogue_lock.specs.Ended.{Ended, is_pass}
+use Rattle.catalogue_lock.specs.Ended.Role.{AsRoot, AsPass}
+use Rattle.catalogue_lock.specs.Views.{root_view, spent_view, dealt, dealt_pass, gathered}
+use Rattle.catalogue_lock.specs.Rule.{Ruled, SeatOk, EndedOk, one_if, lives, lives_as, has_turn, ended_as}
 use Rattle.catalogue_lock.specs.declared.view.View.{View}
 use Rattle.catalogue_lock.proofs.Counting.{count_set, count_le, count_find, at_within, at_reads, one}
 use Rattle.catalogue_lock.proofs.Histories.{no_changes}

@@ -4,8 +4,8 @@ use mathlib.Core.Option.{some, none}
 use lib.ListN.{get_elem?}
 use Rattle.atomic_table.specs.Table.{State}
 use Rattle.catalogue_lock.specs.History.{changes_of, IsPrefix}
-use Rattle.catalogue_lock.specs.Ended.{Role, Ended, is_pass}
-use Rattle.catalogue_lock.specs.Ended.Role.{AsRoot, AsPass, Spent}
+use Rattle.catalogue_lock.specs.Ended.{Ended, is_pass}
+use Rattle.catalogue_lock.specs.Ended.Role.{AsRoot, AsPass}
 use Rattle.catalogue_lock.specs.declared.view.View.{View}
 
 abbrev pub one_if : Bool → ℕ

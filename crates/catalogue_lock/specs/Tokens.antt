@@ -1,5 +1,5 @@
 -- What contracts see of passes, roots and desks.
-use Rattle.std.specs.Prelude.{◌≡◌, ℕ}
+use Rattle.std.specs.Prelude.{◌≡◌}
 use Rattle.catalogue_lock.specs.declared.machine.Machine.{Ghosts}
 use Rattle.catalogue_lock.specs.declared.view.View.{View}
 use Rattle.catalogue_lock.specs.declared.pass.Pass.{Pass}

@@ -1,7 +1,7 @@
 -- The views of the seats at one desk, and what each kind of step makes of them.
 use Rattle.std.specs.Prelude.{ℕ, ◌+◌, ◌/◌, max, List, [], ◌∷◌, ◌++◌, length, true, false}
 use Rattle.catalogue_lock.specs.History.{changes_of}
-use Rattle.catalogue_lock.specs.Ended.{Role, Ended}
+use Rattle.catalogue_lock.specs.Ended.{Role}
 use Rattle.catalogue_lock.specs.Ended.Role.{AsRoot, AsPass, Spent}
 use Rattle.catalogue_lock.specs.declared.view.View.{View}
 

@@ -1,4 +1,4 @@
-use Rattle.std.proofs.Common.{Some, Option, ℕ, List, ◌∙◌, sym, ap, ◌∷◌}
+use Rattle.std.proofs.Common.{Some, ◌∙◌, sym, ap, ◌∷◌}
 use Rattle.atomic_table.specs.Table.{rest}
 use Rattle.catalogue_lock.proofs.desk.Desk.take_out.Goals as goal
 
