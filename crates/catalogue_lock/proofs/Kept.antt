@@ -113,7 +113,7 @@ module _ {M S C : Type 0} (of_setting : M → S) (of_entries : M → List (ℕ �
         keeps,
         tt,
         stays s r id v (looked n v) at pass pass refl refl (floored r.chosen r.history r.held v (looked n v) ok refl refl refl refl refl ok.base),
-        (idle, refl, omega (arith, half (length r.history) r.held, ok.floor)),
+        (idle, refl {A = Me (Option M) (View S C)}, omega (arith, half (length r.history) r.held, ok.floor)),
       ))
 
   -- the word is even, so no pass holds the turn
@@ -133,7 +133,7 @@ module _ {M S C : Type 0} (of_setting : M → S) (of_entries : M → List (ℕ �
         keeps,
         tt,
         stays s r id v (tried n v) at pass pass refl refl (floored r.chosen r.history r.held v (tried n v) ok refl refl refl refl refl ok.base),
-        (idle, (refl, omega (arith, half (length r.history) r.held, ok.floor))),
+        (idle, (refl {A = Me (Option M) (View S C)}, omega (arith, half (length r.history) r.held, ok.floor))),
       )
   claim_by id me s r at pass idle old even true is =
       let v = me.0 in
@@ -151,7 +151,7 @@ module _ {M S C : Type 0} (of_setting : M → S) (of_entries : M → List (ℕ �
         ap (λ (h : List (maybe.Option (Option M))). get_elem? h 0) free.1.1,
         moves s r id v w at pass pass refl _ _ r.history true (ap (λ (k : ℕ). k ∷ []) (omega (arith, same, none_held))) (ap (λ (h : List (maybe.Option (Option M))). set h 0 none) free.1.1) (omega (arith, none_held, not_held))
             (floored r.chosen r.history r.held v w ok refl refl refl refl refl (λ _. has)) (λ j u _ e. r.each j u e) r.below r.each_ended,
-        (idle, (x, free.1.3 ∙ sym ok.setting, omega (arith, none_held, ap length has), (subst (λ (l : List (ℕ × C)). IsPrefix v.seen l) (sym has) ok.seen, ap (changes_of v.number) has ∙ ok.own, omega (arith, ap length has, ok.floor)), refl)),
+        (idle, (x, free.1.3 ∙ sym ok.setting, omega (arith, none_held, ap length has), (subst (λ (l : List (ℕ × C)). IsPrefix v.seen l) (sym has) ok.seen, ap (changes_of v.number) has ∙ ok.own, omega (arith, ap length has, ok.floor)), refl {A = Me (Option M) (View S C)})),
       )
 
   pub claim_allowed : (slots id : ℕ) (me : Me (Option M) (View S C)) (old : ℕ) → me.0.role ≡ AsPass → me.0.holds ≡ false → old % 2 ≡ 0

@@ -16,10 +16,11 @@ pub record IsTurn {S C O : Type 0} (yields : S → List (ℕ × C) → ℕ → C
   pub floor : w.floor ≡ turn
   pub outcome_is : yields v.setting before v.number change outcome
 
--- the pass has no entry more, and it has seen at least what it had
+-- the pass has no entry more, and it knows at least what it knew
 pub record IsRefused {S C : Type 0} (v w : View S C) : Type 0 where
   pub own : w.own ≡ v.own
   pub seen : IsPrefix v.seen w.seen
+  pub floor : v.floor ≤ w.floor
 
 -- the answer is given over all entries of so many turns, at least those that were known to be finished
 pub record IsAnswer {S C Q A : Type 0} (answers : S → List (ℕ × C) → Q → A → Type 0) (v w : View S C) (question : Q) (turns : ℕ) (answer : A) : Type 0 where
@@ -30,10 +31,11 @@ pub record IsAnswer {S C Q A : Type 0} (answers : S → List (ℕ × C) → Q �
   pub floor : w.floor ≡ turns
   pub answer_is : answers v.setting w.seen question answer
 
--- these two words were read by this call, and they show that another pass held the turn, or took it between
+-- these two words were read by this call: an odd one by its load, and then it made no compare and exchange; or an even one by its load, and another by its one compare and exchange
 pub record IsBusy {S C : Type 0} (v w : View S C) (loaded found : ℕ) : Type 0 where
   pub own : w.own ≡ v.own
   pub seen : w.seen ≡ v.seen
+  pub floor : v.floor ≤ w.floor
   pub loaded_is : w.loaded ≡ loaded
   pub words : ((loaded % 2 ≡ 1) × (found ≡ loaded) × (w.tries ≡ v.tries)) ⊎ ((loaded % 2 ≡ 0) × (found ≢ loaded) × (w.found ≡ found) × (w.tries ≡ v.tries + 1))
 

@@ -1,4 +1,4 @@
--- What a step tells the pass that makes it.
+-- What a step tells the pass that makes it: of its view and the slot in its hands before (m) and after (m'), and the word n that the step found. And what is true of a pass between two steps of its own.
 use Rattle.std.specs.Prelude.{◌≡◌, ℕ, ◌*◌, ◌/◌, ◌≤◌, ◌==◌, true, false, List, [], ◌∷◌, length, MatchBool, Option, Some}
 use Rattle.atomic_table.specs.Table.{Me, Step}
 use Rattle.catalogue_lock.specs.History.{changes_of, IsPrefix}
@@ -11,19 +11,24 @@ abbrev pub Follows : {S C : Type 0} → List (ℕ × C) → View S C → Type 0
 Follows history v = IsPrefix v.seen history × (changes_of v.number history ≡ v.own) × (v.floor ≤ length history)
 
 module _ {M S C : Type 0} where
+  -- a load, by a pass that doesn't hold the turn
   abbrev pub loads : Step (Option M) → Me (Option M) (View S C) → ℕ → Me (Option M) (View S C) → Type 0
   loads st m n m' = (m.0.holds ≡ false) × (m' ≡ (looked n m.0, m.1)) × (m.0.floor ≤ n / 2)
 
+  -- a compare and exchange that found another word
   abbrev pub Loses : Me (Option M) (View S C) → ℕ → Me (Option M) (View S C) → Type 0
   Loses m n m' = (m' ≡ (tried n m.0, m.1)) × (m.0.floor ≤ n / 2)
 
+  -- the fetch_add or fetch_sub of a pass that has the machine x in its hands
   abbrev pub releases : (M → List (ℕ × C)) → Step (Option M) → Me (Option M) (View S C) → ℕ → Me (Option M) (View S C) → Type 0
   releases of_entries st m n m' = (x : M) → m.1 ≡ (0, Some x) ∷ [] → m' ≡ (released (of_entries x) m.0, [])
 
   module _ (of_setting : M → S) (of_entries : M → List (ℕ × C)) where
+    -- a compare and exchange that found the word it expected: the pass has the machine in its hands
     abbrev pub Wins : Me (Option M) (View S C) → ℕ → Me (Option M) (View S C) → Type 0
     Wins m n m' = (x : M) × (of_setting x ≡ m.0.setting) × (n ≡ 2 * length (of_entries x)) × Follows (of_entries x) m.0 × (m' ≡ (taken (of_entries x) (tried n m.0), (0, Some x) ∷ m.1))
 
+    -- a compare and exchange of an even word, by a pass that doesn't hold the turn
     abbrev pub claims : Step (Option M) → Me (Option M) (View S C) → ℕ → Me (Option M) (View S C) → Type 0
     claims st m n m' = (m.0.holds ≡ false) × MatchBool (n == st.first) (Wins m n m') (Loses m n m')
 
