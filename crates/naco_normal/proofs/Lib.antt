@@ -1,0 +1,2 @@
+pub mod LettersLemmas
+pub mod WordsLemmas

@@ -1,0 +1,4 @@
+pub mod Words
+pub mod Normal
+pub mod Shown
+pub mod Heading

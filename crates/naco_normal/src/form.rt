@@ -1,0 +1,67 @@
+//! The normal form of a text.
+ghost use Rattle.std.specs.Prelude.{◌≡◌, chars, encode_utf8_all, IfOk, OnOk};
+ghost use Rattle.naco_normal.specs.Normal.{normal_form};
+ghost use Rattle.naco_normal.specs.Words.{joined};
+
+use crate::letters::{append_letters, letters};
+use std::alloc::Global;
+use union_base::bytes::Bytes;
+use union_base::memory::Memory;
+
+/// What becomes of the commas of a text.
+#[derive(Clone, Copy, Debug, PartialEq, Eq)]
+pub enum Comma {
+    /// The first comma is kept where a letter or number stands after it, as in a name.
+    First,
+    /// No comma is kept, as in a title.
+    None,
+}
+
+impl Comma {
+    ghost use Rattle.naco_normal.specs.Shown.{keeps_first};
+
+    /// Whether the first comma is awaited.
+    pub(crate) fn keeps_first(self) -> bool
+        ensures { result ≡ keeps_first self }
+    {
+        match self {
+            Comma::First => true,
+            Comma::None => false,
+        }
+    }
+}
+
+/// The normal form of the text.
+pub fn normal(alloc: Global, text: &str, comma: Comma) -> Result<Bytes, Memory>
+    ensures { IfOk result (λ b. b ≡ encode_utf8_all (normal_form comma (chars text.now))) }
+{
+    let mut form = Vec::with_capacity(alloc, text.len())?;
+    append_form(alloc, &mut form, text, comma)?;
+    Ok(Bytes::from(form))
+}
+
+/// Appends the form of the text, behind one blank where neither is empty.
+pub(crate) fn append_form(
+    alloc: Global,
+    form: &mut Vec<u8>,
+    text: &str,
+    comma: Comma,
+) -> Result<(), Memory>
+    ensures { OnOk result (form.new.items ≡ joined form.old.items (encode_utf8_all (normal_form comma (chars text.now)))) }
+{
+    append_any(alloc, form, text, comma)
+}
+
+/// The same by the steps on characters of every kind.
+fn append_any(alloc: Global, form: &mut Vec<u8>, text: &str, comma: Comma) -> Result<(), Memory>
+    ensures { OnOk result (form.new.items ≡ joined form.old.items (encode_utf8_all (normal_form comma (chars text.now)))) }
+{
+    let characters = characters(alloc, text)?;
+    append_letters(form, &letters(alloc, &characters)?, comma)
+}
+
+fn characters(alloc: Global, text: &str) -> Result<Vec<char>, Memory>
+    ensures { IfOk result (λ v. v.items ≡ chars text.now) }
+{
+    Ok(text.chars().collect(alloc)?)
+}
