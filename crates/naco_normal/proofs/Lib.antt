@@ -1,2 +1,4 @@
 pub mod LettersLemmas
 pub mod WordsLemmas
+pub mod PartsLemmas
+pub mod SkipLemmas

@@ -71,14 +71,14 @@ read_on-words text gap awaiting (c ∷ cs) =
 
 -- ---- two texts with a blank between them
 
-joined-nil : (text : List ℕ) → joined [] text ≡ text
+pub joined-nil : (text : List ℕ) → joined [] text ≡ text
 joined-nil [] = refl
 joined-nil (c ∷ cs) = refl
 
 regroup : (a b s d : List ℕ) → ((a ++ b) ++ s) ++ d ≡ a ++ ((b ++ s) ++ d)
 regroup a b s d = ap (λ l. l ++ d) (append_assoc a b s) ∙ append_assoc a (b ++ s) d
 
-joined_assoc : (a b d : List ℕ) → joined (joined a b) d ≡ joined a (joined b d)
+pub joined_assoc : (a b d : List ℕ) → joined (joined a b) d ≡ joined a (joined b d)
 joined_assoc a [] d = ap (joined a) (sym (joined-nil d))
 joined_assoc a (b ∷ bs) [] = refl
 joined_assoc [] (b ∷ bs) (d ∷ ds) = refl

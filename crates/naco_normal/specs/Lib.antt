@@ -2,3 +2,4 @@ pub mod Words
 pub mod Normal
 pub mod Shown
 pub mod Heading
+pub mod Parts

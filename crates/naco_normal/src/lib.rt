@@ -2,5 +2,6 @@
 #![tactic(auto)]
 
 pub mod form;
+pub mod heading;
 mod letters;
 mod words;
