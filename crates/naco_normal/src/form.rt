@@ -3,6 +3,7 @@ ghost use Rattle.std.specs.Prelude.{◌≡◌, chars, encode_utf8_all, IfOk, OnO
 ghost use Rattle.naco_normal.specs.Normal.{normal_form};
 ghost use Rattle.naco_normal.specs.Words.{joined};
 
+use crate::ascii::append_ascii;
 use crate::letters::{append_letters, letters};
 use std::alloc::Global;
 use union_base::bytes::Bytes;
@@ -49,7 +50,11 @@ pub(crate) fn append_form(
 ) -> Result<(), Memory>
     ensures { OnOk result (form.new.items ≡ joined form.old.items (encode_utf8_all (normal_form comma (chars text.now)))) }
 {
-    append_any(alloc, form, text, comma)
+    if text.is_ascii() {
+        append_ascii(form, text.as_bytes(), comma)
+    } else {
+        append_any(alloc, form, text, comma)
+    }
 }
 
 /// The same by the steps on characters of every kind.

@@ -3,5 +3,6 @@
 
 pub mod form;
 pub mod heading;
+mod ascii;
 mod letters;
 mod words;

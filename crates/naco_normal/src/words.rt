@@ -1,5 +1,5 @@
 //! Words in a row, with one blank between them.
-ghost use Rattle.std.specs.Prelude.{◌≡◌, ◌++◌, encode_utf8, if◌then◌else◌, OnOk};
+ghost use Rattle.std.specs.Prelude.{◌≡◌, [], ◌∷◌, ◌++◌, encode_utf8, if◌then◌else◌, OnOk};
 ghost use Rattle.naco_normal.specs.Words.{after_gap};
 
 use union_base::memory::Memory;
@@ -16,6 +16,23 @@ pub(crate) fn push_shown(form: &mut Vec<u8>, gap: bool, shown: bool, c: char) ->
     open_word(form, gap)?;
     let mut room = [0; 4];
     form.extend_from_slice(c.encode_utf8(&mut room).as_bytes())?;
+    Ok(())
+}
+
+/// The same of an ASCII character.
+pub(crate) fn push_shown_byte(
+    form: &mut Vec<u8>,
+    gap: bool,
+    shown: bool,
+    byte: u8,
+) -> Result<(), Memory>
+    ensures { OnOk result (form.new.items ≡ (if shown then after_gap form.old.items gap ++ byte ∷ [] else form.old.items)) }
+{
+    if !shown {
+        return Ok(());
+    }
+    open_word(form, gap)?;
+    form.push(byte)?;
     Ok(())
 }
 
