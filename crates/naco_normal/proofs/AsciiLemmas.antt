@@ -49,8 +49,10 @@ agrees_on_ascii = refl
 below_agrees : (n b : ℕ) → agree_below n ≡ true → b < n → agrees b ≡ true
 below_agrees zero b all h = absurd (omega arith)
 below_agrees (suc n) b all h =
-    elim (cases_lt b n) [ inl less ↦ below_agrees n b (and_parts (agrees n) (agree_below n) all).1 less
-                      | inr more ↦ (let last : n ≡ b = omega arith in subst (λ x. agrees x ≡ true) last (and_parts (agrees n) (agree_below n) all).0) ]
+    elim (cases_lt b n) [
+      | inl less ↦ below_agrees n b (and_parts (agrees n) (agree_below n) all).1 less
+      | inr more ↦ (let last : n ≡ b = omega arith in subst (λ x. agrees x ≡ true) last (and_parts (agrees n) (agree_below n) all).0)
+    ]
 
 -- the tests of an ASCII byte
 pub record Agree (b : ℕ) : Type 0 where
@@ -83,8 +85,8 @@ plain_ascii c h = grind (arith, nat_tests)
 folded_ascii : (bs : List ℕ) → IsAscii bs → folded bs ≡ map to_ascii_lowercase bs
 folded_ascii bs ascii =
     ap (λ l. nfkd (default_case_fold l)) (normalize-ascii Nfkd bs (All-from_ascii bs ascii))
-        ∙ ap nfkd (default_case_fold-ascii bs (All-from_ascii bs ascii))
-        ∙ normalize-ascii Nfkd (map to_ascii_lowercase bs) (All-from_ascii (map to_ascii_lowercase bs) (IsAscii-map to_ascii_lowercase bs lowercase_ascii ascii))
+    ∙ ap nfkd (default_case_fold-ascii bs (All-from_ascii bs ascii))
+    ∙ normalize-ascii Nfkd (map to_ascii_lowercase bs) (All-from_ascii (map to_ascii_lowercase bs) (IsAscii-map to_ascii_lowercase bs lowercase_ascii ascii))
 
 -- a byte in lower case, by whether it is deleted
 first_letter : (c : ℕ) (rest : List ℕ) → c < 128 → (deleted : Bool) → with_plain_letters (cond (not deleted) (c ∷ rest) rest) ≡ cond deleted (with_plain_letters rest) (c ∷ with_plain_letters rest)
@@ -98,8 +100,8 @@ lower_letters (b ∷ bs) ascii =
     let small = lowercase_ascii b (ascii 0) in
     let rest = without_deleted (map to_ascii_lowercase bs) in
     ap (λ d. with_plain_letters (cond (not d) (c ∷ rest) rest)) ((agree_on_ascii c small).deleted ∙ (agree_on_ascii b (ascii 0)).deleted_lower)
-        ∙ first_letter c rest small (is_ascii_deleted b)
-        ∙ ap (λ l. cond (is_ascii_deleted b) l (c ∷ l)) (lower_letters bs (λ i. ascii (suc i)))
+    ∙ first_letter c rest small (is_ascii_deleted b)
+    ∙ ap (λ l. cond (is_ascii_deleted b) l (c ∷ l)) (lower_letters bs (λ i. ascii (suc i)))
 
 -- the letters of an ASCII text
 pub letters-ascii : (bs : List ℕ) → IsAscii bs → letters bs ≡ ascii_letters bs
@@ -123,15 +125,15 @@ any_ascii (b ∷ bs) ascii =
     let here = agree_on_ascii b (ascii 0) in
     let number = (agree_on_ascii c small).number ∙ here.number_lower in
     any_cond (is_ascii_deleted b) c (ascii_letters bs)
-        ∙ ap (λ r. cond (is_ascii_deleted b) r (is_letter_or_number c || r)) (any_ascii bs (λ i. ascii (suc i)))
-        ∙ ap (λ n. cond (is_ascii_deleted b) (list_any is_ascii_alphanumeric bs) (n || list_any is_ascii_alphanumeric bs)) number
-        ∙ any_first b (is_ascii_deleted b) (is_ascii_alphanumeric b) (list_any is_ascii_alphanumeric bs) here.apart
+    ∙ ap (λ r. cond (is_ascii_deleted b) r (is_letter_or_number c || r)) (any_ascii bs (λ i. ascii (suc i)))
+    ∙ ap (λ n. cond (is_ascii_deleted b) (list_any is_ascii_alphanumeric bs) (n || list_any is_ascii_alphanumeric bs)) number
+    ∙ any_first b (is_ascii_deleted b) (is_ascii_alphanumeric b) (list_any is_ascii_alphanumeric bs) here.apart
 
 -- what shows in the letters is what shows in the bytes
 pub is_shown-ascii : (c : ℕ) (awaiting : Bool) (bs : List ℕ) → c < 128 → IsAscii bs → is_shown c awaiting (ascii_letters bs) ≡ is_ascii_shown c awaiting bs
 is_shown-ascii c awaiting bs h ascii =
     ap (λ any. cond (awaiting && eqb c comma_sign) any (is_kept c)) (any_ascii bs ascii)
-        ∙ ap (λ kept. cond (awaiting && eqb c comma_sign) (list_any is_ascii_alphanumeric bs) kept) (agree_on_ascii c h).kept
+    ∙ ap (λ kept. cond (awaiting && eqb c comma_sign) (list_any is_ascii_alphanumeric bs) kept) (agree_on_ascii c h).kept
 
 -- ---- reading on over bytes
 
@@ -143,7 +145,7 @@ pub read_past : (text : List ℕ) (gap awaiting : Bool) (bs : List ℕ) (i b : �
     → read_on text gap awaiting (ascii_letters (drop i bs)) ≡ read_on text gap awaiting (ascii_letters (drop (i + 1) bs))
 read_past text gap awaiting bs i b h e deleted =
     ap (λ l. read_on text gap awaiting (ascii_letters l)) (from_place bs i b h e)
-        ∙ ap (λ d. read_on text gap awaiting (cond d (ascii_letters (drop (i + 1) bs)) (to_ascii_lowercase b ∷ ascii_letters (drop (i + 1) bs)))) deleted
+    ∙ ap (λ d. read_on text gap awaiting (cond d (ascii_letters (drop (i + 1) bs)) (to_ascii_lowercase b ∷ ascii_letters (drop (i + 1) bs)))) deleted
 
 -- over any other byte
 pub read_over : (text : List ℕ) (gap awaiting : Bool) (bs : List ℕ) (i b : ℕ) → IsAscii bs → i < length bs → get_or bs i 0 ≡ b → is_ascii_deleted b ≡ false
@@ -154,9 +156,9 @@ read_over text gap awaiting bs i b ascii h e stays =
     let after = drop (i + 1) bs in
     let small = lowercase_ascii b (subst (λ x. x < 128) e (ascii i)) in
     ap (λ l. read_on text gap awaiting (ascii_letters l)) (from_place bs i b h e)
-        ∙ ap (λ d. read_on text gap awaiting (cond d (ascii_letters after) (c ∷ ascii_letters after))) stays
-        ∙ ap (λ shown. read_on (cond shown (after_gap text gap ++ encode_utf8 c) text) (not shown) (awaiting && not (eqb c comma_sign)) (ascii_letters after)) (is_shown-ascii c awaiting after small (IsAscii-drop bs (i + 1) ascii))
-        ∙ ap (λ bytes. read_on (cond (is_ascii_shown c awaiting after) (after_gap text gap ++ bytes) text) (not (is_ascii_shown c awaiting after)) (awaiting && not (eqb c comma_sign)) (ascii_letters after)) (encode_ascii c small)
+    ∙ ap (λ d. read_on text gap awaiting (cond d (ascii_letters after) (c ∷ ascii_letters after))) stays
+    ∙ ap (λ shown. read_on (cond shown (after_gap text gap ++ encode_utf8 c) text) (not shown) (awaiting && not (eqb c comma_sign)) (ascii_letters after)) (is_shown-ascii c awaiting after small (IsAscii-drop bs (i + 1) ascii))
+    ∙ ap (λ bytes. read_on (cond (is_ascii_shown c awaiting after) (after_gap text gap ++ bytes) text) (not (is_ascii_shown c awaiting after)) (awaiting && not (eqb c comma_sign)) (ascii_letters after)) (encode_ascii c small)
 
 -- the same as the loop has it: the byte in lower case, whether it shows, and the text after it
 pub read_byte : (text new : List ℕ) (gap awaiting : Bool) (bs : List ℕ) (i b letter : ℕ) (shown : Bool) → IsAscii bs → i < length bs → get_or bs i 0 ≡ b → is_ascii_deleted b ≡ false
@@ -166,9 +168,9 @@ read_byte text new gap awaiting bs i b letter shown ascii h e stays low shows ma
     let after = drop (i + 1) bs in
     let over = read_over text gap awaiting bs i b ascii h e stays in
     ap (λ t. read_on t (not shown) (awaiting && not (eqb letter comma_sign)) (ascii_letters after)) made
-        ∙ ap (λ s. read_on (cond s (after_gap text gap ++ letter ∷ []) text) (not s) (awaiting && not (eqb letter comma_sign)) (ascii_letters after)) shows
-        ∙ ap (λ x. read_on (cond (is_ascii_shown x awaiting after) (after_gap text gap ++ x ∷ []) text) (not (is_ascii_shown x awaiting after)) (awaiting && not (eqb x comma_sign)) (ascii_letters after)) low
-        ∙ sym over
+    ∙ ap (λ s. read_on (cond s (after_gap text gap ++ letter ∷ []) text) (not s) (awaiting && not (eqb letter comma_sign)) (ascii_letters after)) shows
+    ∙ ap (λ x. read_on (cond (is_ascii_shown x awaiting after) (after_gap text gap ++ x ∷ []) text) (not (is_ascii_shown x awaiting after)) (awaiting && not (eqb x comma_sign)) (ascii_letters after)) low
+    ∙ sym over
 
 -- the slice from a place on
 pub slice_rest : (bs : List ℕ) (i : ℕ) → take (length bs - i) (drop i bs) ≡ drop i bs

@@ -30,12 +30,12 @@ pub parts_of-chosen : (first : FirstPart) (seen : Bool) (codes : List ℕ) (xs :
     → parts_of first seen codes (drop i xs) ≡ joined (subfield_form first seen s) (parts_of first (seen || eqb s.code main_code) codes (drop (i + 1) xs))
 parts_of-chosen first seen codes xs i s h same e =
     ap (parts_of first seen codes) (from_place xs i s h same)
-        ∙ ap (chosen_parts first seen) (ap (λ b. cond b (s ∷ chosen codes (drop (i + 1) xs)) (chosen codes (drop (i + 1) xs))) e)
-        ∙ chosen_first first s (chosen codes (drop (i + 1) xs)) seen (eqb s.code main_code)
+    ∙ ap (chosen_parts first seen) (ap (λ b. cond b (s ∷ chosen codes (drop (i + 1) xs)) (chosen codes (drop (i + 1) xs))) e)
+    ∙ chosen_first first s (chosen codes (drop (i + 1) xs)) seen (eqb s.code main_code)
 
 -- and where it is not
 pub parts_of-other : (first : FirstPart) (seen : Bool) (codes : List ℕ) (xs : List Subfield) (i : ℕ) (s : Subfield) → i < length xs → s ≡ get_or xs i s → list_any (λ code. eqb code s.code) codes ≡ false
     → parts_of first seen codes (drop i xs) ≡ parts_of first seen codes (drop (i + 1) xs)
 parts_of-other first seen codes xs i s h same e =
     ap (parts_of first seen codes) (from_place xs i s h same)
-        ∙ ap (chosen_parts first seen) (ap (λ b. cond b (s ∷ chosen codes (drop (i + 1) xs)) (chosen codes (drop (i + 1) xs))) e)
+    ∙ ap (chosen_parts first seen) (ap (λ b. cond b (s ∷ chosen codes (drop (i + 1) xs)) (chosen codes (drop (i + 1) xs))) e)

@@ -21,5 +21,5 @@ abbrev pub parts_of : FirstPart → Bool → List ℕ → List Subfield → List
 parts_of first seen codes subfields =
     joined_words
     (if seen
-     then map (λ s. form_without_comma s.text) (chosen codes subfields)
-     else part_forms (first_form first) form_without_comma (chosen codes subfields))
+    then map (λ s. form_without_comma s.text) (chosen codes subfields)
+    else part_forms (first_form first) form_without_comma (chosen codes subfields))

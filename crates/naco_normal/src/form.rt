@@ -1,4 +1,6 @@
-//! The normal form of a text.
+//! The normal form of a text, as `normal_form` in `specs/Normal.antt` has it.
+//!
+//! A text of ASCII goes through `ascii`, any other through `letters`; both meet the same clause.
 ghost use Rattle.std.specs.Prelude.{◌≡◌, chars, encode_utf8_all, IfOk, OnOk};
 ghost use Rattle.naco_normal.specs.Normal.{normal_form};
 ghost use Rattle.naco_normal.specs.Words.{joined};
@@ -9,7 +11,7 @@ use std::alloc::Global;
 use union_base::bytes::Bytes;
 use union_base::memory::Memory;
 
-/// What becomes of the commas of a text.
+/// What becomes of the commas of a text (this project's own).
 #[derive(Clone, Copy, Debug, PartialEq, Eq)]
 pub enum Comma {
     /// The first comma is kept where a letter or number stands after it, as in a name.
@@ -32,7 +34,13 @@ impl Comma {
     }
 }
 
-/// The normal form of the text.
+/// The normal form of the text, in UTF-8, which is this project's own after NACO: compatibility decomposition, full
+/// case folding and decomposition again; marks, modifier letters and the signs `'`, `[` and `]` deleted; plain letters
+/// for `æ`, `œ`, `ø`, `đ`, `ð`, `þ`, `ł` and `ı`; letters, numbers, spacing marks and the signs `&`, `+`, `@`, `#`,
+/// `♭` and `♯` kept, and with `Comma::First` the first comma where a letter or number stands after it; every other
+/// character a blank, and the words joined by one blank. `Dvořák, Antonín,` gives `dvorak, antonin`.
+///
+/// Answers `Memory` where memory ran out.
 pub fn normal(alloc: Global, text: &str, comma: Comma) -> Result<Bytes, Memory>
     ensures { IfOk result (λ b. b ≡ encode_utf8_all (normal_form comma (chars text.now))) }
 {
@@ -65,6 +73,7 @@ fn append_any(alloc: Global, form: &mut Vec<u8>, text: &str, comma: Comma) -> Re
     append_letters(form, &letters(alloc, &characters)?, comma)
 }
 
+/// The characters of the text.
 fn characters(alloc: Global, text: &str) -> Result<Vec<char>, Memory>
     ensures { IfOk result (λ v. v.items ≡ chars text.now) }
 {

@@ -1,4 +1,5 @@
-//! The heading and the title that a field's subfields make: the forms of their texts, joined by one blank.
+//! The heading and the title that a field's subfields make: the forms of their texts, joined by one blank, as
+//! `heading_of` and `title_of` in `specs/Heading.antt` have them.
 ghost use Rattle.std.specs.Prelude.{◌≡◌, ◌==◌, ◌||◌, ℕ, false, All, IsUtf8, chars, IfOk, OnOk};
 ghost use Rattle.std.specs.List.{list_any};
 ghost use Rattle.naco_normal.specs.Heading.{heading_of, title_of, skipped};
@@ -15,7 +16,11 @@ use union_base::subfield::Subfield;
 /// The code of the subfield that begins a name or a title.
 const MAIN_CODE: u8 = b'a';
 
-/// The heading that the subfields make.
+/// The heading of a name: the forms that aren't empty, of the subfields whose code is among `codes`, in their order and
+/// with one blank between each two. The first $a keeps its first comma where a letter or number stands after it; all
+/// other commas go (this project's own, for the fields X00, X10 and X11 of MARC 21).
+///
+/// Answers `Memory` where memory ran out.
 pub fn heading(alloc: Global, subfields: &[Subfield], codes: &[u8]) -> Result<Bytes, Memory>
     requires { All (λ s. IsUtf8 s.text) subfields.now }
     ensures { IfOk result (λ b. b ≡ heading_of subfields.now codes.now) }
@@ -23,13 +28,12 @@ pub fn heading(alloc: Global, subfields: &[Subfield], codes: &[u8]) -> Result<By
     joined_forms(alloc, subfields, codes, FirstPart::WithComma)
 }
 
-/// The title that the subfields make.
-pub fn title(
-    alloc: Global,
-    subfields: &[Subfield],
-    codes: &[u8],
-    skip: u8,
-) -> Result<Bytes, Memory>
+/// The form of a title: the forms that aren't empty, of the subfields whose code is among `codes`, in their order and
+/// with one blank between each two. No comma is kept. The first $a is read behind its first `skip` characters (Unicode
+/// scalar values), where it has that many, else from its beginning (MARC 21, nonfiling characters).
+///
+/// Answers `Memory` where memory ran out.
+pub fn title(alloc: Global, subfields: &[Subfield], codes: &[u8], skip: u8) -> Result<Bytes, Memory>
     requires { All (λ s. IsUtf8 s.text) subfields.now }
     ensures { IfOk result (λ b. b ≡ title_of subfields.now codes.now skip) }
 {
@@ -78,6 +82,7 @@ fn room(subfields: &[Subfield]) -> usize {
     room
 }
 
+/// Appends the form of one subfield; `seen` says that a $a came before it.
 fn append_subfield(
     alloc: Global,
     form: &mut Vec<u8>,
@@ -96,6 +101,7 @@ fn append_subfield(
     }
 }
 
+/// Appends the form of the first $a.
 fn append_first(
     alloc: Global,
     form: &mut Vec<u8>,
@@ -110,6 +116,7 @@ fn append_first(
     }
 }
 
+/// The text of the subfield.
 fn text_of(subfield: &Subfield) -> &str
     requires { IsUtf8 subfield.now.text }
     ensures { result.now ≡ subfield.now.text }

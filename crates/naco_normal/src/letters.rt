@@ -1,4 +1,4 @@
-//! The steps of the normal form on characters of every kind.
+//! The steps of the normal form on characters of every kind, in lists of characters.
 ghost use Rattle.std.specs.Prelude.{◌≡◌, ◌++◌, ◌∷◌, [], ◌==◌, ◌||◌, ◌&&◌, encode_utf8_all, option_to_list, IfOk, OnOk};
 ghost use Rattle.std.specs.List.{list_any};
 ghost use Rattle.unicode.specs.CaseFolding.{full_fold};

@@ -1,4 +1,7 @@
-//! Words in a row, with one blank between them.
+//! Words in a row, with one blank between them, written character by character.
+//!
+//! A form is grown in place: a gap is remembered, and its one blank is written only once a character follows, so runs
+//! of blanks and blanks at the ends never come to be.
 ghost use Rattle.std.specs.Prelude.{◌≡◌, [], ◌∷◌, ◌++◌, encode_utf8, if◌then◌else◌, OnOk};
 ghost use Rattle.naco_normal.specs.Words.{after_gap};
 

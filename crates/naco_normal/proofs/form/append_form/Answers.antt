@@ -7,4 +7,4 @@ use Rattle.naco_normal.proofs.form.append_form.Goals as goal
 pub returns-then-is_ascii : goal.returns-then-is_ascii
 returns-then-is_ascii c =
     subst (λ (cs : List ℕ). OnOk c.append_ascii.result (c.append_ascii.new.form.items ≡ joined c.args.form.now.items (encode_utf8_all (normal_form c.args.comma cs))))
-        (c.as_bytes.ensures.value ∙ sym (chars-IsAscii c.args.text.now c.if-is_ascii.ensures.cases)) c.append_ascii.ensures
+    (c.as_bytes.ensures.value ∙ sym (chars-IsAscii c.args.text.now c.if-is_ascii.ensures.cases)) c.append_ascii.ensures

@@ -12,7 +12,7 @@ pub loop-subfield-preserved-then-not-contains : goal.loop-subfield-preserved-the
 loop-subfield-preserved-then-not-contains c =
     let other : list_any (λ code. eqb code c.subfield-item.result.code) c.args.codes.now ≡ false = cc (c.contains.ensures.value, c.if-not-contains.true) in
     ap (joined c.loop-subfield.form.items) (sym (parts_of-other c.args.first c.loop-subfield.seen c.args.codes.now c.args.subfields.now c.loop-subfield.subfield-index c.subfield-item.result c.loop-subfield-test.true c.subfield-item.is other))
-        ∙ c.loop-subfield.invariant
+    ∙ c.loop-subfield.invariant
 
 pub append_subfield-requires : goal.append_subfield-requires
 append_subfield-requires c =
@@ -23,6 +23,6 @@ loop-subfield-preserved c =
     let chosen : list_any (λ code. eqb code c.subfield-item.result.code) c.args.codes.now ≡ true = cc (c.contains.ensures.value, c.if-not-contains.false) in
     let rest = parts_of c.args.first (c.loop-subfield.seen || eqb c.subfield-item.result.code main_code) c.args.codes.now (drop (c.loop-subfield.subfield-index + 1) c.args.subfields.now) in
     ap (λ form. joined form rest) c.in_ok-append_subfield.ensures
-        ∙ joined_assoc c.loop-subfield.form.items (subfield_form c.args.first c.loop-subfield.seen c.subfield-item.result) rest
-        ∙ ap (joined c.loop-subfield.form.items) (sym (parts_of-chosen c.args.first c.loop-subfield.seen c.args.codes.now c.args.subfields.now c.loop-subfield.subfield-index c.subfield-item.result c.loop-subfield-test.true c.subfield-item.is chosen))
-        ∙ c.loop-subfield.invariant
+    ∙ joined_assoc c.loop-subfield.form.items (subfield_form c.args.first c.loop-subfield.seen c.subfield-item.result) rest
+    ∙ ap (joined c.loop-subfield.form.items) (sym (parts_of-chosen c.args.first c.loop-subfield.seen c.args.codes.now c.args.subfields.now c.loop-subfield.subfield-index c.subfield-item.result c.loop-subfield-test.true c.subfield-item.is chosen))
+    ∙ c.loop-subfield.invariant
