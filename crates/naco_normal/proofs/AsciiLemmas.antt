@@ -1,11 +1,11 @@
 -- On ASCII the steps on letters come to a test of each byte.
-use Rattle.std.proofs.Common.{◌≡◌, ℕ, zero, suc, ◌+◌, ◌<◌, ◌≤◌, ◌&&◌, ◌||◌, Bool, true, false, cond, not, eqb, List, [], ◌∷◌, ◌++◌, map, length, get_or, drop, All, IsAscii, refl, sym, ap, subst, ◌∙◌, encode_utf8, inl, inr, ◌-◌, take, take_all, length-drop, add-one, drop-cons, arith}
+use Rattle.std.proofs.Common.{◌≡◌, ℕ, zero, suc, ◌+◌, ◌<◌, ◌&&◌, ◌||◌, Bool, true, false, cond, not, eqb, List, [], ◌∷◌, ◌++◌, map, length, get_or, drop, IsAscii, refl, sym, ap, subst, ◌∙◌, encode_utf8, inl, inr, ◌-◌, take, take_all, length-drop, add-one, drop-cons, arith}
 use Rattle.std.proofs.lemmas.Bool.{and_parts, cases_lt}
 use Rattle.std.proofs.lemmas.Bool.Decides.{nat_tests}
 use Rattle.std.proofs.lemmas.Str.Ascii.{All-from_ascii, IsAscii-map, lowercase_ascii, encode_ascii}
 use Rattle.std.proofs.lemmas.Str.{IsAscii-drop}
 use Rattle.std.specs.Char.{is_ascii_alphanumeric, to_ascii_lowercase}
-use Rattle.std.specs.List.{filter, flat_map, list_any}
+use Rattle.std.specs.List.{list_any}
 use Rattle.ucd_category.proofs.Computing.{ucd_category}
 use Rattle.unicode_normalization.specs.Forms.{Nfkd, nfkd}
 use Rattle.unicode_normalization.proofs.FormsLemmas.{normalize-ascii}

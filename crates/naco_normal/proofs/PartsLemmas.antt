@@ -1,12 +1,12 @@
 -- The forms of subfields, one behind the other.
-use Rattle.std.proofs.Common.{◌≡◌, ℕ, suc, ◌+◌, ◌<◌, length, get_or, drop, add-one, drop-cons, ◌&&◌, ◌||◌, Bool, true, false, cond, not, eqb, List, [], ◌∷◌, ◌++◌, map, refl, sym, ap, ◌∙◌}
+use Rattle.std.proofs.Common.{◌≡◌, ℕ, suc, ◌+◌, ◌<◌, length, get_or, drop, add-one, drop-cons, ◌&&◌, ◌||◌, Bool, true, false, cond, not, eqb, List, ◌∷◌, map, sym, ap, ◌∙◌}
 use Rattle.std.specs.List.{list_any}
 use Rattle.union_base.specs.declared.subfield.Subfield.{Subfield}
 use Rattle.naco_normal.specs.declared.heading.FirstPart.{FirstPart}
 use Rattle.naco_normal.specs.Heading.{main_code, chosen, part_forms, form_without_comma}
 use Rattle.naco_normal.specs.Parts.{first_form, subfield_form, parts_of}
 use Rattle.naco_normal.specs.Words.{joined_words, joined}
-use Rattle.naco_normal.proofs.WordsLemmas.{joined_words-cons, joined_assoc}
+use Rattle.naco_normal.proofs.WordsLemmas.{joined_words-cons}
 
 -- the element at a place, and those after it
 from_place : {A : Type 0} (xs : List A) (i : ℕ) (x : A) → i < length xs → x ≡ get_or xs i x → drop i xs ≡ x ∷ drop (i + 1) xs

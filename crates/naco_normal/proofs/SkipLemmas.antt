@@ -1,5 +1,5 @@
 -- A text that is read past its first characters.
-use Rattle.std.proofs.Common.{◌≡◌, ℕ, suc, ◌+◌, ◌-◌, ◌<◌, ◌≤◌, Bool, true, false, cond, leb, List, [], ◌∷◌, ◌++◌, length, get_or, drop, encode_utf8, encode_utf8_all, IsUtf8, chars, refl, sym, ap, ◌∙◌, arith, add-one, drop-cons, length-drop}
+use Rattle.std.proofs.Common.{◌≡◌, ℕ, suc, ◌+◌, ◌<◌, ◌≤◌, true, cond, leb, List, ◌++◌, length, drop, encode_utf8, encode_utf8_all, IsUtf8, chars, sym, ap, ◌∙◌, arith, add-one, drop-cons, length-drop}
 use Rattle.std.proofs.lemmas.Bool.Decides.{nat_tests}
 use Rattle.std.proofs.lemmas.Str.{cons_from_encodes, length-le-encodes, chars_from_encodes}
 use Rattle.naco_normal.specs.Heading.{skipped}

@@ -1,5 +1,5 @@
 -- Characters that are put in a row one by one make the words joined by one blank.
-use Rattle.std.proofs.Common.{◌≡◌, ℕ, ◌+◌, ◌<◌, ◌&&◌, ◌||◌, Bool, true, false, cond, not, eqb, List, [], ◌∷◌, ◌++◌, map, length, encode_utf8, encode_utf8_all, refl, sym, ap, subst, eqb-true, ◌∙◌, append-nil, append_assoc, get_or, drop, add-one, drop-cons, arith, ◌⊎◌, inl, inr}
+use Rattle.std.proofs.Common.{◌≡◌, ℕ, ◌+◌, ◌<◌, ◌&&◌, ◌||◌, Bool, true, false, cond, not, eqb, List, [], ◌∷◌, ◌++◌, length, encode_utf8, encode_utf8_all, refl, sym, ap, subst, eqb-true, ◌∙◌, append-nil, append_assoc, get_or, drop, add-one, drop-cons, arith, ◌⊎◌, inl, inr}
 use Rattle.std.specs.List.{filter, list_any, slice_split, onto_first, join_with_byte}
 use Rattle.std.proofs.lemmas.Str.{encodes-append, encode_ascii, length-encode, len_utf8_bounds}
 use Rattle.naco_normal.specs.declared.form.Comma.{Comma}

@@ -1,4 +1,4 @@
-use Rattle.std.proofs.Common.{◌≡◌, encode_utf8_all, chars, sym, ap, ◌∙◌, zero-le, length, arith}
+use Rattle.std.proofs.Common.{chars, sym, ◌∙◌, zero-le, arith}
 use Rattle.std.specs.Str.Iter.{chars_rest}
 use Rattle.std.proofs.lemmas.Str.{encodes-chars}
 use Rattle.naco_normal.proofs.SkipLemmas.{skip_more, skip_none, skip_all}

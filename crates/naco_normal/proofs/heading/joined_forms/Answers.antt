@@ -1,4 +1,4 @@
-use Rattle.std.proofs.Common.{IsUtf8, ◌≡◌, true, false, eqb, sym, ap, subst, ◌∙◌, ◌||◌, drop, ◌+◌, rules}
+use Rattle.std.proofs.Common.{IsUtf8, ◌≡◌, true, false, eqb, sym, ap, subst, ◌∙◌, ◌||◌, drop, ◌+◌}
 use Rattle.std.specs.List.{list_any}
 use Rattle.union_base.specs.declared.subfield.Subfield.{Subfield}
 use Rattle.naco_normal.specs.Heading.{main_code}

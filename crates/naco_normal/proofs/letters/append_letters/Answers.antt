@@ -1,4 +1,4 @@
-use Rattle.std.proofs.Common.{length, ◌≤◌, drop, sym, ap, ◌∙◌, drop_of_length-le, arith}
+use Rattle.std.proofs.Common.{length, ◌≤◌, sym, ap, ◌∙◌, drop_of_length-le, arith}
 use Rattle.naco_normal.proofs.WordsLemmas.{read_on, read_on-spaced}
 use Rattle.naco_normal.proofs.letters.append_letters.Goals as goal
 

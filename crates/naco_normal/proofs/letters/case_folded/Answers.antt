@@ -1,4 +1,4 @@
-use Rattle.std.proofs.Common.{◌++◌, ap, sym, ◌∙◌, arith}
+use Rattle.std.proofs.Common.{◌++◌, ap, sym, ◌∙◌}
 use Rattle.caseless.proofs.CaselessLemmas.{default_case_fold-nil}
 use Rattle.unicode.specs.CaseFolding.{full_fold}
 use Rattle.naco_normal.proofs.LettersLemmas.{fold_more}
