@@ -1,8 +1,8 @@
 -- Control numbers with their source, in this project's own form.
-use Rattle.std.specs.Prelude.{ℕ, ◌==◌, ◌&&◌, ◌||◌, Bool, not, nat_le, if◌then◌else◌, Option, Some, None, List, codes, take, drop, length, bytes_eq, slice_index}
+use Rattle.std.specs.Prelude.{ℕ, ◌==◌, ◌&&◌, ◌||◌, Bool, not, nat_le, if◌then◌else◌, Option, Some, None, List, codes, drop, length, bytes_eq, slice_index}
 use Rattle.std.specs.List.{list_all, list_any, before_first, after_first}
 use Rattle.std.specs.Char.{is_ascii_digit}
-use Rattle.isbn_keys.specs.Text.{without_leading, trimmed}
+use Rattle.isbn_keys.specs.Text.{without_leading, trimmed, begins_with}
 
 -- ( or ) stands somewhere
 abbrev pub has_parenthesis : List ℕ → Bool
@@ -18,7 +18,7 @@ is_source source =
 
 -- the number begins with the prefix, and only digits follow it
 abbrev pub is_prefixed : List ℕ → List ℕ → Bool
-is_prefixed prefix number = bytes_eq (take (length prefix) number) prefix && list_all is_ascii_digit (drop (length prefix) number)
+is_prefixed prefix number = begins_with prefix number && list_all is_ascii_digit (drop (length prefix) number)
 
 -- without a leading ocm, ocn or on that only digits follow
 abbrev pub without_prefix : List ℕ → List ℕ
@@ -44,6 +44,6 @@ closes b = b == 0x29
 abbrev pub system_key : List ℕ → Option (List ℕ × List ℕ)
 system_key text =
     let rest = drop 1 (trimmed text) in
-    if (slice_index (trimmed text) 0 == 0x28) && list_any closes rest
+    if begins_with (codes "(") (trimmed text) && list_any closes rest
     then pair_key (before_first closes rest) (after_first closes rest)
     else None

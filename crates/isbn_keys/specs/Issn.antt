@@ -14,10 +14,12 @@ issn_weights = 8 ∷ 7 ∷ 6 ∷ 5 ∷ 4 ∷ 3 ∷ 2 ∷ 1 ∷ []
 abbrev pub is_issn : List ℕ → Bool
 is_issn cs = has_check_form 7 cs && (weighted_sum issn_weights cs % 11 == 0)
 
--- the key of an ISSN text, where it has one: its eight characters, X as a capital
+-- a capital X at the end for either
+abbrev pub with_capital : List ℕ → List ℕ
+with_capital cs = take 7 cs ++ (if is_ten (slice_index cs 7) then 0x58 else slice_index cs 7) ∷ []
+
+-- the key of an ISSN text, where it has one
 abbrev pub issn_key : List ℕ → Option (List ℕ)
 issn_key text =
     let cs = without_hyphen (number_part text) in
-    if is_issn cs
-    then Some (take 7 cs ++ (if is_ten (slice_index cs 7) then 0x58 else slice_index cs 7) ∷ [])
-    else None
+    if is_issn cs then Some (with_capital cs) else None

@@ -1,5 +1,5 @@
 -- Texts of bytes, cut and trimmed. A blank is the byte 0x20 and no other.
-use Rattle.std.specs.Prelude.{ℕ, ◌==◌, ◌||◌, ◌-◌, Bool, List, take, drop, length}
+use Rattle.std.specs.Prelude.{ℕ, ◌==◌, ◌||◌, ◌-◌, Bool, List, take, drop, length, bytes_eq}
 use Rattle.std.specs.List.{prefix_len, suffix_len, before_first}
 
 abbrev pub blank : ℕ
@@ -24,3 +24,7 @@ ends_number b = (b == blank) || (b == 0x28) || (b == 0x3A)
 -- the text without blanks at its front, up to the first blank, ( or :, or to its end
 abbrev pub number_part : List ℕ → List ℕ
 number_part text = before_first ends_number (without_leading blank text)
+
+-- the text begins with the prefix
+abbrev pub begins_with : List ℕ → List ℕ → Bool
+begins_with prefix text = bytes_eq (take (length prefix) text) prefix

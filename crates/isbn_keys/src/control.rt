@@ -4,7 +4,7 @@ ghost use Rattle.std.specs.Prelude.{◌≡◌, ◌==◌, false, true, length, dr
 ghost use Rattle.isbn_keys.specs.Control.{has_parenthesis, is_source, is_prefixed, without_prefix, number_of, pair_key, system_key};
 
 use crate::check::all_digits;
-use crate::text::{place_of, trimmed, without_leading};
+use crate::text::{cut_at, trimmed, without_leading};
 use std::alloc::Global;
 use union_base::bytes::Bytes;
 use union_base::memory::Memory;
@@ -39,14 +39,13 @@ pub fn pair(alloc: Global, source: &[u8], number: &[u8]) -> Result<Option<(Bytes
 pub fn system_number(alloc: Global, text: &[u8]) -> Result<Option<(Bytes, Bytes)>, Memory>
     ensures { IfOk result (λ key. key ≡ system_key text.now) }
 {
-    let [b'(', rest @ ..] = trimmed(text) else {
+    let Some(rest) = trimmed(text).strip_prefix(b"(") else {
         return Ok(None);
     };
-    let close = place_of(rest, b')');
-    if close == rest.len() {
-        return Ok(None);
+    match cut_at(rest, b')') {
+        Some((source, number)) => pair(alloc, source, number),
+        None => Ok(None),
     }
-    pair(alloc, &rest[..close], &rest[close + 1..])
 }
 
 /// Whether a source may stand in a key.

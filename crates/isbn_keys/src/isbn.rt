@@ -39,13 +39,14 @@ fn without_hyphens(part: &[u8]) -> Option<([u8; 13], usize)>
     let mut characters = [0; KEY_LENGTH];
     let mut len = 0;
     for c in part {
-        if *c != b'-' {
-            if len == KEY_LENGTH {
-                return None;
-            }
-            characters[len] = *c;
-            len += 1;
+        if *c == b'-' {
+            continue;
         }
+        if len == KEY_LENGTH {
+            return None;
+        }
+        characters[len] = *c;
+        len += 1;
     }
     Some((characters, len))
 }

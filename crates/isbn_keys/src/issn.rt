@@ -1,6 +1,6 @@
 //! ISSN (ISO 3297): the eight characters by which serials meet, as `issn_key` in `specs/Issn.antt` has them.
 ghost use Rattle.std.specs.Prelude.{◌≡◌, ◌≢◌, length, MatchOption};
-ghost use Rattle.isbn_keys.specs.Issn.{without_hyphen, is_issn, issn_key};
+ghost use Rattle.isbn_keys.specs.Issn.{without_hyphen, is_issn, with_capital, issn_key};
 
 use crate::check::{has_check_form, is_ten, weighted_sum};
 use crate::text::number_part;
@@ -19,14 +19,23 @@ const WEIGHTS: [u8; 8] = [8, 7, 6, 5, 4, 3, 2, 1];
 pub fn issn(text: &[u8]) -> Option<[u8; 8]>
     ensures { result ≡ issn_key text.now }
 {
-    let mut key = without_hyphen(number_part(text))?;
-    if !is_issn(&key) {
-        return None;
+    let characters = without_hyphen(number_part(text))?;
+    if is_issn(&characters) {
+        Some(with_capital(characters))
+    } else {
+        None
     }
+}
+
+/// The characters with a capital X for either.
+fn with_capital(characters: [u8; 8]) -> [u8; 8]
+    ensures { result ≡ with_capital characters }
+{
+    let mut key = characters;
     if is_ten(key[7]) {
         key[7] = b'X';
     }
-    Some(key)
+    key
 }
 
 /// The characters but a hyphen after the fourth, where that leaves as many as a key has.

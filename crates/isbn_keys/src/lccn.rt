@@ -1,9 +1,9 @@
 //! Library of Congress control numbers in one form, as `lccn_key` in `specs/Lccn.antt` has it, which is this project's
 //! own.
-ghost use Rattle.std.specs.Prelude.{◌≡◌, IfOk};
-ghost use Rattle.isbn_keys.specs.Lccn.{lccn_characters, without_hyphen, lccn_key};
+ghost use Rattle.std.specs.Prelude.{◌≡◌, ◌++◌, IfOk};
+ghost use Rattle.isbn_keys.specs.Lccn.{lccn_characters, padded, without_hyphen, lccn_key};
 
-use crate::text::{BLANK, place_of};
+use crate::text::{BLANK, cut_at, place_of};
 use std::alloc::Global;
 use union_base::bytes::Bytes;
 use union_base::memory::Memory;
@@ -43,14 +43,20 @@ fn lccn_characters(alloc: Global, text: &[u8]) -> Result<Vec<u8>, Memory>
 fn without_hyphen(alloc: Global, characters: Vec<u8>) -> Result<Vec<u8>, Memory>
     ensures { IfOk result (λ v. v.items ≡ without_hyphen characters.items) }
 {
-    let hyphen = place_of(&characters, b'-');
-    if hyphen == characters.len() {
-        return Ok(characters);
+    match cut_at(&characters, b'-') {
+        Some((prefix, serial)) => with_padding(alloc, prefix, serial),
+        None => Ok(characters),
     }
-    let serial = &characters[hyphen + 1..];
+}
+
+/// The prefix and the serial number, padded on the left.
+fn with_padding(alloc: Global, prefix: &[u8], serial: &[u8]) -> Result<Vec<u8>, Memory>
+    ensures { IfOk result (λ v. v.items ≡ prefix.now ++ padded serial.now) }
+{
     let padding = &PADDING[..PADDING.len().saturating_sub(serial.len())];
-    let mut key = Vec::with_capacity(alloc, characters.len().saturating_add(PADDING.len()))?;
-    key.extend_from_slice(&characters[..hyphen])?;
+    let room = prefix.len().saturating_add(serial.len());
+    let mut key = Vec::with_capacity(alloc, room.saturating_add(padding.len()))?;
+    key.extend_from_slice(prefix)?;
     key.extend_from_slice(padding)?;
     key.extend_from_slice(serial)?;
     Ok(key)

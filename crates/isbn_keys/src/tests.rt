@@ -3,7 +3,7 @@ use crate::control::{pair, system_number};
 use crate::isbn::isbn;
 use crate::issn::issn;
 use crate::lccn::lccn;
-use crate::text::place_of;
+use crate::text::cut_at;
 use std::test::Fail;
 use union_base::bytes::Bytes;
 
@@ -17,7 +17,7 @@ const CELL_END: u8 = b'|';
 fn isbns(rt: HostRuntime) -> Result<(), Fail> {
     let mut count: u32 = 0;
     for line in cases::ISBNS.split(|b| *b == LINE_END) {
-        if let Some((text, key)) = cut(line) {
+        if let Some((text, key)) = cut_at(line, CELL_END) {
             match isbn(text) {
                 Some(digits) => assert_eq!(rt; digits.as_slice(), key),
                 None => assert_eq!(rt; key.len(), 0, "{count}"),
@@ -33,7 +33,7 @@ fn isbns(rt: HostRuntime) -> Result<(), Fail> {
 fn issns(rt: HostRuntime) -> Result<(), Fail> {
     let mut count: u32 = 0;
     for line in cases::ISSNS.split(|b| *b == LINE_END) {
-        if let Some((text, key)) = cut(line) {
+        if let Some((text, key)) = cut_at(line, CELL_END) {
             match issn(text) {
                 Some(characters) => assert_eq!(rt; characters.as_slice(), key),
                 None => assert_eq!(rt; key.len(), 0, "{count}"),
@@ -49,7 +49,7 @@ fn issns(rt: HostRuntime) -> Result<(), Fail> {
 fn lccns(rt: HostRuntime) -> Result<(), Fail> {
     let mut count: u32 = 0;
     for line in cases::LCCNS.split(|b| *b == LINE_END) {
-        if let Some((text, key)) = cut(line) {
+        if let Some((text, key)) = cut_at(line, CELL_END) {
             match lccn(rt.alloc(), text).ok().ok_or("memory")? {
                 Some(made) => assert_eq!(rt; made.bytes(), key),
                 None => assert_eq!(rt; key.len(), 0, "{count}"),
@@ -65,8 +65,8 @@ fn lccns(rt: HostRuntime) -> Result<(), Fail> {
 fn pairs(rt: HostRuntime) -> Result<(), Fail> {
     let mut count: u32 = 0;
     for line in cases::PAIRS.split(|b| *b == LINE_END) {
-        if let Some((source, cells)) = cut(line) {
-            let (number, key) = cut(cells).ok_or("a number")?;
+        if let Some((source, cells)) = cut_at(line, CELL_END) {
+            let (number, key) = cut_at(cells, CELL_END).ok_or("a number")?;
             let made = pair(rt.alloc(), source, number).ok().ok_or("memory")?;
             assert!(rt; is_pair(&made, key), "{count}");
             count = count.saturating_add(1);
@@ -80,7 +80,7 @@ fn pairs(rt: HostRuntime) -> Result<(), Fail> {
 fn system_numbers(rt: HostRuntime) -> Result<(), Fail> {
     let mut count: u32 = 0;
     for line in cases::SYSTEM_NUMBERS.split(|b| *b == LINE_END) {
-        if let Some((text, key)) = cut(line) {
+        if let Some((text, key)) = cut_at(line, CELL_END) {
             let made = system_number(rt.alloc(), text).ok().ok_or("memory")?;
             assert!(rt; is_pair(&made, key), "{count}");
             count = count.saturating_add(1);
@@ -90,19 +90,9 @@ fn system_numbers(rt: HostRuntime) -> Result<(), Fail> {
     Ok(())
 }
 
-/// The first cell of a line and the cells after it, where there are two at least.
-fn cut(line: &[u8]) -> Option<(&[u8], &[u8])> {
-    let end = place_of(line, CELL_END);
-    if end < line.len() {
-        Some((&line[..end], &line[end + 1..]))
-    } else {
-        None
-    }
-}
-
 /// Whether the key has the two cells, or is none where both are empty.
 fn is_pair(key: &Option<(Bytes, Bytes)>, cells: &[u8]) -> bool {
-    let Some((source, number)) = cut(cells) else {
+    let Some((source, number)) = cut_at(cells, CELL_END) else {
         return false;
     };
     match key {

@@ -1,6 +1,6 @@
 //! Texts of bytes, cut and trimmed. None of it takes memory.
-ghost use Rattle.std.specs.Prelude.{◌≡◌, ◌==◌, ◌-◌, length};
-ghost use Rattle.std.specs.List.{prefix_len, suffix_len, position_or_len, before_first};
+ghost use Rattle.std.specs.Prelude.{◌≡◌, ◌==◌, ◌-◌, ◌≤◌, true, false, length, MatchOption};
+ghost use Rattle.std.specs.List.{prefix_len, suffix_len, position_or_len, list_any, before_first, after_first};
 ghost use Rattle.isbn_keys.specs.Text.{without_leading, without_trailing, trimmed, ends_number, number_part};
 
 /// The one blank that is trimmed.
@@ -31,7 +31,8 @@ pub(crate) fn number_part(text: &[u8]) -> &[u8]
 
 /// How many bytes of this value stand at the front.
 fn count_leading(text: &[u8], byte: u8) -> usize
-    ensures { result ≡ prefix_len (λ b. b == byte) text.now }
+    ensures value { result ≡ prefix_len (λ b. b == byte) text.now }
+    ensures within { result ≤ length text.now }
 {
     for (place, b) in text.iter().enumerate() {
         if *b != byte {
@@ -64,9 +65,21 @@ fn number_end(text: &[u8]) -> usize
     text.len()
 }
 
+/// What stands before and after the first byte of this value, where there is one.
+pub(crate) fn cut_at(text: &[u8], byte: u8) -> Option<(&[u8], &[u8])>
+    ensures { MatchOption result (list_any (λ b. b == byte) text.now ≡ false) (λ parts. (list_any (λ b. b == byte) text.now ≡ true) × (parts.0.now ≡ before_first (λ b. b == byte) text.now) × (parts.1.now ≡ after_first (λ b. b == byte) text.now)) }
+{
+    let place = place_of(text, byte);
+    if place == text.len() {
+        return None;
+    }
+    Some((&text[..place], &text[place + 1..]))
+}
+
 /// The first place of this value, or the text's length.
 pub(crate) fn place_of(text: &[u8], byte: u8) -> usize
-    ensures { result ≡ position_or_len (λ b. b == byte) text.now }
+    ensures value { result ≡ position_or_len (λ b. b == byte) text.now }
+    ensures within { result ≤ length text.now }
 {
     for (place, b) in text.iter().enumerate() {
         if *b == byte {
