@@ -2,6 +2,17 @@
 //! fields, each with one total order by its bytes, and the two lists that contracts see as plain lists.
 #![tactic(auto)]
 
+pub mod body;
 pub mod bytes;
+pub mod copied;
+pub mod field;
+pub mod laws;
+pub mod library_code;
 pub mod memory;
+pub mod record_id;
+pub mod sequence;
+pub mod sorted_list;
+pub mod spelled;
 pub mod subfield;
+#[cfg(test)]
+mod tests;

@@ -1,7 +1,6 @@
 //! One subfield of a data field.
-ghost use Rattle.std.specs.Prelude.{◌≡◌, IfOk};
-
 use crate::bytes::Bytes;
+use crate::copied::Copied;
 use crate::memory::Memory;
 use std::alloc::Global;
 
@@ -12,11 +11,8 @@ pub struct Subfield {
     pub text: Bytes,
 }
 
-impl Subfield {
-    /// An equal subfield.
-    pub fn copied(&self, alloc: Global) -> Result<Subfield, Memory>
-        ensures { IfOk result (λ s. s ≡ self.now) }
-    {
+impl Copied for Subfield {
+    fn copied(&self, alloc: Global) -> Result<Subfield, Memory> {
         Ok(Subfield {
             code: self.code,
             text: self.text.copied(alloc)?,

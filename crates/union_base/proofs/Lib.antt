@@ -1,0 +1,2 @@
+pub mod SortedListLaws
+pub mod SortedListMaking
