@@ -1,4 +1,4 @@
-use Rattle.std.proofs.Common.{ℕ, suc, ◌≡◌, ◌<◌, ◌+◌, ◌++◌, ◌∷◌, [], take, length, get_or, set, refl, sym, ap, ◌∙◌, add-one, length-append, length-take, length-set, arith}
+use Rattle.std.proofs.Common.{◌<◌, ◌+◌, ◌++◌, ◌∷◌, [], take, length, get_or, refl, sym, ap, ◌∙◌, add-one, length-append, length-take, length-set, arith}
 use Rattle.std.proofs.Math.Seq.{take-suc-set}
 use Rattle.isbn_keys.specs.Isbn.{without_hyphens}
 use Rattle.isbn_keys.proofs.KeyLemmas.{without_hyphens-kept, length-without_hyphens-take}

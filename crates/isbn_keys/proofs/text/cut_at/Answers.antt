@@ -1,4 +1,4 @@
-use Rattle.std.proofs.Common.{ℕ, ◌+◌, ◌<◌, Bool, eqb, take, drop, length, sym, ap, ◌∙◌, arith}
+use Rattle.std.proofs.Common.{◌+◌, ◌<◌, eqb, take, drop, length, sym, ap, ◌∙◌, arith}
 use Rattle.std.specs.List.{position_or_len}
 use Rattle.isbn_keys.proofs.CutLemmas.{list_any-none, list_any-some, slice_rest}
 use Rattle.isbn_keys.proofs.text.cut_at.Goals as goal
