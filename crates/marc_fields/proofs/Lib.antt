@@ -1,2 +1,3 @@
 pub mod AppendingLaws
 pub mod SpellingLaws
+pub mod ShapeLaws

@@ -1,3 +1,4 @@
 pub mod Shapes
 pub mod Spelling
 pub mod Appending
+pub mod Reading
