@@ -6,17 +6,10 @@ use Rattle.std.specs.Ordering.{is_lt, is_eq, eq_by_cmp, match_ordering, ordering
 use Rattle.std.specs.Cmp.{IsTotalOrder}
 use Rattle.std.specs.FinMap.{IsAntisymmetric}
 use Rattle.std.specs.List.{list_all, list_any}
+use Rattle.union_base.specs.Both.{both_true, true_both}
 use Rattle.union_base.specs.SortedLists.{is_ascending, put, union, has, have_common}
 
 -- ---- tests
-
-pub both_true : (a b : Bool) → (a && b) ≡ true → (a ≡ true) × (b ≡ true)
-both_true true b h = (refl, h)
-both_true false b h = cc
-
-pub true_both : (a b : Bool) → a ≡ true → b ≡ true → (a && b) ≡ true
-true_both true b p q = q
-true_both false b p q = cc
 
 or_swap : (a b c : Bool) → (a || (b || c)) ≡ (b || (a || c))
 or_swap true true c = refl
@@ -71,7 +64,7 @@ module _ {K : Type 0} {R : K → K → Ordering} (o : IsTotalOrder R) where
   has-put y [] q = refl
   has-put y (x ∷ xs) q =
       elim (R y x) as (λ r. R y x ≡ r → has R (match_ordering r (y ∷ x ∷ xs) (x ∷ xs) (x ∷ put R y xs)) q ≡ (eq_by_cmp R q y || (eq_by_cmp R q x || has R xs q))) [
-        Less ↦ λ e. refl
+        | Less ↦ λ e. refl
         | Equal ↦ λ e. or_once (eq_by_cmp R q y) (eq_by_cmp R q x) (has R xs q) (ap is_eq (tied_right y x q e))
         | Greater ↦ λ e. ap (λ t. eq_by_cmp R q x || t) (has-put y xs q) ∙ or_swap (eq_by_cmp R q x) (eq_by_cmp R q y) (has R xs q)
       ] refl
@@ -94,7 +87,7 @@ module _ {K : Type 0} {R : K → K → Ordering} (o : IsTotalOrder R) where
   below-put z y (x ∷ xs) e h =
       let parts = both_true (is_lt (R z x)) (below z xs) h in
       elim (R y x) as (λ r. below z (match_ordering r (y ∷ x ∷ xs) (x ∷ xs) (x ∷ put R y xs)) ≡ true) [
-        Less ↦ true_both (is_lt (R z y)) (below z (x ∷ xs)) (ap is_lt e) h
+        | Less ↦ true_both (is_lt (R z y)) (below z (x ∷ xs)) (ap is_lt e) h
         | Equal ↦ h
         | Greater ↦ true_both (is_lt (R z x)) (below z (put R y xs)) parts.0 (below-put z y xs e parts.1)
       ]
@@ -104,7 +97,7 @@ module _ {K : Type 0} {R : K → K → Ordering} (o : IsTotalOrder R) where
   is_ascending-put y (x ∷ xs) h =
       let parts = both_true (below x xs) (is_ascending R xs) h in
       elim (R y x) as (λ r. R y x ≡ r → is_ascending R (match_ordering r (y ∷ x ∷ xs) (x ∷ xs) (x ∷ put R y xs)) ≡ true) [
-        Less ↦ λ e. true_both (below y (x ∷ xs)) (is_ascending R (x ∷ xs)) (true_both (is_lt (R y x)) (below y xs) (ap is_lt e) (below_more y x xs e parts.0)) h
+        | Less ↦ λ e. true_both (below y (x ∷ xs)) (is_ascending R (x ∷ xs)) (true_both (is_lt (R y x)) (below y xs) (ap is_lt e) (below_more y x xs e parts.0)) h
         | Equal ↦ λ e. h
         | Greater ↦ λ e. true_both (below x (put R y xs)) (is_ascending R (put R y xs)) (below-put x y xs (above y x e) parts.0) (is_ascending-put y xs parts.1)
       ] refl
@@ -122,14 +115,14 @@ module _ {K : Type 0} {R : K → K → Ordering} (o : IsTotalOrder R) where
       let parts = both_true (is_lt (R x y)) (below x ys) h in
       let rest = absent x ys q parts.1 e in
       elim (R q y) as (λ r. R q y ≡ r → (is_eq r || has R ys q) ≡ false) [
-        Less ↦ λ f. rest
+        | Less ↦ λ f. rest
         | Equal ↦ λ f. let clash : true ≡ false = sym parts.0 ∙ ap is_lt (tied_right y q x (o.antisymm y q ∙ ap ordering_reverse f)) ∙ e in cc
         | Greater ↦ λ f. rest
       ] refl
 
   itself : (x : K) → R x x ≡ Equal
   itself x = elim (R x x) as (λ r. R x x ≡ r → R x x ≡ Equal) [
-    Less ↦ λ e. let clash : Less ≡ Greater = sym e ∙ o.antisymm x x ∙ ap ordering_reverse e in cc
+    | Less ↦ λ e. let clash : Less ≡ Greater = sym e ∙ o.antisymm x x ∙ ap ordering_reverse e in cc
     | Equal ↦ λ e. e
     | Greater ↦ λ e. let clash : Greater ≡ Less = sym e ∙ o.antisymm x x ∙ ap ordering_reverse e in cc
   ] refl
@@ -153,16 +146,16 @@ module _ {K : Type 0} {R : K → K → Ordering} (o : IsTotalOrder R) where
   same_ascending ties (x ∷ xs) [] a b same = let clash : false ≡ true = sym (same x) ∙ has_first x xs in cc
   same_ascending ties (x ∷ xs) (y ∷ ys) a b same =
       elim (R x y) as (λ r. R x y ≡ r → x ∷ xs ≡ y ∷ ys) [
-        Less ↦ λ e. let clash : false ≡ true = sym (has_none x y ys e b) ∙ sym (same x) ∙ has_first x xs in cc
+        | Less ↦ λ e. let clash : false ≡ true = sym (has_none x y ys e b) ∙ sym (same x) ∙ has_first x xs in cc
         | Equal ↦ λ e.
-          let first : x ≡ y = ties x y e in
-          let left = both_true (below x xs) (is_ascending R xs) a in
-          let right = both_true (below y ys) (is_ascending R ys) b in
-          let gone : (q : K) → eq_by_cmp R q x ≡ true → is_lt (R x q) ≡ false = λ q f. ap is_lt (o.antisymm x q ∙ ap ordering_reverse (eq_is (R q x) f)) in
-          let rest : xs ≡ ys = same_ascending ties xs ys left.1 right.1 (λ q. cancel (eq_by_cmp R q x) (has R xs q) (has R ys q)
+            let first : x ≡ y = ties x y e in
+            let left = both_true (below x xs) (is_ascending R xs) a in
+            let right = both_true (below y ys) (is_ascending R ys) b in
+            let gone : (q : K) → eq_by_cmp R q x ≡ true → is_lt (R x q) ≡ false = λ q f. ap is_lt (o.antisymm x q ∙ ap ordering_reverse (eq_is (R q x) f)) in
+            let rest : xs ≡ ys = same_ascending ties xs ys left.1 right.1 (λ q. cancel (eq_by_cmp R q x) (has R xs q) (has R ys q)
             (λ f. absent x xs q left.0 (gone q f)) (λ f. absent y ys q right.0 (ap (λ z. is_lt (R z q)) (sym first) ∙ gone q f))
             (same q ∙ ap (λ z. eq_by_cmp R q z || has R ys q) (sym first))) in
-          λ i. first i ∷ rest i
+            λ i. first i ∷ rest i
         | Greater ↦ λ e. let clash : false ≡ true = sym (has_none y x xs (above x y e) a) ∙ same y ∙ has_first y ys in cc
       ] refl
 
@@ -175,14 +168,14 @@ module _ {K : Type 0} {R : K → K → Ordering} (o : IsTotalOrder R) where
   pub union-commutative : IsAntisymmetric R → (xs ys : List K) → is_ascending R xs ≡ true → is_ascending R ys ≡ true → union R xs ys ≡ union R ys xs
   union-commutative ties xs ys a b =
       same_ascending ties (union R xs ys) (union R ys xs) (is_ascending-union xs ys a) (is_ascending-union ys xs b)
-        (λ q. has-union xs ys q ∙ or_comm (has R xs q) (has R ys q) ∙ sym (has-union ys xs q))
+      (λ q. has-union xs ys q ∙ or_comm (has R xs q) (has R ys q) ∙ sym (has-union ys xs q))
 
   pub union-associative : IsAntisymmetric R → (xs ys zs : List K) → is_ascending R xs ≡ true → union R (union R xs ys) zs ≡ union R xs (union R ys zs)
   union-associative ties xs ys zs a =
       same_ascending ties (union R (union R xs ys) zs) (union R xs (union R ys zs))
-        (is_ascending-union (union R xs ys) zs (is_ascending-union xs ys a)) (is_ascending-union xs (union R ys zs) a)
-        (λ q. has-union (union R xs ys) zs q ∙ ap (λ t. t || has R zs q) (has-union xs ys q) ∙ or_assoc (has R xs q) (has R ys q) (has R zs q)
-          ∙ ap (λ t. has R xs q || t) (sym (has-union ys zs q)) ∙ sym (has-union xs (union R ys zs) q))
+      (is_ascending-union (union R xs ys) zs (is_ascending-union xs ys a)) (is_ascending-union xs (union R ys zs) a)
+      (λ q. has-union (union R xs ys) zs q ∙ ap (λ t. t || has R zs q) (has-union xs ys q) ∙ or_assoc (has R xs q) (has R ys q) (has R zs q)
+      ∙ ap (λ t. has R xs q || t) (sym (has-union ys zs q)) ∙ sym (has-union xs (union R ys zs) q))
 
   -- ---- common values
 
@@ -198,7 +191,7 @@ module _ {K : Type 0} {R : K → K → Ordering} (o : IsTotalOrder R) where
   have_common-union [] ys zs = refl
   have_common-union (x ∷ xs) ys zs =
       ap (λ t. t || have_common R xs (union R ys zs)) (has-union ys zs x) ∙ ap (λ t. (has R ys x || has R zs x) || t) (have_common-union xs ys zs)
-        ∙ or_pair (has R ys x) (has R zs x) (have_common R xs ys) (have_common R xs zs)
+      ∙ or_pair (has R ys x) (has R zs x) (have_common R xs ys) (have_common R xs zs)
 
   eq_both : (x y : K) → eq_by_cmp R x y ≡ eq_by_cmp R y x
   eq_both x y = ap is_eq (o.antisymm x y) ∙ elim (R y x) as (λ r. is_eq (ordering_reverse r) ≡ is_eq r) [ Less ↦ refl | Equal ↦ refl | Greater ↦ refl ]
@@ -211,7 +204,7 @@ module _ {K : Type 0} {R : K → K → Ordering} (o : IsTotalOrder R) where
   have_common-more [] y ys = refl
   have_common-more (x ∷ xs) y ys =
       ap (λ t. (t || has R ys x) || have_common R xs (y ∷ ys)) (eq_both x y) ∙ ap (λ t. (eq_by_cmp R y x || has R ys x) || t) (have_common-more xs y ys)
-        ∙ or_pair (eq_by_cmp R y x) (has R ys x) (has R xs y) (have_common R xs ys)
+      ∙ or_pair (eq_by_cmp R y x) (has R ys x) (has R xs y) (have_common R xs ys)
 
   pub have_common-symmetric : (xs ys : List K) → have_common R xs ys ≡ have_common R ys xs
   have_common-symmetric [] ys = sym (have_common-none ys)
@@ -239,15 +232,15 @@ module _ {K : Type 0} {R : K → K → Ordering} (o : IsTotalOrder R) where
         let right = both_true (below y ys) (is_ascending R ys) b in
         let under : below x (y ∷ ys) ≡ true = true_both (is_lt (R x y)) (below x ys) (ap is_lt e) (below_more x y ys e right.0) in
         same_ascending ties (union R (x ∷ xs) (y ∷ ys)) (x ∷ union R xs (y ∷ ys)) (is_ascending-union (x ∷ xs) (y ∷ ys) a)
-          (true_both (below x (union R xs (y ∷ ys))) (is_ascending R (union R xs (y ∷ ys))) (below-union x xs (y ∷ ys) left.0 under) (is_ascending-union xs (y ∷ ys) left.1))
-          (λ q. has-union (x ∷ xs) (y ∷ ys) q ∙ or_assoc (eq_by_cmp R q x) (has R xs q) (has R (y ∷ ys) q) ∙ ap (λ t. eq_by_cmp R q x || t) (sym (has-union xs (y ∷ ys) q)))
+        (true_both (below x (union R xs (y ∷ ys))) (is_ascending R (union R xs (y ∷ ys))) (below-union x xs (y ∷ ys) left.0 under) (is_ascending-union xs (y ∷ ys) left.1))
+        (λ q. has-union (x ∷ xs) (y ∷ ys) q ∙ or_assoc (eq_by_cmp R q x) (has R xs q) (has R (y ∷ ys) q) ∙ ap (λ t. eq_by_cmp R q x || t) (sym (has-union xs (y ∷ ys) q)))
 
     union-greater : (x y : K) (xs ys : List K) → R x y ≡ Greater → is_ascending R (x ∷ xs) ≡ true → is_ascending R (y ∷ ys) ≡ true
         → union R (x ∷ xs) (y ∷ ys) ≡ y ∷ union R (x ∷ xs) ys
     union-greater x y xs ys e a b =
         let right = both_true (below y ys) (is_ascending R ys) b in
         union-commutative ties (x ∷ xs) (y ∷ ys) a b ∙ union-less y x ys xs (above x y e) b a
-          ∙ ap (λ zs. y ∷ zs) (union-commutative ties ys (x ∷ xs) right.1 a)
+        ∙ ap (λ zs. y ∷ zs) (union-commutative ties ys (x ∷ xs) right.1 a)
 
     union-equal : (x y : K) (xs ys : List K) → R x y ≡ Equal → is_ascending R (x ∷ xs) ≡ true → is_ascending R (y ∷ ys) ≡ true
         → union R (x ∷ xs) (y ∷ ys) ≡ x ∷ union R xs ys
@@ -257,14 +250,14 @@ module _ {K : Type 0} {R : K → K → Ordering} (o : IsTotalOrder R) where
         let same : x ≡ y = ties x y e in
         let under : below x ys ≡ true = ap (λ z. below z ys) same ∙ right.0 in
         same_ascending ties (union R (x ∷ xs) (y ∷ ys)) (x ∷ union R xs ys) (is_ascending-union (x ∷ xs) (y ∷ ys) a)
-          (true_both (below x (union R xs ys)) (is_ascending R (union R xs ys)) (below-union x xs ys left.0 under) (is_ascending-union xs ys left.1))
-          (λ q. has-union (x ∷ xs) (y ∷ ys) q ∙ ap (λ z. (eq_by_cmp R q x || has R xs q) || (eq_by_cmp R q z || has R ys q)) (sym same)
-            ∙ or_pair (eq_by_cmp R q x) (has R xs q) (eq_by_cmp R q x) (has R ys q)
-            ∙ ap (λ t. t || (has R xs q || has R ys q)) (or_self (eq_by_cmp R q x)) ∙ ap (λ t. eq_by_cmp R q x || t) (sym (has-union xs ys q)))
+        (true_both (below x (union R xs ys)) (is_ascending R (union R xs ys)) (below-union x xs ys left.0 under) (is_ascending-union xs ys left.1))
+        (λ q. has-union (x ∷ xs) (y ∷ ys) q ∙ ap (λ z. (eq_by_cmp R q x || has R xs q) || (eq_by_cmp R q z || has R ys q)) (sym same)
+        ∙ or_pair (eq_by_cmp R q x) (has R xs q) (eq_by_cmp R q x) (has R ys q)
+        ∙ ap (λ t. t || (has R xs q || has R ys q)) (or_self (eq_by_cmp R q x)) ∙ ap (λ t. eq_by_cmp R q x || t) (sym (has-union xs ys q)))
 
     -- a step of the merge: the smaller first value goes to the values so far
     module _ (x y : K) (xs ys left right done whole : List K) (l : left ≡ x ∷ xs) (r : right ≡ y ∷ ys)
-      (a : is_ascending R left ≡ true) (b : is_ascending R right ≡ true) (all : done ++ union R left right ≡ whole) where
+        (a : is_ascending R left ≡ true) (b : is_ascending R right ≡ true) (all : done ++ union R left right ≡ whole) where
       left_ascends : is_ascending R (x ∷ xs) ≡ true
       left_ascends = ap (is_ascending R) (sym l) ∙ a
 
@@ -300,19 +293,21 @@ module _ {K : Type 0} {R : K → K → Ordering} (o : IsTotalOrder R) where
 
   -- a step of the search for a common value: the smaller first value is in one list alone
   module _ (x y : K) (xs ys left right : List K) (l : left ≡ x ∷ xs) (r : right ≡ y ∷ ys)
-    (a : is_ascending R left ≡ true) (b : is_ascending R right ≡ true) where
+      (a : is_ascending R left ≡ true) (b : is_ascending R right ≡ true) where
     both : have_common R (x ∷ xs) (y ∷ ys) ≡ have_common R left right
     both = λ i. have_common R (sym l i) (sym r i)
 
     pub common_less : R x y ≡ Less → (is_ascending R xs ≡ true) × (have_common R xs right ≡ have_common R left right)
-    common_less e =
-        ((both_true (below x xs) (is_ascending R xs) (ap (is_ascending R) (sym l) ∙ a)).1,
-        ap (have_common R xs) r ∙ sym (ap (λ t. t || have_common R xs (y ∷ ys)) (has_none x y ys e (ap (is_ascending R) (sym r) ∙ b))) ∙ both)
+    common_less e = (
+      (both_true (below x xs) (is_ascending R xs) (ap (is_ascending R) (sym l) ∙ a)).1,
+      ap (have_common R xs) r ∙ sym (ap (λ t. t || have_common R xs (y ∷ ys)) (has_none x y ys e (ap (is_ascending R) (sym r) ∙ b))) ∙ both,
+    )
 
     pub common_greater : R x y ≡ Greater → (is_ascending R ys ≡ true) × (have_common R left ys ≡ have_common R left right)
-    common_greater e =
-        ((both_true (below y ys) (is_ascending R ys) (ap (is_ascending R) (sym r) ∙ b)).1,
-        ap (λ zs. have_common R zs ys) l ∙ sym (have_common-more (x ∷ xs) y ys ∙ ap (λ t. t || have_common R (x ∷ xs) ys) (has_none y x xs (above x y e) (ap (is_ascending R) (sym l) ∙ a))) ∙ both)
+    common_greater e = (
+      (both_true (below y ys) (is_ascending R ys) (ap (is_ascending R) (sym r) ∙ b)).1,
+      ap (λ zs. have_common R zs ys) l ∙ sym (have_common-more (x ∷ xs) y ys ∙ ap (λ t. t || have_common R (x ∷ xs) ys) (has_none y x xs (above x y e) (ap (is_ascending R) (sym l) ∙ a))) ∙ both,
+    )
 
     pub common_equal : R x y ≡ Equal → true ≡ have_common R left right
     common_equal e = sym (ap (λ o. (is_eq o || has R ys x) || have_common R xs (y ∷ ys)) e) ∙ both

@@ -10,8 +10,9 @@ use Rattle.std.specs.List.Sorted.{IsSorted, IsStrictlySortedBy, IsPermutation}
 use Rattle.std.proofs.lemmas.List.Kept.{IsStrictlySortedBy-dedup, Any-dedup, Contains-from_dedup}
 use Rattle.std.proofs.lemmas.List.Folds.{Any-from_list_any, list_any-from_Any}
 use Rattle.std.proofs.lemmas.List.Sorted.{list_any-IsPermutation}
+use Rattle.union_base.specs.Both.{true_both}
 use Rattle.union_base.specs.SortedLists.{is_ascending, set_of, has}
-use Rattle.union_base.proofs.SortedListLaws.{true_both, same_ascending, is_ascending-union, has-union}
+use Rattle.union_base.proofs.SortedListLaws.{same_ascending, is_ascending-union, has-union}
 
 module _ {K : Type 0} {R : K → K → Ordering} (o : IsTotalOrder R) where
   below_all : (x : K) (xs : List K) → AllByRecursion (λ y. R x y ≡ Less) xs → list_all (λ y. is_lt (R x y)) xs ≡ true
@@ -30,19 +31,19 @@ module _ {K : Type 0} {R : K → K → Ordering} (o : IsTotalOrder R) where
   has-dedup : {E : K → K → Bool} → ((x y : K) → E x y ≡ eq_by_cmp R x y) → IsEquivalence E → (xs : List K) (q : K) → has R (dedup E xs) q ≡ has R xs q
   has-dedup {E} ties equivalence xs q =
       both_ways (has R (dedup E xs) q) (has R xs q)
-        (λ h.
-          let some = Any-from_list_any (eq_by_cmp R q) (dedup E xs) h in
-          let there = Contains-from_dedup E xs some.1 (some.0, some.2, some.3) in
-          list_any-from_Any (eq_by_cmp R q) xs (there.0, some.1, there.1, there.2, some.4))
-        (λ h.
-          let some = Any-from_list_any (eq_by_cmp R q) xs h in
-          let kept = Any-dedup equivalence xs some.1 (some.0, some.2, some.3) in
-          list_any-from_Any (eq_by_cmp R q) (dedup E xs)
-            (kept.0, kept.1, kept.2, kept.3, (eq_by_cmp_equiv o).congr q some.1 kept.1 some.4 ∙ sym (ties some.1 kept.1) ∙ kept.4))
+      (λ h.
+      let some = Any-from_list_any (eq_by_cmp R q) (dedup E xs) h in
+      let there = Contains-from_dedup E xs some.1 (some.0, some.2, some.3) in
+      list_any-from_Any (eq_by_cmp R q) xs (there.0, some.1, there.1, there.2, some.4))
+      (λ h.
+      let some = Any-from_list_any (eq_by_cmp R q) xs h in
+      let kept = Any-dedup equivalence xs some.1 (some.0, some.2, some.3) in
+      list_any-from_Any (eq_by_cmp R q) (dedup E xs)
+      (kept.0, kept.1, kept.2, kept.3, (eq_by_cmp_equiv o).congr q some.1 kept.1 some.4 ∙ sym (ties some.1 kept.1) ∙ kept.4))
 
   -- a list that was sorted and rid of repeats is its set
   pub set_of-from_sort : IsAntisymmetric R → {E : K → K → Bool} → ((x y : K) → E x y ≡ eq_by_cmp R x y) → IsEquivalence E
       → (list sorted : List K) → IsPermutation list sorted → IsSorted R sorted → dedup E sorted ≡ set_of R list
   set_of-from_sort apart {E} ties equivalence list sorted moved order =
       same_ascending o apart (dedup E sorted) (set_of R list) (ascending-dedup ties sorted order) (is_ascending-union o [] list refl)
-        (λ q. has-dedup ties equivalence sorted q ∙ sym (list_any-IsPermutation (eq_by_cmp R q) list sorted moved) ∙ sym (has-union o [] list q))
+      (λ q. has-dedup ties equivalence sorted q ∙ sym (list_any-IsPermutation (eq_by_cmp R q) list sorted moved) ∙ sym (has-union o [] list q))

@@ -1,7 +1,7 @@
 -- What a MARC field is made of, and how it is spelled in a record.
 use Rattle.std.specs.Prelude.{ℕ, Bool, not, ◌&&◌, ◌||◌, ◌==◌, nat_le, List, ◌∷◌, ◌++◌, length, slice_index}
 use Rattle.std.specs.List.{list_all, flat_map}
-use Rattle.union_base.specs.LibraryCodes.{is_digit, is_capital}
+use Rattle.std.specs.Char.{is_ascii_alphanumeric}
 use Rattle.union_base.specs.declared.subfield.Subfield.{Subfield}
 use Rattle.union_base.specs.declared.body.Body.{Body}
 use Rattle.union_base.specs.declared.body.Body.TheVariants.{Control, Data}
@@ -18,7 +18,7 @@ delimiter = 0x1F
 
 -- an ASCII letter or digit
 abbrev pub is_tag_byte : ℕ → Bool
-is_tag_byte b = (is_digit b || is_capital b) || (nat_le 0x61 b && nat_le b 0x7A)
+is_tag_byte b = is_ascii_alphanumeric b
 
 -- a tag: three ASCII letters or digits
 abbrev pub is_tag : List ℕ → Bool

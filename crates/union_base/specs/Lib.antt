@@ -1,5 +1,9 @@
+pub mod Both
+pub mod FieldLaws
 pub mod FieldOrder
 pub mod Fields
+pub mod IdLaws
 pub mod LibraryCodes
 pub mod SortedLists
 pub mod SpelledBytes
+pub mod Ties

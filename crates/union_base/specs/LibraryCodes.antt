@@ -1,5 +1,6 @@
 -- Which texts are library codes, and how one lies in its sixteen bytes.
 use Rattle.std.specs.Prelude.{◌≡◌, ℕ, ◌+◌, ◌-◌, ◌≤◌, Bool, ◌&&◌, ◌||◌, nat_le, IsTrue, List, length, take, drop, ◌++◌, replicate}
+use Rattle.std.specs.Char.{is_ascii_digit, is_ascii_uppercase}
 use Rattle.std.specs.List.{list_all}
 use Rattle.std.proofs.Common.{sym, ◌∙◌, ap, subst, arith, length-append, length-drop, refl}
 use Rattle.std.proofs.lemmas.Bool.Decides.{nat_tests}
@@ -10,17 +11,9 @@ use Rattle.std.proofs.Math.Seq.{take-append_seam}
 abbrev pub longest_code : ℕ
 longest_code = 16
 
--- an ASCII digit
-abbrev pub is_digit : ℕ → Bool
-is_digit b = nat_le 0x30 b && nat_le b 0x39
-
--- an ASCII capital letter
-abbrev pub is_capital : ℕ → Bool
-is_capital b = nat_le 0x41 b && nat_le b 0x5A
-
 -- a byte that may stand in a code
 abbrev pub may_stand : ℕ → Bool
-may_stand b = is_capital b || is_digit b
+may_stand b = is_ascii_uppercase b || is_ascii_digit b
 
 -- one to sixteen capitals and digits
 abbrev pub is_library_code : List ℕ → Bool

@@ -6,8 +6,10 @@ ghost use Rattle.std.specs.Cmp.{partial_equiv_from_equiv};
 
 use crate::copied::Copied;
 use crate::memory::Memory;
+use crate::sorted_list::Element;
 use std::alloc::Global;
 use std::cmp::Ordering;
+use std::hash::{Hash, Hasher};
 use std::marker::Model;
 
 /// An owned byte text, which contracts see as a list of bytes. Texts are ordered as lists, byte by byte.
@@ -91,5 +93,25 @@ impl Ord for Bytes {
 
     fn cmp(&self, other: &Bytes) -> Ordering {
         self.bytes().cmp(other.bytes())
+    }
+}
+
+impl Element for Bytes {
+    ghost use Rattle.union_base.specs.Ties.{texts_apart};
+
+    ghost ties = { texts_apart };
+}
+
+impl Hash for Bytes {
+    ghost use Rattle.std.specs.Hash as fed;
+    ghost use Rattle.std.specs.Cmp.Rules.{hashing};
+    ghost use Rattle.std.proofs.Common.{rules};
+
+    ghost hash_input = { fed.slice fed.u8 };
+
+    ghost respects_eq = { Prim.search (hashing, rules) };
+
+    fn hash<H: Hasher>(&self, state: &mut H) {
+        self.bytes().hash(state);
     }
 }

@@ -5,6 +5,7 @@ ghost use Rattle.union_base.specs.Fields.{is_field};
 use crate::body::Body;
 use crate::copied::Copied;
 use crate::memory::Memory;
+use crate::sorted_list::Element;
 use crate::spelled::compare_spelled;
 use std::alloc::Global;
 use std::cmp::Ordering;
@@ -87,4 +88,10 @@ impl Ord for Field {
             unequal => unequal,
         }
     }
+}
+
+impl Element for Field {
+    ghost use Rattle.union_base.specs.FieldLaws.{field_cmp-IsAntisymmetric};
+
+    ghost ties = { field_cmp-IsAntisymmetric };
 }

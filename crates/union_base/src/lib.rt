@@ -14,3 +14,5 @@ pub mod sequence;
 pub mod sorted_list;
 pub mod spelled;
 pub mod subfield;
+#[cfg(test)]
+mod tests;

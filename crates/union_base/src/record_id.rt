@@ -3,6 +3,7 @@ use crate::bytes::Bytes;
 use crate::copied::Copied;
 use crate::library_code::LibraryCode;
 use crate::memory::Memory;
+use crate::sorted_list::Element;
 use std::alloc::Global;
 
 /// A record's library and its control number there (MARC 21, field 001), ordered by the library's code, then by the bytes
@@ -20,4 +21,10 @@ impl Copied for RecordId {
             control: self.control.copied(alloc)?,
         })
     }
+}
+
+impl Element for RecordId {
+    ghost use Rattle.union_base.specs.IdLaws.{ids_apart};
+
+    ghost ties = { ids_apart };
 }

@@ -17,6 +17,18 @@ pub trait Element: Ord + Copied {
     ghost ties: { IsAntisymmetric Self.cmp };
 }
 
+impl<const N: usize> Element for [u8; N] {
+    ghost use Rattle.union_base.specs.Ties.{texts_apart};
+
+    ghost ties = { texts_apart };
+}
+
+impl<A: Element, B: Element> Element for (A, B) {
+    ghost use Rattle.union_base.specs.Ties.{pairs_apart};
+
+    ghost ties = { pairs_apart A.ties B.ties };
+}
+
 /// Values in ascending order, each once, which contracts see as a list.
 #[derive(Debug, Drop)]
 pub struct SortedList<K: Element> {
@@ -114,8 +126,7 @@ fn merged<K: Element>(alloc: Global, one: &[K], other: &[K]) -> Result<Vec<K>, M
             }
             Ordering::Equal => {
                 items.push(x.copied(alloc)?)?;
-                left = lefts;
-                right = rights;
+                (left, right) = (lefts, rights);
             }
             Ordering::Greater => {
                 items.push(y.copied(alloc)?)?;

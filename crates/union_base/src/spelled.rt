@@ -6,12 +6,9 @@ ghost use Rattle.std.specs.Iterator.{YieldsFirst, item_count};
 ghost use Rattle.union_base.specs.Fields.{spelled};
 ghost use Rattle.union_base.specs.SpelledBytes.{bytes_left};
 
-use crate::body::Body;
+use crate::body::{Body, DELIMITER};
 use crate::subfield::Subfield;
 use std::cmp::Ordering;
-
-/// Begins a subfield (ISO 2709).
-pub const DELIMITER: u8 = 0x1F;
 
 /// The bytes of a field as they stand in a record, without the terminator: a control field's text, or the indicators and
 /// each subfield behind its delimiter. Takes no memory.

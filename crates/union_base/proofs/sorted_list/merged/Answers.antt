@@ -8,26 +8,26 @@ pub loop-x-preserved-in_ok-push-in-Less : goal.loop-x-preserved-in_ok-push-in-Le
 loop-x-preserved-in_ok-push-in-Less g c =
     record {
       left = left_rest g.met.K.Ord.total g.met.K.Element.ties c.in-Some-Some.x.now c.in-Some-Some.y.now c.in-Some-Some.lefts.now c.in-Some-Some.rights.now
-        c.loop-x.left.now c.loop-x.right.now c.loop-x.items.items _ c.in-Some-Some.ensures.cases.0 c.in-Some-Some.ensures'.cases.0
-        c.loop-x.invariant.left c.loop-x.invariant.right c.loop-x.invariant.all;
+          c.loop-x.left.now c.loop-x.right.now c.loop-x.items.items _ c.in-Some-Some.ensures.cases.0 c.in-Some-Some.ensures'.cases.0
+          c.loop-x.invariant.left c.loop-x.invariant.right c.loop-x.invariant.all;
       right = c.loop-x.invariant.right;
       all = rw (c.in_ok-push-in-Less.ensures.items, c.in_ok-copied-in-Less.ensures) (merged_less g.met.K.Ord.total g.met.K.Element.ties c.in-Some-Some.x.now c.in-Some-Some.y.now c.in-Some-Some.lefts.now c.in-Some-Some.rights.now
-        c.loop-x.left.now c.loop-x.right.now c.loop-x.items.items _ c.in-Some-Some.ensures.cases.0 c.in-Some-Some.ensures'.cases.0
-        c.loop-x.invariant.left c.loop-x.invariant.right c.loop-x.invariant.all (sym c.in-Less.ensures));
+          c.loop-x.left.now c.loop-x.right.now c.loop-x.items.items _ c.in-Some-Some.ensures.cases.0 c.in-Some-Some.ensures'.cases.0
+          c.loop-x.invariant.left c.loop-x.invariant.right c.loop-x.invariant.all (sym c.in-Less.ensures));
     }
 
 pub loop-x-preserved-in_ok-push-in-Equal : goal.loop-x-preserved-in_ok-push-in-Equal
 loop-x-preserved-in_ok-push-in-Equal g c =
     record {
       left = left_rest g.met.K.Ord.total g.met.K.Element.ties c.in-Some-Some.x.now c.in-Some-Some.y.now c.in-Some-Some.lefts.now c.in-Some-Some.rights.now
-        c.loop-x.left.now c.loop-x.right.now c.loop-x.items.items _ c.in-Some-Some.ensures.cases.0 c.in-Some-Some.ensures'.cases.0
-        c.loop-x.invariant.left c.loop-x.invariant.right c.loop-x.invariant.all;
+          c.loop-x.left.now c.loop-x.right.now c.loop-x.items.items _ c.in-Some-Some.ensures.cases.0 c.in-Some-Some.ensures'.cases.0
+          c.loop-x.invariant.left c.loop-x.invariant.right c.loop-x.invariant.all;
       right = right_rest g.met.K.Ord.total g.met.K.Element.ties c.in-Some-Some.x.now c.in-Some-Some.y.now c.in-Some-Some.lefts.now c.in-Some-Some.rights.now
-        c.loop-x.left.now c.loop-x.right.now c.loop-x.items.items _ c.in-Some-Some.ensures.cases.0 c.in-Some-Some.ensures'.cases.0
-        c.loop-x.invariant.left c.loop-x.invariant.right c.loop-x.invariant.all;
+          c.loop-x.left.now c.loop-x.right.now c.loop-x.items.items _ c.in-Some-Some.ensures.cases.0 c.in-Some-Some.ensures'.cases.0
+          c.loop-x.invariant.left c.loop-x.invariant.right c.loop-x.invariant.all;
       all = rw (c.in_ok-push-in-Equal.ensures.items, c.in_ok-copied-in-Equal.ensures) (merged_equal g.met.K.Ord.total g.met.K.Element.ties c.in-Some-Some.x.now c.in-Some-Some.y.now c.in-Some-Some.lefts.now c.in-Some-Some.rights.now
-        c.loop-x.left.now c.loop-x.right.now c.loop-x.items.items _ c.in-Some-Some.ensures.cases.0 c.in-Some-Some.ensures'.cases.0
-        c.loop-x.invariant.left c.loop-x.invariant.right c.loop-x.invariant.all (sym c.in-Equal.ensures));
+          c.loop-x.left.now c.loop-x.right.now c.loop-x.items.items _ c.in-Some-Some.ensures.cases.0 c.in-Some-Some.ensures'.cases.0
+          c.loop-x.invariant.left c.loop-x.invariant.right c.loop-x.invariant.all (sym c.in-Equal.ensures));
     }
 
 pub loop-x-preserved : goal.loop-x-preserved
@@ -35,19 +35,19 @@ loop-x-preserved g c =
     record {
       left = c.loop-x.invariant.left;
       right = right_rest g.met.K.Ord.total g.met.K.Element.ties c.in-Some-Some.x.now c.in-Some-Some.y.now c.in-Some-Some.lefts.now c.in-Some-Some.rights.now
-        c.loop-x.left.now c.loop-x.right.now c.loop-x.items.items _ c.in-Some-Some.ensures.cases.0 c.in-Some-Some.ensures'.cases.0
-        c.loop-x.invariant.left c.loop-x.invariant.right c.loop-x.invariant.all;
+          c.loop-x.left.now c.loop-x.right.now c.loop-x.items.items _ c.in-Some-Some.ensures.cases.0 c.in-Some-Some.ensures'.cases.0
+          c.loop-x.invariant.left c.loop-x.invariant.right c.loop-x.invariant.all;
       all = rw (c.in_ok-push-in-Greater.ensures.items, c.in_ok-copied-in-Greater.ensures) (merged_greater g.met.K.Ord.total g.met.K.Element.ties c.in-Some-Some.x.now c.in-Some-Some.y.now c.in-Some-Some.lefts.now c.in-Some-Some.rights.now
-        c.loop-x.left.now c.loop-x.right.now c.loop-x.items.items _ c.in-Some-Some.ensures.cases.0 c.in-Some-Some.ensures'.cases.0
-        c.loop-x.invariant.left c.loop-x.invariant.right c.loop-x.invariant.all (sym c.in-Greater.ensures));
+          c.loop-x.left.now c.loop-x.right.now c.loop-x.items.items _ c.in-Some-Some.ensures.cases.0 c.in-Some-Some.ensures'.cases.0
+          c.loop-x.invariant.left c.loop-x.invariant.right c.loop-x.invariant.all (sym c.in-Greater.ensures));
     }
 
 pub returns : goal.returns
 returns g c =
     rw (c.in_ok-push_copies-2.ensures, c.in_ok-push_copies.ensures)
-      (elim c.match-split_first.branch [
-        in_default w ↦ merged_left g.met.K.Ord.total g.met.K.Element.ties c.loop-x.items.items c.loop-x.left.now c.loop-x.right.now _
+    (elim c.match-split_first.branch [
+      | in_default w ↦ merged_left g.met.K.Ord.total g.met.K.Element.ties c.loop-x.items.items c.loop-x.left.now c.loop-x.right.now _
           (nil_from_length _ w.in_default.ensures'.cases) c.loop-x.invariant.all
-        | in_default-2 w ↦ merged_right g.met.K.Ord.total g.met.K.Element.ties c.loop-x.items.items c.loop-x.left.now c.loop-x.right.now _
+      | in_default-2 w ↦ merged_right g.met.K.Ord.total g.met.K.Element.ties c.loop-x.items.items c.loop-x.left.now c.loop-x.right.now _
           (nil_from_length _ w.in_default.ensures.cases) c.loop-x.invariant.right c.loop-x.invariant.all
-      ])
+    ])
