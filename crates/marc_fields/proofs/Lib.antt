@@ -1,3 +1,4 @@
 pub mod AppendingLaws
 pub mod SpellingLaws
 pub mod ShapeLaws
+pub mod ReadingLaws

@@ -10,12 +10,19 @@ pub record IsTerminated (bytes text : List ℕ) : Type 0 where
   pub inner : are_inner text ≡ true
   pub parts : bytes ≡ text ++ field_terminator ∷ []
 
--- the entry is spelled so, it says that its field starts there, and the bytes are the field's text, the terminator, the rest
-pub record IsLocated (spelled : List ℕ) (start : ℕ) (bytes : List ℕ) (e : Entry) (text behind : List ℕ) : Type 0 where
-  pub entry : spelled ≡ entry_bytes e
-  pub tag : is_tag e.tag ≡ true
+-- the entry says that its field starts there, and the bytes are the field's text, the field terminator, the rest
+pub record IsStored (e : Entry) (start : ℕ) (bytes text behind : List ℕ) : Type 0 where
   pub starts : e.start ≡ start
   pub size : e.length ≡ length text + 1
-  pub short : e.length ≤ longest_field
   pub inner : are_inner text ≡ true
   pub parts : bytes ≡ (text ++ field_terminator ∷ []) ++ behind
+
+-- the entry is spelled so
+pub record IsSpelled (spelled : List ℕ) (e : Entry) : Type 0 where
+  pub bytes : spelled ≡ entry_bytes e
+  pub tag : is_tag e.tag ≡ true
+  pub short : e.length ≤ longest_field
+
+-- the entry is spelled so, and its field is stored so
+abbrev pub IsLocated : List ℕ → ℕ → List ℕ → Entry → List ℕ → List ℕ → Type 0
+IsLocated spelled start bytes e text behind = IsSpelled spelled e × IsStored e start bytes text behind

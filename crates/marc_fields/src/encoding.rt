@@ -11,16 +11,9 @@ use marc_leader::codes::LeaderCodes;
 use marc_leader::entry::{ENTRY_SIZE, Entry, write_entry};
 use marc_leader::leader::{LEADER_SIZE, Leader, write_leader};
 use std::alloc::AllocError;
-use union_base::body::Body;
+use union_base::body::{Body, DELIMITER, FIELD_TERMINATOR, RECORD_TERMINATOR};
 use union_base::field::Field;
-use union_base::spelled::DELIMITER;
 use union_base::subfield::Subfield;
-
-/// Ends a field (ISO 2709).
-pub const FIELD_TERMINATOR: u8 = 0x1E;
-
-/// Ends a record (ISO 2709).
-pub const RECORD_TERMINATOR: u8 = 0x1D;
 
 /// The longest frame, in bytes: what the leader's five digits can say.
 pub const LONGEST_FRAME: usize = 99_999;

@@ -1,32 +1,17 @@
 //! The bytes of one field, read.
 ghost use Rattle.std.specs.Prelude.{◌≡◌, ◌++◌, ◌≤◌, ℕ, true, false, length, take, drop, IsTrue, IfOk, MatchOption};
 ghost use Rattle.std.specs.List.{list_all, flat_map};
-ghost use Rattle.union_base.specs.Fields.{is_tag, is_control_tag, is_indicator, is_subfield_code, is_subfield, spelled_subfield};
+ghost use Rattle.union_base.specs.Fields.{is_tag};
 ghost use Rattle.marc_fields.specs.Shapes.{are_inner, are_coded, has_control_shape, begins_with_delimiter, is_end, IsFirstSubfield, AreSubfieldsOf, has_data_shape, IsControlOf, IsDataOf, IsIndicated, has_shape, IsBodyOf, IsFieldOf};
 
 use memchr::memchr;
 use std::alloc::Global;
-use union_base::body::Body;
+use union_base::body::{Body, DELIMITER, is_control_tag, is_indicator, is_subfield_code};
 use union_base::bytes::Bytes;
 use union_base::field::Field;
 use union_base::memory::Memory;
 use union_base::sequence::Sequence;
-use union_base::spelled::DELIMITER;
 use union_base::subfield::Subfield;
-
-/// Whether the byte may stand as an indicator.
-fn is_indicator_byte(byte: u8) -> bool
-    ensures { result ≡ is_indicator byte }
-{
-    0x20 <= byte && byte <= 0x7E
-}
-
-/// Whether the byte may stand as a subfield code.
-fn is_code_byte(byte: u8) -> bool
-    ensures { result ≡ is_subfield_code byte }
-{
-    0x21 <= byte && byte <= 0x7E
-}
 
 /// How many bytes stand before the first delimiter, or how many there are.
 fn undelimited_size(bytes: &[u8]) -> usize
@@ -56,7 +41,7 @@ fn first_subfield(bytes: &[u8]) -> Option<FirstSubfield<'_>>
     let [_, code, behind @ ..] = bytes else {
         return None;
     };
-    if !is_code_byte(*code) {
+    if !is_subfield_code(*code) {
         return None;
     }
     let (text, rest) = behind.split_at(undelimited_size(behind));
@@ -124,7 +109,7 @@ fn split_indicators(bytes: &[u8]) -> Option<Indicated<'_>>
     ensures { MatchOption result (has_data_shape bytes.now ≡ false) (λ found. IsIndicated bytes.now found.ind1 found.ind2 found.rest.now) }
 {
     match bytes {
-        [ind1, ind2, rest @ ..] if is_indicator_byte(*ind1) && is_indicator_byte(*ind2) && begins_subfield(rest) => Some(Indicated {
+        [ind1, ind2, rest @ ..] if is_indicator(*ind1) && is_indicator(*ind2) && begins_subfield(rest) => Some(Indicated {
             ind1: *ind1,
             ind2: *ind2,
             rest,
@@ -161,19 +146,12 @@ fn read_data(alloc: Global, bytes: &[u8]) -> Result<Option<Body>, Memory>
     }))
 }
 
-/// Whether the tag is a control field's: it begins with `00`.
-pub fn is_control(tag: &[u8; 3]) -> bool
-    ensures { result ≡ is_control_tag tag.now }
-{
-    tag[0] == b'0' && tag[1] == b'0'
-}
-
 /// The body of a field with that tag and these bytes; None where they have not the shape that the tag asks for.
 fn read_body(alloc: Global, tag: &[u8; 3], bytes: &[u8]) -> Result<Option<Body>, Memory>
     requires inner { IsTrue (are_inner bytes.now) }
     ensures { IfOk result (λ read. MatchOption read (has_shape tag.now bytes.now ≡ false) (λ body. IsBodyOf tag.now bytes.now body)) }
 {
-    if is_control(tag) {
+    if is_control_tag(tag) {
         read_control(alloc, bytes)
     } else {
         read_data(alloc, bytes)
