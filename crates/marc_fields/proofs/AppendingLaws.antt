@@ -69,15 +69,21 @@ data-more fields i f below is =
     ap (flat_map stored) (take_one_more fields i f below is)
         ∙ (flat_map-append stored (take i fields) (f ∷ []) ∙ ap (λ t. flat_map stored (take i fields) ++ t) (append-nil (stored f)))
 
+-- the entry of one field behind others
+pub directory-push : (fields : List Field) (f : Field)
+    → flat_map entry_bytes (entries_from 0 (fields ++ f ∷ []))
+    ≡ flat_map entry_bytes (entries_from 0 fields) ++ entry_bytes (entry_at (length (flat_map stored fields)) f)
+directory-push fields f =
+    ap (flat_map entry_bytes) (entries_from-push 0 fields f)
+        ∙ (flat_map-append entry_bytes (entries_from 0 fields) _
+        ∙ (rw (append-nil, zero-add) refl))
+
 -- the entry of one more field
 pub directory-more : (fields : List Field) (i : ℕ) (f : Field) → i < length fields → f ≡ get_or fields i f
     → flat_map entry_bytes (entries_from 0 (take (i + 1) fields))
     ≡ flat_map entry_bytes (entries_from 0 (take i fields)) ++ entry_bytes (entry_at (length (flat_map stored (take i fields))) f)
 directory-more fields i f below is =
-    ap (λ fs. flat_map entry_bytes (entries_from 0 fs)) (take_one_more fields i f below is)
-        ∙ (ap (flat_map entry_bytes) (entries_from-push 0 (take i fields) f)
-        ∙ (flat_map-append entry_bytes (entries_from 0 (take i fields)) _
-        ∙ (rw (append-nil, zero-add) refl)))
+    ap (λ fs. flat_map entry_bytes (entries_from 0 fs)) (take_one_more fields i f below is) ∙ directory-push (take i fields) f
 
 -- one more entry appended
 pub directory-appended : (fields : List Field) (i : ℕ) (f : Field) (old middle new : List ℕ) (size start : ℕ)

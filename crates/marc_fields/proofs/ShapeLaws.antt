@@ -8,7 +8,8 @@ use Rattle.std.proofs.lemmas.List.{append-nil}
 use Rattle.std.proofs.lemmas.List.Folds.{list_all-append, list_all_at}
 use Rattle.std.specs.List.{flat_map, list_all}
 use Rattle.std.specs.Prelude.{◌==◌, nat_le, if◌then◌else◌}
-use Rattle.union_base.specs.Fields.{is_text, is_text_byte, is_subfield, is_subfield_code, spelled_subfield, spelled, fits_tag, is_tag, is_control_tag, is_indicator}
+use Rattle.union_base.specs.Fields.{is_text, is_text_byte, is_subfield, is_subfield_code, spelled_subfield, spelled, fits_tag, is_tag, is_control_tag, is_indicator, is_field}
+use Rattle.union_base.specs.declared.field.Field.{Field}
 use Rattle.union_base.specs.declared.body.Body.{Body}
 use Rattle.union_base.specs.declared.body.Body.TheVariants.{Control, Data}
 use Rattle.union_base.specs.declared.subfield.Subfield.{Subfield}
@@ -155,3 +156,55 @@ delimited-at bytes k below is = list_all_at (λ b. not (b == 0x1F)) bytes k 0 be
 pub undelimited-all : (bytes : List ℕ) → ((k : ℕ) → k < length bytes → (get_or bytes k 0 == 0x1F) ≡ true → ⊥) → has_control_shape bytes ≡ true
 undelimited-all bytes none =
     subst (λ b. has_control_shape b ≡ true) (take-length bytes) (undelimited-take bytes (length bytes) (omega arith) none)
+
+-- a field that was spelled has the shape that its tag asks for
+has_shape-spelled_body : (tag : List ℕ) (body : Body) → is_field tag body ≡ true → has_shape tag (spelled body) ≡ true
+has_shape-spelled_body tag (Control text) is =
+    let fits = and_parts (is_control_tag tag) (is_text text) (and_parts (is_tag tag) (fits_tag tag (Control text)) is).1 in
+    rw fits.0 (undelimited-is_text text fits.1)
+has_shape-spelled_body tag (Data ind1 ind2 []) is =
+    let fits = and_parts (not (is_control_tag tag)) _ (and_parts (is_tag tag) (fits_tag tag (Data ind1 ind2 [])) is).1 in
+    let rest = and_parts (is_indicator ind1 && is_indicator ind2) false fits.1 in
+    cc
+has_shape-spelled_body tag (Data ind1 ind2 (s ∷ subfields)) is =
+    let fits = and_parts (not (is_control_tag tag)) _ (and_parts (is_tag tag) (fits_tag tag (Data ind1 ind2 (s ∷ subfields))) is).1 in
+    let both = and_parts (is_indicator ind1 && is_indicator ind2) _ fits.1 in
+    let formed : list_all is_subfield (s ∷ subfields) ≡ true = (and_parts (nat_le 1 (length (s ∷ subfields))) (list_all is_subfield (s ∷ subfields)) both.1).1 in
+    let other : is_control_tag tag ≡ false = false_from (is_control_tag tag) fits.0 in
+    rw other (and_from _ _ both.0 (are_coded-subfields (s ∷ subfields) formed))
+  where
+    false_from : (test : Bool) → not test ≡ true → test ≡ false
+    false_from true h = sym h
+    false_from false h = refl
+
+pub has_shape-spelled : (f : Field) → has_shape f.tag (spelled f.body) ≡ true
+has_shape-spelled f = has_shape-spelled_body f.tag f.body f.well_formed
+
+-- an indicator and a code end nothing
+indicator_inner : (b : ℕ) → is_indicator b ≡ true → is_inner b ≡ true
+indicator_inner b is = grind (arith, nat_tests)
+
+code_inner : (b : ℕ) → is_subfield_code b ≡ true → is_inner b ≡ true
+code_inner b is = grind (arith, nat_tests)
+
+inner-subfields : (subfields : List Subfield) → list_all is_subfield subfields ≡ true → are_inner (flat_map spelled_subfield subfields) ≡ true
+inner-subfields [] formed = refl
+inner-subfields (s ∷ subfields) formed =
+    let parts = and_parts (is_subfield s) (list_all is_subfield subfields) formed in
+    let one = and_parts (is_subfield_code s.code) (is_text s.text) parts.0 in
+    and_from (is_inner s.code) _ (code_inner s.code one.0)
+    (list_all-append is_inner s.text (flat_map spelled_subfield subfields) ∙ and_from _ _ (inner-is_text s.text one.1) (inner-subfields subfields parts.1))
+
+-- a field's bytes have no terminator
+inner-spelled_body : (tag : List ℕ) (body : Body) → is_field tag body ≡ true → are_inner (spelled body) ≡ true
+inner-spelled_body tag (Control text) is =
+    inner-is_text text (and_parts (is_control_tag tag) (is_text text) (and_parts (is_tag tag) (fits_tag tag (Control text)) is).1).1
+inner-spelled_body tag (Data ind1 ind2 subfields) is =
+    let fits = and_parts (not (is_control_tag tag)) _ (and_parts (is_tag tag) (fits_tag tag (Data ind1 ind2 subfields)) is).1 in
+    let both = and_parts (is_indicator ind1 && is_indicator ind2) _ fits.1 in
+    let two = and_parts (is_indicator ind1) (is_indicator ind2) both.0 in
+    let formed = (and_parts (nat_le 1 (length subfields)) (list_all is_subfield subfields) both.1).1 in
+    and_from (is_inner ind1) _ (indicator_inner ind1 two.0) (and_from (is_inner ind2) _ (indicator_inner ind2 two.1) (inner-subfields subfields formed))
+
+pub inner-spelled : (f : Field) → are_inner (spelled f.body) ≡ true
+inner-spelled f = inner-spelled_body f.tag f.body f.well_formed
