@@ -10,18 +10,23 @@ use Rattle.std.specs.Char.{is_ascii_alphanumeric}
 use Rattle.std.specs.List.{flat_map, list_all}
 use Rattle.std.specs.Prelude.{◌==◌, nat_le, if◌then◌else◌, MatchOption}
 use Rattle.marc_leader.specs.Entry.{entry_text, entry_of, tag_place, size_place, start_place, is_tag as marc_is_tag}
+use Rattle.marc_leader.specs.Codes.{Codes, are_printable}
+use Rattle.marc_leader.specs.Leader.{leader_of, leader_text}
+use Rattle.marc_leader.specs.declared.leader.Leader.{Leader}
+use Rattle.marc_leader.proofs.LeaderLaws.{leader_of-text}
 use Rattle.marc_leader.specs.Numeral.{are_digits, number_of}
 use Rattle.marc_leader.specs.declared.entry.EntryRule.TheVariants.{Digits, Tag}
 use Rattle.marc_leader.specs.declared.entry.Entry.{Entry}
 use Rattle.marc_leader.proofs.EntryLaws.{entry_of-entry_text}
 use Rattle.union_base.specs.Fields.{is_tag, is_tag_byte, fits_tag, spelled as body_bytes}
 use Rattle.union_base.specs.declared.field.Field.{Field}
+use Rattle.marc_fields.specs.declared.decoding.Head.{Head}
 use Rattle.marc_fields.specs.declared.decoding.Located.{Located}
-use Rattle.marc_fields.specs.Reading.{IsTerminated, IsStored, IsSpelled, IsLocated, IsNext, LieInOrder}
+use Rattle.marc_fields.specs.Reading.{IsTerminated, IsStored, IsSpelled, IsLocated, IsNext, LieInOrder, IsHead, HasHead, IsBehind, FitsLeader}
 use Rattle.marc_fields.specs.Shapes.{is_inner, are_inner, has_shape, IsFieldOf}
-use Rattle.marc_fields.specs.Spelling.{entry_bytes, entry_at, entries_from, stored, is_short}
+use Rattle.marc_fields.specs.Spelling.{entry_bytes, entry_at, entries_from, leader_bytes, stored, is_short}
 use Rattle.marc_fields.proofs.AppendingLaws.{directory-push}
-use Rattle.marc_fields.proofs.SpellingLaws.{length-entry_bytes, length-tag}
+use Rattle.marc_fields.proofs.SpellingLaws.{length-entry_bytes, length-leader_bytes, length-tag, leader_of-printable}
 use Rattle.marc_fields.proofs.ShapeLaws.{inner-spelled, has_shape-spelled}
 
 -- a byte of a tag is a letter or a digit
@@ -259,3 +264,74 @@ order-end entries rest start [] few order = (ap length order.entries, ap length 
 order-end entries rest start (f ∷ fields) few order =
     let size : length (entry_bytes (entry_at start f)) ≡ 12 = length-entry_bytes (entry_at start f) (length-tag f) in
     absurd (omega (arith, ap length order.entries, length-append (entry_bytes (entry_at start f)) (flat_map entry_bytes (entries_from (start + length (stored f)) fields))))
+
+-- the leader of a head is read
+pub leader_of-head : (frame : List ℕ) (codes : Codes) (entries : ℕ) (rest : List ℕ) → IsHead frame codes entries rest
+    → leader_of (take 24 frame) ≡ Ok (record { length = length frame; base = 25 + 12 * entries; codes = codes })
+unfolding leader_bytes
+leader_of-head frame codes entries rest head =
+    let front : take 24 frame ≡ leader_bytes (length frame) entries codes
+        = ap (take 24) head.parts ∙ take-append_seam (leader_bytes (length frame) entries codes) rest in
+    ap leader_of front ∙ leader_of-text (length frame) (25 + 12 * entries) codes head.printable (omega (arith, head.short)) (omega (arith, head.base))
+
+-- a head has 24 bytes at least
+pub head-long : (frame : List ℕ) (codes : Codes) (entries : ℕ) (rest : List ℕ) → IsHead frame codes entries rest → 24 ≤ length frame
+head-long frame codes entries rest head =
+    omega (arith, ap length head.parts, length-append (leader_bytes (length frame) entries codes) rest, length-leader_bytes (length frame) entries codes)
+
+-- the leader that was read decides
+pub head-found : (o : Option Head) (frame rest : List ℕ) (leader : Leader) → 24 ≤ length frame → length frame ≤ 99999 → leader.base ≤ 99999
+    → leader_of (take 24 frame) ≡ Ok leader → take 24 frame ≡ leader_text leader → rest ≡ drop 24 frame
+    → MatchOption o ((entries : ℕ) → (leader.length ≡ length frame) × (leader.base ≡ 25 + 12 * entries) → ⊥)
+      (λ head. FitsLeader leader (length frame) head.codes head.directory_size × (head.rest.now ≡ rest))
+    → MatchOption o ((codes : Codes) (entries : ℕ) (rest : List ℕ) → IsHead frame codes entries rest → ⊥)
+      (λ head. HasHead frame head.codes head.directory_size head.rest.now)
+unfolding leader_bytes
+head-found None frame rest leader long short near is spelled back none = λ codes entries rest' head.
+    let Say : ℕ → ℕ → Codes → Leader = λ n b c. record { length = n; base = b; codes = c } in
+    let one : Ok leader ≡ Ok (Say (length frame) (25 + 12 * entries) codes) = sym is ∙ leader_of-head frame codes entries rest' head in
+    let same : leader ≡ Say (length frame) (25 + 12 * entries) codes = cc in
+    none entries (ap (λ (l : Leader). l.length) same, ap (λ (l : Leader). l.base) same)
+head-found (Some head) frame rest leader long short near is spelled back some =
+    let fits = some.0 in
+    let Say : ℕ → ℕ → Codes → Leader = λ n b c. record { length = n; base = b; codes = c } in
+    let same : leader ≡ Say (length frame) (25 + 12 * fits.entries) head.codes
+        = ap (λ n. Say n leader.base leader.codes) fits.length_is ∙ (ap (λ b. Say (length frame) b leader.codes) fits.base_is
+          ∙ ap (λ c. Say (length frame) (25 + 12 * fits.entries) c) (sym fits.codes_are)) in
+    let printable : are_printable leader.codes ≡ true
+        = leader_of-printable (take 24 frame) leader (omega (arith, length-take 24 frame)) is in
+    record {
+      entries = fits.entries;
+      size_is = fits.size_is;
+      head = record {
+        short = short;
+        base = omega (arith, fits.base_is, near);
+        printable = subst (λ (c : Codes). are_printable c ≡ true) (sym fits.codes_are) printable;
+        parts = sym (take-append-drop 24 frame) ∙ (ap (λ t. t ++ drop 24 frame) (spelled ∙ ap leader_text same)
+          ∙ ap (λ t. leader_text (Say (length frame) (25 + 12 * fits.entries) head.codes) ++ t) (sym back ∙ sym some.1));
+      };
+    }
+
+-- a frame has one head
+pub head-one : (frame : List ℕ) (codes codes' : Codes) (entries entries' : ℕ) (rest rest' : List ℕ) → IsHead frame codes entries rest
+    → IsHead frame codes' entries' rest' → (codes ≡ codes') × (entries ≡ entries') × (rest ≡ rest')
+head-one frame codes codes' entries entries' rest rest' one other =
+    let Say : ℕ → Codes → Leader = λ b c. record { length = length frame; base = b; codes = c } in
+    let both : Ok (Say (25 + 12 * entries) codes) ≡ Ok (Say (25 + 12 * entries') codes')
+        = sym (leader_of-head frame codes entries rest one) ∙ leader_of-head frame codes' entries' rest' other in
+    let same : Say (25 + 12 * entries) codes ≡ Say (25 + 12 * entries') codes' = cc in
+    let base = ap (λ (l : Leader). l.base) same in
+    let count : entries ≡ entries' = omega (arith, base) in
+    (ap (λ (l : Leader). l.codes) same, count,
+      rests_same (leader_bytes (length frame) entries codes) (leader_bytes (length frame) entries' codes') rest rest'
+        (length-leader_bytes (length frame) entries codes ∙ sym (length-leader_bytes (length frame) entries' codes')) (sym one.parts ∙ other.parts))
+
+-- behind a leader there are one directory and one data
+pub behind-one : (rest : List ℕ) (size : ℕ) (directory directory' bytes bytes' : List ℕ) → IsBehind rest size directory bytes
+    → IsBehind rest size directory' bytes' → (directory ≡ directory') × (bytes ≡ bytes')
+behind-one rest size directory directory' bytes bytes' one other =
+    let sizes = one.size_is ∙ sym other.size_is in
+    let both = sym one.parts ∙ other.parts in
+    let ends : 0x1E ∷ (bytes ++ 0x1D ∷ []) ≡ 0x1E ∷ (bytes' ++ 0x1D ∷ []) = rests_same directory directory' _ _ sizes both in
+    let tails : bytes ++ 0x1D ∷ [] ≡ bytes' ++ 0x1D ∷ [] = cc in
+    (fronts_same directory directory' _ _ sizes both, append_cancel_right bytes bytes' (0x1D ∷ []) tails)

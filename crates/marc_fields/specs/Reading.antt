@@ -1,11 +1,13 @@
 -- How the parts of a frame are found.
 use Rattle.std.specs.Prelude.{◌≡◌, ℕ, ◌+◌, ◌*◌, ◌≤◌, Bool, true, IsTrue, List, [], ◌∷◌, ◌++◌, length, ◌-◌}
 use Rattle.std.specs.List.{list_all, flat_map}
+use Rattle.marc_leader.specs.Codes.{Codes, are_printable}
 use Rattle.marc_leader.specs.declared.entry.Entry.{Entry}
-use Rattle.union_base.specs.Fields.{field_terminator, is_tag}
+use Rattle.marc_leader.specs.declared.leader.Leader.{Leader}
+use Rattle.union_base.specs.Fields.{field_terminator, record_terminator, is_tag}
 use Rattle.marc_fields.specs.Shapes.{are_inner}
 use Rattle.union_base.specs.declared.field.Field.{Field}
-use Rattle.marc_fields.specs.Spelling.{entry_at, entry_bytes, entries_from, is_short, longest_field, stored}
+use Rattle.marc_fields.specs.Spelling.{entry_at, entry_bytes, entries_from, is_short, leader_bytes, longest_field, longest_frame, stored}
 
 -- the bytes are the text and a field terminator
 pub record IsTerminated (bytes text : List ℕ) : Type 0 where
@@ -40,3 +42,29 @@ pub record LieInOrder (directory bytes : List ℕ) (start : ℕ) (fields : List 
   pub short : list_all is_short fields ≡ true
   pub entries : directory ≡ flat_map entry_bytes (entries_from start fields)
   pub stored : bytes ≡ flat_map stored fields
+
+-- the frame is a leader with its length, so many entries and these codes, and then the rest
+pub record IsHead (frame : List ℕ) (codes : Codes) (entries : ℕ) (rest : List ℕ) : Type 0 where
+  pub short : length frame ≤ longest_frame
+  pub base : 25 + 12 * entries ≤ longest_frame
+  pub printable : are_printable codes ≡ true
+  pub parts : frame ≡ leader_bytes (length frame) entries codes ++ rest
+
+-- the frame has such a leader, of as many entries as have so many bytes
+pub record HasHead (frame : List ℕ) (codes : Codes) (size : ℕ) (rest : List ℕ) : Type 0 where
+  pub entries : ℕ
+  pub size_is : size ≡ 12 * entries
+  pub head : IsHead frame codes entries rest
+
+-- the bytes are a directory of that size with its terminator, the data, the record terminator
+pub record IsBehind (rest : List ℕ) (size : ℕ) (directory bytes : List ℕ) : Type 0 where
+  pub size_is : length directory ≡ size
+  pub parts : rest ≡ directory ++ (field_terminator ∷ (bytes ++ record_terminator ∷ []))
+
+-- the leader has that length and those codes, and the base address of a directory of so many bytes
+pub record FitsLeader (leader : Leader) (length : ℕ) (codes : Codes) (size : ℕ) : Type 0 where
+  pub length_is : leader.length ≡ length
+  pub codes_are : codes ≡ leader.codes
+  pub entries : ℕ
+  pub size_is : size ≡ 12 * entries
+  pub base_is : leader.base ≡ 25 + 12 * entries

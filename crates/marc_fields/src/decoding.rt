@@ -1,17 +1,24 @@
 //! Frames read as records.
-ghost use Rattle.std.specs.Prelude.{◌≡◌, ◌++◌, ◌∷◌, ◌≤◌, [], List, ℕ, length, not, IsTrue, IfOk, MatchOption};
+ghost use Rattle.std.specs.Prelude.{◌≡◌, ◌+◌, ◌*◌, ◌++◌, ◌∷◌, ◌≤◌, [], List, ℕ, length, not, IsTrue, IfOk, MatchOption};
+ghost use Rattle.marc_leader.specs.Codes.{Codes};
 ghost use Rattle.marc_leader.specs.declared.entry.Entry.{Entry};
 ghost use Rattle.union_base.specs.declared.field.Field.{Field};
 ghost use Rattle.marc_fields.specs.Shapes.{are_inner};
-ghost use Rattle.marc_fields.specs.Reading.{IsTerminated, IsStored, IsLocated, IsNext, LieInOrder};
+ghost use Rattle.marc_fields.specs.Reading.{IsTerminated, IsStored, IsLocated, IsNext, LieInOrder, IsHead, HasHead, IsBehind, FitsLeader};
 
+use crate::encoding::LONGEST_FRAME;
 use crate::shape::read_field;
+use marc_leader::codes::LeaderCodes;
 use marc_leader::entry::{ENTRY_SIZE, Entry, read_entry};
+use marc_leader::leader::{LEADER_SIZE, Leader};
 use memchr::memchr2;
 use std::alloc::Global;
 use union_base::body::{FIELD_TERMINATOR, RECORD_TERMINATOR};
 use union_base::field::Field;
 use union_base::memory::Memory;
+
+/// The base address of data of a record without fields: behind the leader and the directory's terminator.
+const SMALLEST_BASE: usize = LEADER_SIZE + 1;
 
 /// The bytes in front of the field terminator; None where there is none at the end, or a terminator elsewhere.
 fn unterminated(bytes: &[u8]) -> Option<&[u8]>
@@ -124,4 +131,77 @@ fn read_fields(alloc: Global, directory: &[u8], bytes: &[u8]) -> Result<Option<V
         return Ok(None);
     }
     Ok(Some(fields))
+}
+
+/// What a leader says, and what is behind it.
+#[derive(Clone, Copy)]
+struct Head<'a> {
+    codes: LeaderCodes,
+    directory_size: usize,
+    rest: &'a [u8],
+}
+
+/// The leader of the frame; None where it is none, or does not have the frame's length and the base address of a directory.
+fn read_head(frame: &[u8]) -> Option<Head<'_>>
+    ensures { MatchOption result ((codes : Codes) (entries : ℕ) (rest : List ℕ) → IsHead frame.now codes entries rest → ⊥)
+        (λ head. HasHead frame.now head.codes head.directory_size head.rest.now) }
+{
+    if frame.len() < LEADER_SIZE || frame.len() > LONGEST_FRAME {
+        return None;
+    }
+    let (text, rest) = frame.split_at(LEADER_SIZE);
+    match Leader::read(text) {
+        Ok(leader) => head_of(&leader, frame.len(), rest),
+        Err(_) => None,
+    }
+}
+
+/// The head with that leader, where it has the frame's length and the base address of a directory.
+fn head_of<'a>(leader: &Leader, size: usize, rest: &'a [u8]) -> Option<Head<'a>>
+    ensures { MatchOption result ((entries : ℕ) → (leader.now.length ≡ size) × (leader.now.base ≡ 25 + 12 * entries) → ⊥)
+        (λ head. FitsLeader leader.now size head.codes head.directory_size × (head.rest.now ≡ rest.now)) }
+{
+    let base = leader.base as usize;
+    if leader.length as usize != size || base < SMALLEST_BASE || (base - SMALLEST_BASE) % ENTRY_SIZE != 0 {
+        return None;
+    }
+    Some(Head {
+        codes: leader.codes,
+        directory_size: base - SMALLEST_BASE,
+        rest,
+    })
+}
+
+/// The directory and the data of a frame.
+#[derive(Clone, Copy)]
+struct Behind<'a> {
+    directory: &'a [u8],
+    bytes: &'a [u8],
+}
+
+/// The directory of that size and the data; None where their terminators do not stand behind them.
+fn split_behind(rest: &[u8], size: usize) -> Option<Behind<'_>>
+    ensures { MatchOption result ((directory bytes : List ℕ) → IsBehind rest.now size directory bytes → ⊥)
+        (λ behind. IsBehind rest.now size behind.directory.now behind.bytes.now) }
+{
+    if rest.len() < size {
+        return None;
+    }
+    let (directory, ended) = rest.split_at(size);
+    match split_data(ended) {
+        Some(bytes) => Some(Behind { directory, bytes }),
+        None => None,
+    }
+}
+
+/// The bytes between a field terminator and a record terminator.
+fn split_data(ended: &[u8]) -> Option<&[u8]>
+    ensures { MatchOption result ((bytes : List ℕ) → ended.now ≡ 0x1E ∷ (bytes ++ 0x1D ∷ []) → ⊥) (λ bytes. ended.now ≡ 0x1E ∷ (bytes.now ++ 0x1D ∷ [])) }
+{
+    let (first, body) = ended.split_first()?;
+    let (last, bytes) = body.split_last()?;
+    if *first != FIELD_TERMINATOR || *last != RECORD_TERMINATOR {
+        return None;
+    }
+    Some(bytes)
 }
