@@ -2,3 +2,4 @@ pub mod AppendingLaws
 pub mod SpellingLaws
 pub mod ShapeLaws
 pub mod ReadingLaws
+pub mod RecordLaws

@@ -1,5 +1,5 @@
 -- What is read from the parts of a frame.
-use Rattle.std.proofs.Common.{◌≡◌, ℕ, zero, suc, ◌+◌, ◌-◌, ◌*◌, ◌^◌, ◌<◌, ◌≤◌, Bool, true, false, not, ◌&&◌, List, [], ◌∷◌, ◌++◌, length, get_or, take, drop, refl, sym, ◌∙◌, ap, subst, arith, append_assoc, length-append, Result, Ok, Err, Option, None, Some, ◌||◌}
+use Rattle.std.proofs.Common.{◌≡◌, ℕ, suc, ◌+◌, ◌-◌, ◌*◌, ◌<◌, ◌≤◌, Bool, true, false, not, ◌&&◌, List, [], ◌∷◌, ◌++◌, length, get_or, take, drop, refl, sym, ◌∙◌, ap, subst, arith, append_assoc, length-append, Ok, Err, Option, None, Some, ◌||◌}
 use Rattle.std.proofs.Math.Seq.{take-append_seam, drop-append_seam}
 use Rattle.std.proofs.lemmas.Bool.{and_parts, and_from, eqb-true}
 use Rattle.std.proofs.lemmas.Bool.Decides.{nat_tests}
@@ -9,7 +9,7 @@ use Rattle.std.proofs.lemmas.List.Folds.{list_all-append}
 use Rattle.std.specs.Char.{is_ascii_alphanumeric}
 use Rattle.std.specs.List.{flat_map, list_all}
 use Rattle.std.specs.Prelude.{◌==◌, nat_le, if◌then◌else◌, MatchOption}
-use Rattle.marc_leader.specs.Entry.{entry_text, entry_of, tag_place, size_place, start_place, is_tag as marc_is_tag}
+use Rattle.marc_leader.specs.Entry.{entry_of, tag_place, size_place, start_place, is_tag as marc_is_tag}
 use Rattle.marc_leader.specs.Codes.{Codes, are_printable}
 use Rattle.marc_leader.specs.Leader.{leader_of, leader_text}
 use Rattle.marc_leader.specs.declared.leader.Leader.{Leader}
@@ -22,8 +22,8 @@ use Rattle.union_base.specs.Fields.{is_tag, is_tag_byte, fits_tag, spelled as bo
 use Rattle.union_base.specs.declared.field.Field.{Field}
 use Rattle.marc_fields.specs.declared.decoding.Head.{Head}
 use Rattle.marc_fields.specs.declared.decoding.Located.{Located}
-use Rattle.marc_fields.specs.Reading.{IsTerminated, IsStored, IsSpelled, IsLocated, IsNext, LieInOrder, IsHead, HasHead, IsBehind, FitsLeader}
-use Rattle.marc_fields.specs.Shapes.{is_inner, are_inner, has_shape, IsFieldOf}
+use Rattle.marc_fields.specs.Reading.{IsStored, IsSpelled, IsLocated, IsNext, LieInOrder, IsHead, HasHead, IsBehind, FitsLeader}
+use Rattle.marc_fields.specs.Shapes.{are_inner, has_shape, IsFieldOf}
 use Rattle.marc_fields.specs.Spelling.{entry_bytes, entry_at, entries_from, leader_bytes, stored, is_short}
 use Rattle.marc_fields.proofs.AppendingLaws.{directory-push}
 use Rattle.marc_fields.proofs.SpellingLaws.{length-entry_bytes, length-leader_bytes, length-tag, leader_of-printable}
@@ -101,9 +101,9 @@ is_tag-read text e size is letters =
 -- the entry that was read decides
 pub located : (o : Option Located) (spelled : List ℕ) (start : ℕ) (bytes : List ℕ) (read : Entry) → start ≤ 99999 → entry_of spelled ≡ Ok read → IsSpelled spelled read
     → MatchOption o ((text behind : List ℕ) → IsStored read start bytes text behind → ⊥)
-      (λ found. (found.entry ≡ read) × IsStored read start bytes found.text.now found.behind.now)
+    (λ found. (found.entry ≡ read) × IsStored read start bytes found.text.now found.behind.now)
     → MatchOption o ((e : Entry) (text behind : List ℕ) → IsLocated spelled start bytes e text behind → ⊥)
-      (λ found. IsLocated spelled start bytes found.entry found.text.now found.behind.now)
+    (λ found. IsLocated spelled start bytes found.entry found.text.now found.behind.now)
 located None spelled start bytes read near is spells none = λ e text behind at.
     let near_e : e.start ≤ 99999 = omega (arith, at.1.starts) in
     let one : Ok read ≡ Ok e = sym is ∙ entry_of-spelled spelled e at.0 near_e in
@@ -130,18 +130,19 @@ next-read spelled start bytes e text behind f at of =
 -- a next field is located
 pub next-located : (spelled : List ℕ) (start : ℕ) (bytes behind : List ℕ) (f : Field) → IsNext spelled start bytes f behind
     → IsLocated spelled start bytes (entry_at start f) (body_bytes f.body) behind
-next-located spelled start bytes behind f next =
-    (record {
-      bytes = next.entry;
-      tag = (and_parts (is_tag f.tag) (fits_tag f.tag f.body) f.well_formed).0;
-      short = short_from (length (stored f)) next.short;
-    },
-    record {
-      starts = refl;
-      size = length-append (body_bytes f.body) _;
-      inner = inner-spelled f;
-      parts = next.parts;
-    })
+next-located spelled start bytes behind f next = (
+  record {
+    bytes = next.entry;
+    tag = (and_parts (is_tag f.tag) (fits_tag f.tag f.body) f.well_formed).0;
+    short = short_from (length (stored f)) next.short;
+  },
+  record {
+    starts = refl;
+    size = length-append (body_bytes f.body) _;
+    inner = inner-spelled f;
+    parts = next.parts;
+  },
+)
   where
     short_from : (n : ℕ) → nat_le n 9999 ≡ true → n ≤ 9999
     short_from n h = grind (arith, nat_tests)
@@ -156,7 +157,7 @@ next-shaped spelled start bytes e text behind behind' f near at next =
     let same : e ≡ entry_at start f = cc in
     let tag : e.tag ≡ f.tag = ap (λ (x : Entry). x.tag) same in
     let size : length (text ++ 0x1E ∷ []) ≡ length (stored f)
-        = length-append text _ ∙ (sym at.1.size ∙ ap (λ (x : Entry). x.length) same) in
+    = length-append text _ ∙ (sym at.1.size ∙ ap (λ (x : Entry). x.length) same) in
     let bytes_same : text ++ 0x1E ∷ [] ≡ stored f = fronts_same (text ++ 0x1E ∷ []) (stored f) behind behind' size (sym at.1.parts ∙ next.parts) in
     let text_same : text ≡ body_bytes f.body = append_cancel_right text (body_bytes f.body) (0x1E ∷ []) bytes_same in
     rw (tag, text_same) (has_shape-spelled f)
@@ -174,7 +175,7 @@ order-first entries rest start f fields order =
     record {
       short = (and_parts (is_short f) (list_all is_short fields) order.short).0;
       entry = ap (take 12) order.entries ∙ (ap (λ n. take n (entry_bytes (entry_at start f) ++ flat_map entry_bytes (entries_from (start + length (stored f)) fields))) (sym size)
-        ∙ take-append_seam (entry_bytes (entry_at start f)) _);
+          ∙ take-append_seam (entry_bytes (entry_at start f)) _);
       parts = order.stored;
     }
 
@@ -186,7 +187,7 @@ order-rest entries rest start f fields order =
     record {
       short = (and_parts (is_short f) (list_all is_short fields) order.short).1;
       entries = ap (drop 12) order.entries ∙ (ap (λ n. drop n (entry_bytes (entry_at start f) ++ flat_map entry_bytes (entries_from (start + length (stored f)) fields))) (sym size)
-        ∙ drop-append_seam (entry_bytes (entry_at start f)) _);
+          ∙ drop-append_seam (entry_bytes (entry_at start f)) _);
       stored = refl;
     }
 
@@ -225,7 +226,7 @@ pub more-next : (directory bytes entries rest behind : List ℕ) (f : Field) →
 more-next directory bytes entries rest behind f full few within next has = λ all order.
     let more = has all order in
     let start : length bytes - length behind ≡ length bytes - length rest + length (stored f)
-        = omega (arith, ap length next.parts, length-append (stored f) behind) in
+    = omega (arith, ap length next.parts, length-append (stored f) behind) in
     let later = order-next entries rest behind (length bytes - length rest) f more.0 full (omega arith) next more.1 in
     (later.0, subst (λ n. LieInOrder (drop 12 entries) behind n later.0) (sym start) later.1)
 
@@ -238,9 +239,9 @@ order-entries directory entries fields new f start full parts at first more =
     let before = flat_map entry_bytes (entries_from 0 fields) in
     let one = entry_bytes (entry_at (length (flat_map stored fields)) f) in
     let split : entries ≡ one ++ drop 12 entries
-        = sym (take-append-drop 12 entries) ∙ ap (λ t. t ++ drop 12 entries) (first ∙ ap (λ n. entry_bytes (entry_at n f)) at) in
+    = sym (take-append-drop 12 entries) ∙ ap (λ t. t ++ drop 12 entries) (first ∙ ap (λ n. entry_bytes (entry_at n f)) at) in
     let spell : flat_map entry_bytes (entries_from 0 new) ≡ before ++ one
-        = ap (λ fs. flat_map entry_bytes (entries_from 0 fs)) more ∙ directory-push fields f in
+    = ap (λ fs. flat_map entry_bytes (entries_from 0 fs)) more ∙ directory-push fields f in
     parts ∙ (ap (λ t. before ++ t) split ∙ (sym (append_assoc before one (drop 12 entries)) ∙ ap (λ t. t ++ drop 12 entries) (sym spell)))
 
 -- the bytes of one more field
@@ -249,7 +250,7 @@ pub order-stored : (bytes rest behind : List ℕ) (fields new : List Field) (f :
 order-stored bytes rest behind fields new f parts first more =
     let before = flat_map stored fields in
     let spell : flat_map stored new ≡ before ++ stored f
-        = ap (flat_map stored) more ∙ (flat_map-append stored fields (f ∷ []) ∙ ap (λ t. before ++ t) (append-nil (stored f))) in
+    = ap (flat_map stored) more ∙ (flat_map-append stored fields (f ∷ []) ∙ ap (λ t. before ++ t) (append-nil (stored f))) in
     parts ∙ (ap (λ t. before ++ t) first ∙ (sym (append_assoc before (stored f) behind) ∙ ap (λ t. t ++ behind) (sym spell)))
 
 pub order-short : (fields new : List Field) (f : Field) → list_all is_short fields ≡ true → is_short f ≡ true → new ≡ fields ++ f ∷ []
@@ -271,7 +272,7 @@ pub leader_of-head : (frame : List ℕ) (codes : Codes) (entries : ℕ) (rest : 
 unfolding leader_bytes
 leader_of-head frame codes entries rest head =
     let front : take 24 frame ≡ leader_bytes (length frame) entries codes
-        = ap (take 24) head.parts ∙ take-append_seam (leader_bytes (length frame) entries codes) rest in
+    = ap (take 24) head.parts ∙ take-append_seam (leader_bytes (length frame) entries codes) rest in
     ap leader_of front ∙ leader_of-text (length frame) (25 + 12 * entries) codes head.printable (omega (arith, head.short)) (omega (arith, head.base))
 
 -- a head has 24 bytes at least
@@ -283,9 +284,9 @@ head-long frame codes entries rest head =
 pub head-found : (o : Option Head) (frame rest : List ℕ) (leader : Leader) → 24 ≤ length frame → length frame ≤ 99999 → leader.base ≤ 99999
     → leader_of (take 24 frame) ≡ Ok leader → take 24 frame ≡ leader_text leader → rest ≡ drop 24 frame
     → MatchOption o ((entries : ℕ) → (leader.length ≡ length frame) × (leader.base ≡ 25 + 12 * entries) → ⊥)
-      (λ head. FitsLeader leader (length frame) head.codes head.directory_size × (head.rest.now ≡ rest))
+    (λ head. FitsLeader leader (length frame) head.codes head.directory_size × (head.rest.now ≡ rest))
     → MatchOption o ((codes : Codes) (entries : ℕ) (rest : List ℕ) → IsHead frame codes entries rest → ⊥)
-      (λ head. HasHead frame head.codes head.directory_size head.rest.now)
+    (λ head. HasHead frame head.codes head.directory_size head.rest.now)
 unfolding leader_bytes
 head-found None frame rest leader long short near is spelled back none = λ codes entries rest' head.
     let Say : ℕ → ℕ → Codes → Leader = λ n b c. record { length = n; base = b; codes = c } in
@@ -296,10 +297,10 @@ head-found (Some head) frame rest leader long short near is spelled back some =
     let fits = some.0 in
     let Say : ℕ → ℕ → Codes → Leader = λ n b c. record { length = n; base = b; codes = c } in
     let same : leader ≡ Say (length frame) (25 + 12 * fits.entries) head.codes
-        = ap (λ n. Say n leader.base leader.codes) fits.length_is ∙ (ap (λ b. Say (length frame) b leader.codes) fits.base_is
-          ∙ ap (λ c. Say (length frame) (25 + 12 * fits.entries) c) (sym fits.codes_are)) in
+    = ap (λ n. Say n leader.base leader.codes) fits.length_is ∙ (ap (λ b. Say (length frame) b leader.codes) fits.base_is
+    ∙ ap (λ c. Say (length frame) (25 + 12 * fits.entries) c) (sym fits.codes_are)) in
     let printable : are_printable leader.codes ≡ true
-        = leader_of-printable (take 24 frame) leader (omega (arith, length-take 24 frame)) is in
+    = leader_of-printable (take 24 frame) leader (omega (arith, length-take 24 frame)) is in
     record {
       entries = fits.entries;
       size_is = fits.size_is;
@@ -308,7 +309,7 @@ head-found (Some head) frame rest leader long short near is spelled back some =
         base = omega (arith, fits.base_is, near);
         printable = subst (λ (c : Codes). are_printable c ≡ true) (sym fits.codes_are) printable;
         parts = sym (take-append-drop 24 frame) ∙ (ap (λ t. t ++ drop 24 frame) (spelled ∙ ap leader_text same)
-          ∙ ap (λ t. leader_text (Say (length frame) (25 + 12 * fits.entries) head.codes) ++ t) (sym back ∙ sym some.1));
+            ∙ ap (λ t. leader_text (Say (length frame) (25 + 12 * fits.entries) head.codes) ++ t) (sym back ∙ sym some.1));
       };
     }
 
@@ -318,13 +319,15 @@ pub head-one : (frame : List ℕ) (codes codes' : Codes) (entries entries' : ℕ
 head-one frame codes codes' entries entries' rest rest' one other =
     let Say : ℕ → Codes → Leader = λ b c. record { length = length frame; base = b; codes = c } in
     let both : Ok (Say (25 + 12 * entries) codes) ≡ Ok (Say (25 + 12 * entries') codes')
-        = sym (leader_of-head frame codes entries rest one) ∙ leader_of-head frame codes' entries' rest' other in
+    = sym (leader_of-head frame codes entries rest one) ∙ leader_of-head frame codes' entries' rest' other in
     let same : Say (25 + 12 * entries) codes ≡ Say (25 + 12 * entries') codes' = cc in
     let base = ap (λ (l : Leader). l.base) same in
-    let count : entries ≡ entries' = omega (arith, base) in
-    (ap (λ (l : Leader). l.codes) same, count,
+    let count : entries ≡ entries' = omega (arith, base) in (
+      ap (λ (l : Leader). l.codes) same,
+      count,
       rests_same (leader_bytes (length frame) entries codes) (leader_bytes (length frame) entries' codes') rest rest'
-        (length-leader_bytes (length frame) entries codes ∙ sym (length-leader_bytes (length frame) entries' codes')) (sym one.parts ∙ other.parts))
+          (length-leader_bytes (length frame) entries codes ∙ sym (length-leader_bytes (length frame) entries' codes')) (sym one.parts ∙ other.parts),
+    )
 
 -- behind a leader there are one directory and one data
 pub behind-one : (rest : List ℕ) (size : ℕ) (directory directory' bytes bytes' : List ℕ) → IsBehind rest size directory bytes

@@ -1,5 +1,5 @@
 -- The bytes of a field and their shape.
-use Rattle.std.proofs.Common.{◌≡◌, ℕ, zero, suc, ◌+◌, ◌<◌, ◌≤◌, Bool, true, false, not, ◌&&◌, ◌||◌, List, [], ◌∷◌, ◌++◌, length, get_or, take, refl, sym, ◌∙◌, ap, subst, arith, append_assoc, length-append}
+use Rattle.std.proofs.Common.{◌≡◌, ℕ, zero, suc, ◌<◌, ◌≤◌, Bool, true, false, not, ◌&&◌, List, [], ◌∷◌, ◌++◌, length, get_or, take, refl, sym, ◌∙◌, ap, subst, arith, append_assoc}
 use Rattle.std.proofs.Math.Seq.{take-length}
 use Rattle.std.proofs.lemmas.Bool.{and_parts, and_from}
 use Rattle.std.proofs.lemmas.Bool.Decides.{nat_tests}
@@ -7,13 +7,13 @@ use Rattle.std.proofs.lemmas.Grind.{flat_map-append}
 use Rattle.std.proofs.lemmas.List.{append-nil}
 use Rattle.std.proofs.lemmas.List.Folds.{list_all-append, list_all_at}
 use Rattle.std.specs.List.{flat_map, list_all}
-use Rattle.std.specs.Prelude.{◌==◌, nat_le, if◌then◌else◌}
+use Rattle.std.specs.Prelude.{◌==◌, nat_le}
 use Rattle.union_base.specs.Fields.{is_text, is_text_byte, is_subfield, is_subfield_code, spelled_subfield, spelled, fits_tag, is_tag, is_control_tag, is_indicator, is_field}
 use Rattle.union_base.specs.declared.field.Field.{Field}
 use Rattle.union_base.specs.declared.body.Body.{Body}
 use Rattle.union_base.specs.declared.body.Body.TheVariants.{Control, Data}
 use Rattle.union_base.specs.declared.subfield.Subfield.{Subfield}
-use Rattle.marc_fields.specs.Shapes.{is_inner, are_inner, are_coded, has_control_shape, has_data_shape, has_shape, is_end, IsFirstSubfield, AreSubfieldsOf, IsIndicated, IsControlOf, IsDataOf, begins_with_delimiter, are_subfields}
+use Rattle.marc_fields.specs.Shapes.{is_inner, are_inner, are_coded, has_control_shape, has_data_shape, has_shape, IsFirstSubfield, AreSubfieldsOf, IsIndicated, IsControlOf, IsDataOf}
 
 -- bytes none of which is a delimiter, seen place by place
 pub undelimited-take : (bytes : List ℕ) (n : ℕ) → n ≤ length bytes → ((k : ℕ) → k < n → (get_or bytes k 0 == 0x1F) ≡ true → ⊥)
@@ -80,9 +80,9 @@ pub subfields-more : (bytes rest next : List ℕ) (subfields new : List Subfield
     → IsFirstSubfield rest s.code s.text next → new ≡ subfields ++ s ∷ [] → bytes ≡ flat_map spelled_subfield new ++ next
 subfields-more bytes rest next subfields new s parts first more =
     let spell : flat_map spelled_subfield new ≡ flat_map spelled_subfield subfields ++ spelled_subfield s
-        = ap (flat_map spelled_subfield) more ∙ (flat_map-append spelled_subfield subfields (s ∷ []) ∙ ap (λ t. flat_map spelled_subfield subfields ++ t) (append-nil (spelled_subfield s))) in
+    = ap (flat_map spelled_subfield) more ∙ (flat_map-append spelled_subfield subfields (s ∷ []) ∙ ap (λ t. flat_map spelled_subfield subfields ++ t) (append-nil (spelled_subfield s))) in
     parts ∙ (ap (λ t. flat_map spelled_subfield subfields ++ t) first.parts
-        ∙ (sym (append_assoc (flat_map spelled_subfield subfields) (spelled_subfield s) next) ∙ ap (λ t. t ++ next) (sym spell)))
+    ∙ (sym (append_assoc (flat_map spelled_subfield subfields) (spelled_subfield s) next) ∙ ap (λ t. t ++ next) (sym spell)))
 
 -- the first subfield of inner bytes is one, and the rest are inner bytes
 pub first-are_inner : (rest next : List ℕ) (code : ℕ) (text : List ℕ) → are_inner rest ≡ true → IsFirstSubfield rest code text next
@@ -113,15 +113,15 @@ are_coded-subfields (s ∷ subfields) formed =
     let parts = and_parts (is_subfield s) (list_all is_subfield subfields) formed in
     let one = and_parts (is_subfield_code s.code) (is_text s.text) parts.0 in
     are_coded-first s.code s.text (flat_map spelled_subfield subfields) one.0 (undelimited-is_text s.text one.1)
-        ∙ are_coded-subfields subfields parts.1
+    ∙ are_coded-subfields subfields parts.1
 
 -- a control field that was read
 pub control-read : (bytes text : List ℕ) → text ≡ bytes → are_inner bytes ≡ true → has_control_shape bytes ≡ true → IsControlOf bytes (Control text)
 control-read bytes text same inner none = record {
-    shaped = none;
-    spelled = same;
-    fits = λ tag control. and_from _ _ control (subst (λ t. is_text t ≡ true) (sym same) (is_text-inner bytes inner none));
-  }
+  shaped = none;
+  spelled = same;
+  fits = λ tag control. and_from _ _ control (subst (λ t. is_text t ≡ true) (sym same) (is_text-inner bytes inner none));
+}
 
 -- what is behind the indicators decides
 pub indicated-shape : (bytes rest : List ℕ) (ind1 ind2 : ℕ) → IsIndicated bytes ind1 ind2 rest → has_data_shape bytes ≡ are_coded rest
@@ -140,13 +140,13 @@ some_is n h = grind (arith, nat_tests)
 pub data-read : (bytes rest : List ℕ) (ind1 ind2 : ℕ) (read subfields : List Subfield) → subfields ≡ read → IsIndicated bytes ind1 ind2 rest
     → AreSubfieldsOf rest read → IsDataOf bytes (Data ind1 ind2 subfields)
 data-read bytes rest ind1 ind2 read subfields same is are = record {
-    shaped = indicated-shape bytes rest ind1 ind2 is ∙ are.coded;
-    spelled = ap (λ s. ind1 ∷ ind2 ∷ flat_map spelled_subfield s) same ∙ (ap (λ t. ind1 ∷ ind2 ∷ t) (sym are.spelled) ∙ sym is.parts);
-    fits = λ tag other.
+  shaped = indicated-shape bytes rest ind1 ind2 is ∙ are.coded;
+  spelled = ap (λ s. ind1 ∷ ind2 ∷ flat_map spelled_subfield s) same ∙ (ap (λ t. ind1 ∷ ind2 ∷ t) (sym are.spelled) ∙ sym is.parts);
+  fits = λ tag other.
       let formed : list_all is_subfield subfields ≡ true = rw same are.formed in
       let some : nat_le 1 (length subfields) ≡ true = rw same (some_is (length read) are.some) in
       rw (other, is.first, is.second, some, formed) refl;
-  }
+}
 
 -- a delimiter at a place
 pub delimited-at : (bytes : List ℕ) (k : ℕ) → k < length bytes → (get_or bytes k 0 == 0x1F) ≡ true → has_control_shape bytes ≡ false

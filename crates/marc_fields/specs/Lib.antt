@@ -2,3 +2,4 @@ pub mod Shapes
 pub mod Spelling
 pub mod Appending
 pub mod Reading
+pub mod Laws

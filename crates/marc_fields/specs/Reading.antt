@@ -1,5 +1,5 @@
 -- How the parts of a frame are found.
-use Rattle.std.specs.Prelude.{◌≡◌, ℕ, ◌+◌, ◌*◌, ◌≤◌, Bool, true, IsTrue, List, [], ◌∷◌, ◌++◌, length, ◌-◌}
+use Rattle.std.specs.Prelude.{◌≡◌, ℕ, ◌+◌, ◌*◌, ◌≤◌, true, List, [], ◌∷◌, ◌++◌, length}
 use Rattle.std.specs.List.{list_all, flat_map}
 use Rattle.marc_leader.specs.Codes.{Codes, are_printable}
 use Rattle.marc_leader.specs.declared.entry.Entry.{Entry}

@@ -1,12 +1,15 @@
 //! Frames read as records.
-ghost use Rattle.std.specs.Prelude.{◌≡◌, ◌+◌, ◌*◌, ◌++◌, ◌∷◌, ◌≤◌, [], List, ℕ, length, not, IsTrue, IfOk, MatchOption};
+ghost use Rattle.std.specs.Prelude.{◌≡◌, ◌+◌, ◌*◌, ◌++◌, ◌∷◌, ◌≤◌, [], List, ℕ, length, not, Err, IsTrue, IfOk, MatchOption};
 ghost use Rattle.marc_leader.specs.Codes.{Codes};
 ghost use Rattle.marc_leader.specs.declared.entry.Entry.{Entry};
 ghost use Rattle.union_base.specs.declared.field.Field.{Field};
 ghost use Rattle.marc_fields.specs.Shapes.{are_inner};
+ghost use Rattle.marc_fields.specs.Spelling.{Spells, spelling};
+ghost use Rattle.marc_fields.specs.declared.marc_record.Record.{Record};
 ghost use Rattle.marc_fields.specs.Reading.{IsTerminated, IsStored, IsLocated, IsNext, LieInOrder, IsHead, HasHead, IsBehind, FitsLeader};
 
 use crate::encoding::LONGEST_FRAME;
+use crate::marc_record::Record;
 use crate::shape::read_field;
 use marc_leader::codes::LeaderCodes;
 use marc_leader::entry::{ENTRY_SIZE, Entry, read_entry};
@@ -16,6 +19,7 @@ use std::alloc::Global;
 use union_base::body::{FIELD_TERMINATOR, RECORD_TERMINATOR};
 use union_base::field::Field;
 use union_base::memory::Memory;
+use union_base::sequence::Sequence;
 
 /// The base address of data of a record without fields: behind the leader and the directory's terminator.
 const SMALLEST_BASE: usize = LEADER_SIZE + 1;
@@ -90,7 +94,12 @@ struct NextField<'a> {
 }
 
 /// The field whose entry is spelled so, which starts there and with which the bytes begin; None where there is none.
-fn read_next<'a>(alloc: Global, spelled: &[u8], start: u32, bytes: &'a [u8]) -> Result<Option<NextField<'a>>, Memory>
+fn read_next<'a>(
+    alloc: Global,
+    spelled: &[u8],
+    start: u32,
+    bytes: &'a [u8],
+) -> Result<Option<NextField<'a>>, Memory>
     requires size { length spelled.now ≡ 12 }
     requires start { start ≤ 99999 }
     ensures { IfOk result (λ read. MatchOption read ((f : Field) (behind : List ℕ) → IsNext spelled.now start bytes.now f behind → ⊥)
@@ -162,7 +171,10 @@ fn head_of<'a>(leader: &Leader, size: usize, rest: &'a [u8]) -> Option<Head<'a>>
         (λ head. FitsLeader leader.now size head.codes head.directory_size × (head.rest.now ≡ rest.now)) }
 {
     let base = leader.base as usize;
-    if leader.length as usize != size || base < SMALLEST_BASE || (base - SMALLEST_BASE) % ENTRY_SIZE != 0 {
+    if leader.length as usize != size
+        || base < SMALLEST_BASE
+        || (base - SMALLEST_BASE) % ENTRY_SIZE != 0
+    {
         return None;
     }
     Some(Head {
@@ -204,4 +216,44 @@ fn split_data(ended: &[u8]) -> Option<&[u8]>
         return None;
     }
     Some(bytes)
+}
+
+/// Why a frame is not read.
+#[derive(Clone, Copy, Debug, PartialEq, Eq)]
+pub enum DecodeRefusal {
+    /// The frame spells no record with the fields' bytes in the order of the directory.
+    NotSpelled,
+    /// Memory ran out.
+    Memory,
+}
+
+impl From<Memory> for DecodeRefusal {
+    ghost use Rattle.marc_fields.specs.declared.decoding.DecodeRefusal.TheVariants.{Memory as MemoryRefusal};
+
+    ghost from_gives = { λ _ refusal. refusal ≡ MemoryRefusal };
+
+    fn from(_memory: Memory) -> DecodeRefusal {
+        DecodeRefusal::Memory
+    }
+}
+
+/// The record that the frame spells (ISO 2709; MARC 21), where the fields' bytes stand in the order of the directory.
+pub fn decode(alloc: Global, frame: &[u8]) -> Result<Record, DecodeRefusal>
+    ensures spells { IfOk result (λ r. Spells frame.now r) }
+    ensures in_order { IfOk result (λ r. frame.now ≡ spelling r) }
+    ensures refused_exactly { result ≡ Err DecodeRefusal.NotSpelled → (r : Record) → Spells frame.now r → frame.now ≡ spelling r → ⊥ }
+{
+    let Some(head) = read_head(frame) else {
+        return Err(DecodeRefusal::NotSpelled);
+    };
+    let Some(behind) = split_behind(head.rest, head.directory_size) else {
+        return Err(DecodeRefusal::NotSpelled);
+    };
+    let Some(fields) = read_fields(alloc, behind.directory, behind.bytes)? else {
+        return Err(DecodeRefusal::NotSpelled);
+    };
+    Ok(Record {
+        leader: head.codes,
+        fields: Sequence::from(fields),
+    })
 }

@@ -83,7 +83,11 @@ fn counted_size(entries: usize, bytes: usize) -> Option<usize>
         return None;
     }
     let size = 26 + 12 * entries + bytes;
-    if size > LONGEST_FRAME { None } else { Some(size) }
+    if size > LONGEST_FRAME {
+        None
+    } else {
+        Some(size)
+    }
 }
 
 /// Appends the subfields.
@@ -159,7 +163,12 @@ fn append_entries(fields: &[Field], into: &mut Vec<u8>) -> Result<(), AllocError
 }
 
 /// Appends the leader of a frame of that size with so many entries.
-fn append_leader(codes: LeaderCodes, size: usize, entries: usize, into: &mut Vec<u8>) -> Result<(), AllocError>
+fn append_leader(
+    codes: LeaderCodes,
+    size: usize,
+    entries: usize,
+    into: &mut Vec<u8>,
+) -> Result<(), AllocError>
     requires size { size ≤ 99999 }
     requires base { 25 + 12 * entries ≤ 99999 }
     ensures text { Appends result into.old.items into.new.items (leader_bytes size entries codes) }

@@ -109,11 +109,14 @@ fn split_indicators(bytes: &[u8]) -> Option<Indicated<'_>>
     ensures { MatchOption result (has_data_shape bytes.now ≡ false) (λ found. IsIndicated bytes.now found.ind1 found.ind2 found.rest.now) }
 {
     match bytes {
-        [ind1, ind2, rest @ ..] if is_indicator(*ind1) && is_indicator(*ind2) && begins_subfield(rest) => Some(Indicated {
-            ind1: *ind1,
-            ind2: *ind2,
-            rest,
-        }),
+        [ind1, ind2, rest @ ..]
+            if is_indicator(*ind1) && is_indicator(*ind2) && begins_subfield(rest) => Some(
+            Indicated {
+                ind1: *ind1,
+                ind2: *ind2,
+                rest,
+            },
+        ),
         _ => None,
     }
 }

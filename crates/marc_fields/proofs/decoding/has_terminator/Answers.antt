@@ -1,4 +1,4 @@
-use Rattle.std.proofs.Common.{◌≤◌, arith, sym, ap, not}
+use Rattle.std.proofs.Common.{arith, sym, ap, not}
 use Rattle.marc_fields.proofs.ReadingLaws.{inner-all}
 use Rattle.marc_fields.proofs.decoding.has_terminator.Goals as goal
 

@@ -1,6 +1,4 @@
-use Rattle.std.proofs.Common.{◌≡◌, ◌≤◌, ◌∙◌, sym, arith, Ok, Err}
-use Rattle.marc_leader.specs.declared.entry.Entry.{Entry}
-use Rattle.marc_fields.specs.Reading.{IsSpelled}
+use Rattle.std.proofs.Common.{◌≤◌, ◌∙◌, sym, arith}
 use Rattle.marc_fields.specs.Spelling.{entry_bytes}
 use Rattle.marc_fields.proofs.ReadingLaws.{entry_of-spelled, is_tag-read, located}
 use Rattle.marc_fields.proofs.decoding.locate.Goals as goal

@@ -1,8 +1,8 @@
-use Rattle.std.proofs.Common.{◌+◌, ◌≡◌, ◌++◌, ◌∷◌, [], ◌-◌, ◌<◌, ◌≤◌, ◌∙◌, ap, sym, subst, length, take, drop, arith, length-append, List, ℕ}
+use Rattle.std.proofs.Common.{◌+◌, ◌≡◌, ◌++◌, ◌∷◌, [], ◌-◌, ◌∙◌, ap, subst, length, take, arith, length-append, List, ℕ}
 use Rattle.std.specs.List.{flat_map}
 use Rattle.union_base.specs.declared.field.Field.{Field}
 use Rattle.marc_fields.specs.Reading.{IsNext}
-use Rattle.marc_fields.specs.Spelling.{stored, is_short}
+use Rattle.marc_fields.specs.Spelling.{stored}
 use Rattle.marc_fields.proofs.ReadingLaws.{order-none, order-end, order-entries, order-stored, order-short, more-next}
 use Rattle.marc_fields.proofs.decoding.read_fields.Goals as goal
 use Rattle.marc_fields.proofs.decoding.read_fields.Goals.{then-not-is_empty-via-then-not-is_empty, then-not-is_empty-via-else-not-is_empty+then-not-is_empty-2}
@@ -46,6 +46,6 @@ returns-then-not-is_empty c = λ fields order.
     let more = c.loop-entries.invariant.more fields order in
     let ends = order-end c.loop-entries.entries.now c.loop-entries.rest.now _ more.0 c.loop-entries-test.false more.1 in
     elim c.then-not-is_empty.branch [
-      then-not-is_empty-via-then-not-is_empty w ↦ let none = rw ends.0 at c.is_empty.ensures in cc
-    | then-not-is_empty-via-else-not-is_empty+then-not-is_empty-2 w ↦ let none = rw ends.1 at w.is_empty-else-not-is_empty.ensures in cc
+      | then-not-is_empty-via-then-not-is_empty w ↦ let none = rw ends.0 at c.is_empty.ensures in cc
+      | then-not-is_empty-via-else-not-is_empty+then-not-is_empty-2 w ↦ let none = rw ends.1 at w.is_empty-else-not-is_empty.ensures in cc
     ]

@@ -1,5 +1,5 @@
-use Rattle.std.proofs.Common.{◌≡◌, ◌≤◌, ◌∙◌, sym, arith, length, take, subst, Ok, Err}
-use Rattle.marc_leader.specs.Leader.{leader_of, leader_text}
+use Rattle.std.proofs.Common.{◌≡◌, ◌∙◌, sym, arith, subst, Ok, Err}
+use Rattle.marc_leader.specs.Leader.{leader_of}
 use Rattle.marc_fields.proofs.ReadingLaws.{leader_of-head, head-long, head-found}
 use Rattle.marc_fields.proofs.decoding.read_head.Goals as goal
 use Rattle.marc_fields.proofs.decoding.read_head.Goals.{then-frame-lt-LEADER_SIZE-via-then-frame-lt-LEADER_SIZE, then-frame-lt-LEADER_SIZE-via-else-frame-lt-LEADER_SIZE+then-frame-gt-LONGEST_FRAME}
@@ -8,8 +8,8 @@ pub returns-then-frame-lt-LEADER_SIZE : goal.returns-then-frame-lt-LEADER_SIZE
 returns-then-frame-lt-LEADER_SIZE c = λ codes entries rest head.
     let long = head-long c.args.frame.now codes entries rest head in
     elim c.then-frame-lt-LEADER_SIZE.branch [
-      then-frame-lt-LEADER_SIZE-via-then-frame-lt-LEADER_SIZE w ↦ omega (arith, long)
-    | then-frame-lt-LEADER_SIZE-via-else-frame-lt-LEADER_SIZE+then-frame-gt-LONGEST_FRAME w ↦ omega (arith, head.short)
+      | then-frame-lt-LEADER_SIZE-via-then-frame-lt-LEADER_SIZE w ↦ omega (arith, long)
+      | then-frame-lt-LEADER_SIZE-via-else-frame-lt-LEADER_SIZE+then-frame-gt-LONGEST_FRAME w ↦ omega (arith, head.short)
     ]
 
 pub returns-in-Ok : goal.returns-in-Ok

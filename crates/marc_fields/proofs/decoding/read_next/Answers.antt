@@ -11,6 +11,6 @@ pub returns-in-None : goal.returns-in-None
 returns-in-None c = λ f behind next.
     let found = c.in-Some.found in
     let shaped : has_shape found.entry.tag found.text.now ≡ true
-        = next-shaped c.args.spelled.now c.args.start c.args.bytes.now found.entry found.text.now found.behind.now behind f c.requires.start c.in-Some.ensures next in
+    = next-shaped c.args.spelled.now c.args.start c.args.bytes.now found.entry found.text.now found.behind.now behind f c.requires.start c.in-Some.ensures next in
     let other = rw c.in-None.is at c.in_ok-field.ensures in
     cc

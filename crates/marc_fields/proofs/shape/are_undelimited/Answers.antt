@@ -1,4 +1,4 @@
-use Rattle.std.proofs.Common.{◌≤◌, arith, sym}
+use Rattle.std.proofs.Common.{arith, sym}
 use Rattle.marc_fields.proofs.ShapeLaws.{delimited-at, undelimited-all}
 use Rattle.marc_fields.proofs.shape.are_undelimited.Goals as goal
 

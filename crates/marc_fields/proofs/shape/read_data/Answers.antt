@@ -1,4 +1,3 @@
-use Rattle.std.proofs.Common.{sym}
 use Rattle.marc_fields.proofs.ShapeLaws.{data-read}
 use Rattle.marc_fields.proofs.shape.read_data.Goals as goal
 

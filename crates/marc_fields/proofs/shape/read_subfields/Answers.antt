@@ -1,4 +1,4 @@
-use Rattle.std.proofs.Common.{◌≡◌, ◌∙◌, ap, ◌≤◌, ◌+◌, ◌++◌, ◌∷◌, [], length, arith, length-append}
+use Rattle.std.proofs.Common.{◌≡◌, ◌∙◌, ap, ◌++◌, ◌∷◌, [], length, arith, length-append}
 use Rattle.union_base.specs.declared.subfield.Subfield.{Subfield}
 use Rattle.marc_fields.proofs.ShapeLaws.{subfields-more, first-are_inner, first-is_subfield, subfields-formed, first-are_coded}
 use Rattle.marc_fields.proofs.shape.read_subfields.Goals as goal
@@ -12,7 +12,7 @@ loop-rest-preserved c =
     let new = c.push.new.self.items in
     let first = c.in-Some.ensures in
     let more : new ≡ old ++ s ∷ []
-        = c.in_ok-push.ensures.items ∙ ap (λ t. let one : Subfield = record { code = c.in-Some.first.code; text = t } in old ++ one ∷ []) c.in_ok-of.ensures in
+    = c.in_ok-push.ensures.items ∙ ap (λ t. let one : Subfield = record { code = c.in-Some.first.code; text = t } in old ++ one ∷ []) c.in_ok-of.ensures in
     record {
       parts = subfields-more c.args.bytes.now rest next old new s c.loop-rest.invariant.parts first more;
       coded = c.loop-rest.invariant.coded ∙ first-are_coded rest next s.code s.text first;

@@ -1,4 +1,4 @@
-use Rattle.std.proofs.Common.{◌≤◌, length, arith, zero}
+use Rattle.std.proofs.Common.{length, arith}
 use Rattle.marc_fields.proofs.ShapeLaws.{undelimited-take}
 use Rattle.marc_fields.proofs.shape.undelimited_size.Goals as goal
 
