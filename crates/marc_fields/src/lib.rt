@@ -8,3 +8,5 @@ pub mod encoding;
 pub mod laws;
 pub mod marc_record;
 pub mod shape;
+#[cfg(test)]
+mod tests;
