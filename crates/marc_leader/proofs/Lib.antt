@@ -1,0 +1,4 @@
+pub mod Numerals
+pub mod Places
+pub mod EntryLaws
+pub mod LeaderLaws

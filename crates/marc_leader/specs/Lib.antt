@@ -1,0 +1,4 @@
+pub mod Numeral
+pub mod Codes
+pub mod Leader
+pub mod Entry

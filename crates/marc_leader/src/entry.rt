@@ -1,0 +1,90 @@
+//! An entry of the directory.
+ghost use Rattle.std.specs.Prelude.{◌≡◌, ◌≤◌, length, IfOk, Ok, IsTrue};
+ghost use Rattle.marc_leader.specs.Entry.{entry_text, entry_of, is_tag};
+
+use crate::numeral::{digits, last_digit};
+
+/// How many bytes an entry has.
+pub const ENTRY_SIZE: usize = 12;
+
+// Where the parts of an entry end: the tag, the field's length, and where the field starts.
+pub const TAG_END: usize = 3;
+
+pub const SIZE_END: usize = 7;
+
+pub const START_END: usize = 12;
+
+/// An entry of the directory (ISO 2709, 'Directory'): a field's tag, its length in bytes with its terminator, and where
+/// it starts, counted from the base address of data.
+#[derive(Clone, Copy, Debug, PartialEq, Eq)]
+pub struct Entry {
+    pub tag: [u8; 3],
+    pub length: u32,
+    pub start: u32,
+}
+
+/// Why 12 bytes are no entry.
+#[derive(Clone, Copy, Debug, PartialEq, Eq)]
+pub enum EntryRule {
+    /// The length or the start is not all digits.
+    Digits,
+    /// The tag is not three ASCII letters or digits.
+    Tag,
+}
+
+/// Whether each byte is an ASCII letter or digit.
+fn are_alphanumeric(text: &[u8]) -> bool
+    ensures { result ≡ is_tag text.now }
+{
+    text.iter().all(|byte| byte.is_ascii_alphanumeric())
+}
+
+/// The entry that stands in 12 bytes, or the first rule of `EntryRule` that they break. Takes no memory.
+pub fn read_entry(text: &[u8]) -> Result<Entry, EntryRule>
+    requires { length text.now ≡ ENTRY_SIZE }
+    ensures value { result ≡ entry_of text.now }
+    // What was read is written as the same bytes.
+    ensures spelled { IfOk result (λ entry. text.now ≡ entry_text entry) }
+    ensures tag { IfOk result (λ entry. IsTrue (is_tag entry.tag)) }
+    ensures length { IfOk result (λ entry. entry.length ≤ 9999) }
+    ensures start { IfOk result (λ entry. entry.start ≤ 99999) }
+{
+    let Some(length) = digits(&text[TAG_END..SIZE_END]) else {
+        return Err(EntryRule::Digits);
+    };
+    let Some(start) = digits(&text[SIZE_END..START_END]) else {
+        return Err(EntryRule::Digits);
+    };
+    let tag = [text[0], text[1], text[2]];
+    if !are_alphanumeric(&tag) {
+        return Err(EntryRule::Tag);
+    }
+    Ok(Entry { tag, length, start })
+}
+
+/// Writes the entry's 12 bytes. Takes no memory.
+pub fn write_entry(entry: &Entry, into: &mut [u8])
+    requires room { length into.old ≡ ENTRY_SIZE }
+    requires length { entry.now.length ≤ 9999 }
+    requires start { entry.now.start ≤ 99999 }
+    ensures text { into.new ≡ entry_text entry.now }
+    // What was written is read as the same entry, where its tag is one.
+    ensures read { IsTrue (is_tag entry.now.tag) → entry_of into.new ≡ Ok entry.now }
+{
+    let size = entry.length;
+    let start = entry.start;
+    into.copy_from_slice(&[
+        entry.tag[0],
+        entry.tag[1],
+        entry.tag[2],
+        last_digit(size / 10 / 10 / 10),
+        last_digit(size / 10 / 10),
+        last_digit(size / 10),
+        last_digit(size),
+        last_digit(start / 10 / 10 / 10 / 10),
+        last_digit(start / 10 / 10 / 10),
+        last_digit(start / 10 / 10),
+        last_digit(start / 10),
+        last_digit(start),
+    ]);
+}

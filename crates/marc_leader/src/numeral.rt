@@ -1,0 +1,28 @@
+//! Numbers in decimal digits.
+ghost use Rattle.std.specs.Prelude.{◌≡◌, ◌+◌, ◌%◌, ◌^◌, ◌<◌, ◌≤◌, if◌then◌else◌, length, Some, None, IfSome};
+ghost use Rattle.marc_leader.specs.Numeral.{are_digits, number_of};
+
+/// The number that a text of one to five decimal digits spells, or None exactly where a byte is no ASCII digit.
+/// Takes no memory.
+pub fn digits(text: &[u8]) -> Option<u32>
+    requires some { 1 ≤ length text.now }
+    requires few { length text.now ≤ 5 }
+    ensures value { result ≡ (if are_digits text.now then Some (number_of text.now) else None) }
+    ensures bound { IfSome result (λ n. n < 10 ^ length text.now) }
+{
+    let mut number: u32 = 0;
+    for byte in text {
+        if !byte.is_ascii_digit() {
+            return None;
+        }
+        number = 10 * number + (*byte - b'0') as u32;
+    }
+    Some(number)
+}
+
+/// The last decimal digit of the number, as a byte.
+pub(crate) fn last_digit(number: u32) -> u8
+    ensures { result ≡ 48 + number % 10 }
+{
+    b'0' + (number % 10) as u8
+}
