@@ -1,0 +1,14 @@
+-- What the contracts of sources, sinks and shelves cite.
+pub mod Causes
+pub mod Reading
+pub mod Writing
+pub mod Files
+pub mod Opened
+pub mod Pieces
+pub mod Script
+pub mod MemSource
+pub mod MemSink
+pub mod Store
+pub mod MemShelf
+pub mod SureSource
+pub mod SureShelf

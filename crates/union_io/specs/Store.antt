@@ -1,0 +1,11 @@
+-- What stands in memory under a name.
+use Rattle.std.specs.Prelude.{ℕ, List}
+use Rattle.std.specs.declared.option.Option.{Option}
+use Rattle.std.specs.Ordering.{nat_cmp}
+use Rattle.std.specs.Cmp.Lexicographic.{slice_cmp}
+use Rattle.std.specs.BTreeMap.{is_at}
+use Rattle.std.specs.Map.{lookup}
+
+-- what stands under the name
+abbrev pub at_name : {X : Type 0} → List (List ℕ × X) → List ℕ → Option X
+at_name store name = lookup (is_at (slice_cmp nat_cmp name)) store

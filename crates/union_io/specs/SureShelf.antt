@@ -1,0 +1,18 @@
+-- A shelf in memory of which nothing fails, as contracts see it.
+use Rattle.std.specs.Prelude.{ℕ, List, []}
+use Rattle.std.specs.Option.{option_map_or}
+use Rattle.union_io.specs.Store.{at_name}
+
+-- a file: its content, and how many bytes a read of it gives at most
+pub record SureFileState : Type 0 where
+  pub content : List ℕ
+  pub most : ℕ
+
+-- the files by name, and the names that were opened, each with the count 0
+pub record SureShelfState : Type 0 where
+  pub files : List (List ℕ × SureFileState)
+  pub names : List (List ℕ × ℕ)
+
+-- the content under a name, which is empty for a name without a file
+abbrev pub sure_content_at : List (List ℕ × SureFileState) → List ℕ → List ℕ
+sure_content_at files name = option_map_or (λ file. file.content) (at_name files name) []
