@@ -1,0 +1,2 @@
+pub mod AppendingLaws
+pub mod SpellingLaws

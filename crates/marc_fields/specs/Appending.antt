@@ -1,0 +1,24 @@
+-- What appending leaves, and which records encoding refuses.
+use Rattle.std.specs.Prelude.{◌≡◌, ℕ, Bool, nat_le, List, ◌++◌, length, take, Option, Some, None, if◌then◌else◌, Result, MatchResult}
+use Rattle.std.specs.List.{list_all}
+use Rattle.marc_fields.specs.Spelling.{longest_frame, is_short, frame_size}
+use Rattle.marc_fields.specs.declared.marc_record.Record.{Record}
+use Rattle.marc_fields.specs.declared.encoding.EncodeRefusal.{EncodeRefusal}
+use Rattle.marc_fields.specs.declared.encoding.EncodeRefusal.TheVariants.{FieldTooLong, RecordTooLong, Memory}
+
+-- the text is appended, or what stood before stands in front still
+abbrev pub Appends : {T E : Type 0} → Result T E → List ℕ → List ℕ → List ℕ → Type 0
+Appends answer old new text = MatchResult answer (λ _. new ≡ old ++ text) (λ _. take (length old) new ≡ old)
+
+-- why the record can't be spelled, if it can't
+abbrev pub too_long : Record → Option EncodeRefusal
+too_long r =
+    (if list_all is_short r.fields
+    then (if nat_le (frame_size r) longest_frame then None else Some RecordTooLong)
+    else Some FieldTooLong)
+
+-- the refusal is that one, or want of memory
+abbrev pub IsCause : EncodeRefusal → Option EncodeRefusal → Type 0
+IsCause Memory cause = Unit {0}
+IsCause FieldTooLong cause = cause ≡ Some FieldTooLong
+IsCause RecordTooLong cause = cause ≡ Some RecordTooLong

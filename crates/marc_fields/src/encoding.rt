@@ -1,0 +1,230 @@
+//! Records written as frames.
+ghost use Rattle.std.specs.Prelude.{◌≡◌, ◌+◌, ◌*◌, ◌++◌, ◌∷◌, [], ◌≤◌, min, length, OnOk, OnErr, IfErr, Some, None, if◌then◌else◌, nat_le, IsTrue};
+ghost use Rattle.std.specs.List.{list_all, flat_map};
+ghost use Rattle.marc_leader.specs.Codes.{are_printable};
+ghost use Rattle.union_base.specs.Fields.{spelled, field_terminator, spelled_subfield};
+ghost use Rattle.marc_fields.specs.Spelling.{stored, is_short, longest_frame, entry_bytes, entries_from, leader_bytes, frame_size, spelling, Spells};
+ghost use Rattle.marc_fields.specs.Appending.{Appends, too_long, IsCause};
+
+use crate::marc_record::Record;
+use marc_leader::codes::LeaderCodes;
+use marc_leader::entry::{ENTRY_SIZE, Entry, write_entry};
+use marc_leader::leader::{LEADER_SIZE, Leader, write_leader};
+use std::alloc::AllocError;
+use union_base::body::Body;
+use union_base::field::Field;
+use union_base::spelled::DELIMITER;
+use union_base::subfield::Subfield;
+
+/// Ends a field (ISO 2709).
+pub const FIELD_TERMINATOR: u8 = 0x1E;
+
+/// Ends a record (ISO 2709).
+pub const RECORD_TERMINATOR: u8 = 0x1D;
+
+/// The longest frame, in bytes: what the leader's five digits can say.
+pub const LONGEST_FRAME: usize = 99_999;
+
+/// The longest field with its terminator, in bytes: what an entry's four digits can say.
+pub const LONGEST_FIELD: usize = 9_999;
+
+/// Why a record can't be written as a frame.
+#[derive(Clone, Copy, Debug, PartialEq, Eq)]
+pub enum EncodeRefusal {
+    /// A field with its terminator passes 9,999 bytes.
+    FieldTooLong,
+    /// The frame would pass 99,999 bytes.
+    RecordTooLong,
+    /// Memory ran out.
+    Memory,
+}
+
+/// One more than the longest field: where counting a field's bytes stops.
+const FIELD_STOP: usize = LONGEST_FIELD + 1;
+
+/// One more than the longest frame: where counting a frame's bytes stops.
+const FRAME_STOP: usize = LONGEST_FRAME + 1;
+
+/// How many bytes the subfields have, behind so many others; at most one more than a field may have.
+fn subfields_size(before: usize, subfields: &[Subfield]) -> usize
+    requires { before ≤ 10000 }
+    ensures { result ≡ min (before + length (flat_map spelled_subfield subfields.now)) 10000 }
+{
+    let mut size = before;
+    for subfield in subfields {
+        size = (size + 2 + subfield.text.bytes().len()).min(FIELD_STOP);
+    }
+    size
+}
+
+/// How many bytes the field has with its terminator, at most one more than a field may have.
+fn stored_size(body: &Body) -> usize
+    ensures { result ≡ min (length (spelled body.now) + 1) 10000 }
+{
+    match body {
+        Body::Control { text } => (text.bytes().len() + 1).min(FIELD_STOP),
+        Body::Data { subfields, .. } => subfields_size(3, subfields.as_slice()),
+    }
+}
+
+/// How many bytes the fields have, at most one more than a frame may have; None where a field is too long.
+fn data_size(fields: &[Field]) -> Option<usize>
+    ensures { result ≡ (if list_all is_short fields.now then Some (min (length (flat_map stored fields.now)) 100000) else None) }
+{
+    let mut size = 0;
+    for field in fields {
+        let more = stored_size(&field.body);
+        if more > LONGEST_FIELD {
+            return None;
+        }
+        size = (size + more).min(FRAME_STOP);
+    }
+    Some(size)
+}
+
+/// The bytes of a frame with so many entries and so many bytes of data; None where they are more than a frame may have.
+fn counted_size(entries: usize, bytes: usize) -> Option<usize>
+    ensures { result ≡ (if nat_le (26 + 12 * entries + bytes) longest_frame then Some (26 + 12 * entries + bytes) else None) }
+{
+    if entries > LONGEST_FRAME || bytes > LONGEST_FRAME {
+        return None;
+    }
+    let size = 26 + 12 * entries + bytes;
+    if size > LONGEST_FRAME { None } else { Some(size) }
+}
+
+/// Appends the subfields.
+fn append_subfields(subfields: &[Subfield], into: &mut Vec<u8>) -> Result<(), AllocError>
+    ensures { Appends result into.old.items into.new.items (flat_map spelled_subfield subfields.now) }
+{
+    for subfield in subfields {
+        into.extend_from_slice(&[DELIMITER, subfield.code])?;
+        into.extend_from_slice(subfield.text.bytes())?;
+    }
+    Ok(())
+}
+
+/// Appends the field's bytes, without the terminator.
+fn append_body(body: &Body, into: &mut Vec<u8>) -> Result<(), AllocError>
+    ensures { Appends result into.old.items into.new.items (spelled body.now) }
+{
+    match body {
+        Body::Control { text } => into.extend_from_slice(text.bytes()),
+        Body::Data {
+            ind1,
+            ind2,
+            subfields,
+        } => {
+            into.extend_from_slice(&[*ind1, *ind2])?;
+            append_subfields(subfields.as_slice(), into)
+        }
+    }
+}
+
+/// Appends the fields, each with its terminator.
+fn append_data(fields: &[Field], into: &mut Vec<u8>) -> Result<(), AllocError>
+    ensures { Appends result into.old.items into.new.items (flat_map stored fields.now) }
+{
+    for field in fields {
+        append_body(&field.body, into)?;
+        into.extend_from_slice(&[FIELD_TERMINATOR])?;
+    }
+    Ok(())
+}
+
+/// Appends an entry.
+fn append_entry(entry: &Entry, into: &mut Vec<u8>) -> Result<(), AllocError>
+    requires length { entry.now.length ≤ 9999 }
+    requires start { entry.now.start ≤ 99999 }
+    ensures { Appends result into.old.items into.new.items (entry_bytes entry.now) }
+{
+    let mut text = [0; ENTRY_SIZE];
+    write_entry(entry, &mut text);
+    into.extend_from_slice(&text)
+}
+
+/// Appends the entries of fields that lie one behind the other.
+fn append_entries(fields: &[Field], into: &mut Vec<u8>) -> Result<(), AllocError>
+    requires short { IsTrue (list_all is_short fields.now) }
+    requires few { length (flat_map stored fields.now) ≤ 99999 }
+    ensures { Appends result into.old.items into.new.items (flat_map entry_bytes (entries_from 0 fields.now)) }
+{
+    let mut start = 0;
+    for field in fields {
+        let length = stored_size(&field.body) as u32;
+        append_entry(
+            &Entry {
+                tag: field.tag,
+                length,
+                start,
+            },
+            into,
+        )?;
+        start += length;
+    }
+    Ok(())
+}
+
+/// Appends the leader of a frame of that size with so many entries.
+fn append_leader(codes: LeaderCodes, size: usize, entries: usize, into: &mut Vec<u8>) -> Result<(), AllocError>
+    requires size { size ≤ 99999 }
+    requires base { 25 + 12 * entries ≤ 99999 }
+    ensures text { Appends result into.old.items into.new.items (leader_bytes size entries codes) }
+    ensures codes { IsTrue (are_printable codes) }
+{
+    let mut text = [0; LEADER_SIZE];
+    write_leader(
+        &Leader {
+            length: size as u32,
+            base: (25 + 12 * entries) as u32,
+            codes,
+        },
+        &mut text,
+    );
+    into.extend_from_slice(&text)
+}
+
+/// Appends the record's frame, which has that size.
+fn append_frame(rec: &Record, size: usize, into: &mut Vec<u8>) -> Result<(), AllocError>
+    requires short { IsTrue (list_all is_short rec.now.fields) }
+    requires size { size ≡ frame_size rec.now }
+    requires few { size ≤ 99999 }
+    ensures text { Appends result into.old.items into.new.items (spelling rec.now) }
+    ensures codes { IsTrue (are_printable rec.now.leader) }
+{
+    let fields = rec.fields.as_slice();
+    append_leader(rec.leader, size, fields.len(), into)?;
+    append_entries(fields, into)?;
+    into.extend_from_slice(&[FIELD_TERMINATOR])?;
+    append_data(fields, into)?;
+    into.extend_from_slice(&[RECORD_TERMINATOR])
+}
+
+/// Appends the frame that spells the record (ISO 2709; MARC 21), with the fields' bytes in the order of the directory.
+/// On a refusal `into` holds what it held. Room for the frame is reserved once.
+pub fn encode(rec: &Record, into: &mut Vec<u8>) -> Result<(), EncodeRefusal>
+    ensures written { OnOk result (into.new.items ≡ into.old.items ++ spelling rec.now) }
+    ensures spells { OnOk result (Spells (spelling rec.now) rec.now) }
+    ensures written_exactly { OnOk result (too_long rec.now ≡ None) }
+    ensures refused_exactly { IfErr result (λ refusal. IsCause refusal (too_long rec.now)) }
+    ensures err { OnErr result (into.new.items ≡ into.old.items) }
+{
+    let fields = rec.fields.as_slice();
+    let Some(bytes) = data_size(fields) else {
+        return Err(EncodeRefusal::FieldTooLong);
+    };
+    let Some(size) = counted_size(fields.len(), bytes) else {
+        return Err(EncodeRefusal::RecordTooLong);
+    };
+    let before = into.len();
+    if into.reserve(size).is_err() {
+        return Err(EncodeRefusal::Memory);
+    }
+    match append_frame(rec, size, into) {
+        Ok(()) => Ok(()),
+        Err(_) => {
+            into.truncate(before);
+            Err(EncodeRefusal::Memory)
+        }
+    }
+}
