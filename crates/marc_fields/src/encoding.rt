@@ -13,7 +13,7 @@ use marc_leader::leader::{LEADER_SIZE, Leader, write_leader};
 use std::alloc::AllocError;
 use union_base::body::Body;
 use union_base::field::Field;
-use union_base::spelled::DELIMITER;
+use union_base::body::DELIMITER;
 use union_base::subfield::Subfield;
 
 /// Ends a field (ISO 2709).

@@ -12,6 +12,7 @@ use std::io::Read;
 use std::rt::Files;
 use std::str;
 use union_base::bytes::Bytes;
+use union_base::copied::Copied;
 
 /// An opened file, or any reader. It tells no content. Each error of a read is a fault, also one that a signal caused.
 #[derive(Drop)]

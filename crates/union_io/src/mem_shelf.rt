@@ -17,6 +17,7 @@ use std::alloc::Global;
 use std::collections::BTreeMap;
 use std::marker::Model;
 use union_base::bytes::Bytes;
+use union_base::copied::Copied;
 use union_base::memory::Memory;
 
 /// A file in memory: its content, the numbers of the reads that are to fail, and how many bytes a read gives at most.

@@ -12,6 +12,7 @@ use std::alloc::Global;
 use std::collections::BTreeMap;
 use std::marker::Model;
 use union_base::bytes::Bytes;
+use union_base::copied::Copied;
 use union_base::memory::Memory;
 
 /// A file in memory: its content, and how many bytes a read of it gives at most.

@@ -1,0 +1,5 @@
+pub mod Exported
+pub mod Plain
+pub mod Statuses
+pub mod Texts
+pub mod Words
