@@ -12,7 +12,7 @@ use Rattle.marc_fields.specs.declared.marc_record.Record.{Record}
 use Rattle.union_program.specs.Plain.{has_tag, text_under}
 
 -- the field with this tag and this content, where they make one
-abbrev pub field_of : List ℕ → Body → List Field
+unfoldable pub field_of : List ℕ → Body → List Field
 field_of tag body =
     elim (is_field tag body) as (λ fits. is_field tag body ≡ fits → List Field) [
       | true ↦ λ fits. record { tag = tag; body = body; well_formed = fits } ∷ []
@@ -26,12 +26,16 @@ subfield code text = record { code = code; text = text }
 abbrev pub joined_id : List ℕ → List ℕ → List ℕ
 joined_id library control = library ++ 0x2E ∷ control
 
+-- a contributor's library and its control number there
+abbrev pub contributor : List ℕ → List ℕ → Body
+contributor library control = Data 0x20 0x20 (subfield 0x61 library ∷ subfield 0x62 control ∷ [])
+
 -- the fields that the catalogue writes itself: its control number, its name, and the contributor
 abbrev pub own_fields : List ℕ → List ℕ → List Field
 own_fields library control =
     field_of (codes "001") (Control (joined_id library control))
     ++ (field_of (codes "003") (Control (codes "UNION"))
-    ++ field_of (codes "993") (Data 0x20 0x20 (subfield 0x61 library ∷ subfield 0x62 control ∷ [])))
+    ++ field_of (codes "993") (contributor library control))
 
 -- a field that the catalogue does not write itself
 abbrev pub is_kept : Field → Bool
