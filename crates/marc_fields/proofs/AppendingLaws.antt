@@ -1,5 +1,5 @@
 -- What is appended piece by piece.
-use Rattle.std.proofs.Common.{◌≡◌, ℕ, ◌+◌, ◌<◌, ◌≤◌, Bool, true, List, [], ◌∷◌, ◌++◌, length, take, get_or, zero, suc, zero-add, refl, sym, ◌∙◌, ap, subst, arith, append_assoc, length-append, add-zero, add-one, Result, Ok, Err}
+use Rattle.std.proofs.Common.{◌≡◌, ℕ, ◌+◌, ◌<◌, ◌≤◌, Bool, true, List, [], ◌∷◌, ◌++◌, length, take, get_or, zero, suc, zero-add, refl, sym, ◌∙◌, ap, arith, append_assoc, length-append, add-zero, add-one, Result, Ok, Err}
 use Rattle.std.proofs.Math.Seq.{take-append_seam, take-length, take-suc}
 use Rattle.std.proofs.lemmas.Bool.{and_parts}
 use Rattle.std.proofs.lemmas.Grind.{flat_map-append}
@@ -45,7 +45,7 @@ entries_from-push start [] f = rw add-zero refl
 entries_from-push start (g ∷ fields) f =
     let later = entries_from-push (start + length (stored g)) fields f in
     let size : start + length (stored g ++ flat_map stored fields) ≡ start + length (stored g) + length (flat_map stored fields)
-        = omega (arith, length-append (stored g) (flat_map stored fields)) in
+    = omega (arith, length-append (stored g) (flat_map stored fields)) in
     rw size (ap (λ entries. entry_at start g ∷ entries) later)
 
 -- what each element passes, the one at a place passes
@@ -67,17 +67,23 @@ pub data-more : (fields : List Field) (i : ℕ) (f : Field) → i < length field
     → flat_map stored (take (i + 1) fields) ≡ flat_map stored (take i fields) ++ stored f
 data-more fields i f below is =
     ap (flat_map stored) (take_one_more fields i f below is)
-        ∙ (flat_map-append stored (take i fields) (f ∷ []) ∙ ap (λ t. flat_map stored (take i fields) ++ t) (append-nil (stored f)))
+    ∙ (flat_map-append stored (take i fields) (f ∷ []) ∙ ap (λ t. flat_map stored (take i fields) ++ t) (append-nil (stored f)))
+
+-- the entry of one field behind others
+pub directory-push : (fields : List Field) (f : Field)
+    → flat_map entry_bytes (entries_from 0 (fields ++ f ∷ []))
+    ≡ flat_map entry_bytes (entries_from 0 fields) ++ entry_bytes (entry_at (length (flat_map stored fields)) f)
+directory-push fields f =
+    ap (flat_map entry_bytes) (entries_from-push 0 fields f)
+    ∙ (flat_map-append entry_bytes (entries_from 0 fields) _
+    ∙ (rw (append-nil, zero-add) refl))
 
 -- the entry of one more field
 pub directory-more : (fields : List Field) (i : ℕ) (f : Field) → i < length fields → f ≡ get_or fields i f
     → flat_map entry_bytes (entries_from 0 (take (i + 1) fields))
     ≡ flat_map entry_bytes (entries_from 0 (take i fields)) ++ entry_bytes (entry_at (length (flat_map stored (take i fields))) f)
 directory-more fields i f below is =
-    ap (λ fs. flat_map entry_bytes (entries_from 0 fs)) (take_one_more fields i f below is)
-        ∙ (ap (flat_map entry_bytes) (entries_from-push 0 (take i fields) f)
-        ∙ (flat_map-append entry_bytes (entries_from 0 (take i fields)) _
-        ∙ (rw (append-nil, zero-add) refl)))
+    ap (λ fs. flat_map entry_bytes (entries_from 0 fs)) (take_one_more fields i f below is) ∙ directory-push (take i fields) f
 
 -- one more entry appended
 pub directory-appended : (fields : List Field) (i : ℕ) (f : Field) (old middle new : List ℕ) (size start : ℕ)
@@ -87,12 +93,12 @@ pub directory-appended : (fields : List Field) (i : ℕ) (f : Field) (old middle
     → new ≡ old ++ flat_map entry_bytes (entries_from 0 (take (i + 1) fields))
 directory-appended fields i f old middle new size start below is s t m n =
     let e1 : entry_bytes (record { tag = f.tag; length = size; start = start }) ≡ entry_bytes (record { tag = f.tag; length = length (stored f); start = start })
-        = ap (λ k. let e : Entry = record { tag = f.tag; length = k; start = start } in entry_bytes e) s in
+    = ap (λ k. let e : Entry = record { tag = f.tag; length = k; start = start } in entry_bytes e) s in
     let e2 : entry_bytes (record { tag = f.tag; length = length (stored f); start = start }) ≡ entry_bytes (entry_at (length (flat_map stored (take i fields))) f)
-        = ap (λ k. entry_bytes (entry_at k f)) t in
+    = ap (λ k. entry_bytes (entry_at k f)) t in
     n ∙ (ap (λ x. x ++ entry_bytes (record { tag = f.tag; length = size; start = start })) m
-        ∙ (append_assoc old (flat_map entry_bytes (entries_from 0 (take i fields))) _
-        ∙ ap (λ x. old ++ x) (ap (λ x. flat_map entry_bytes (entries_from 0 (take i fields)) ++ x) (e1 ∙ e2) ∙ sym (directory-more fields i f below is))))
+    ∙ (append_assoc old (flat_map entry_bytes (entries_from 0 (take i fields))) _
+    ∙ ap (λ x. old ++ x) (ap (λ x. flat_map entry_bytes (entries_from 0 (take i fields)) ++ x) (e1 ∙ e2) ∙ sym (directory-more fields i f below is))))
 
 -- there is an entry for each field
 pub length-entries_from : (start : ℕ) (fields : List Field) → length (entries_from start fields) ≡ length fields

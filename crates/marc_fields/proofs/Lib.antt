@@ -1,2 +1,5 @@
 pub mod AppendingLaws
 pub mod SpellingLaws
+pub mod ShapeLaws
+pub mod ReadingLaws
+pub mod RecordLaws

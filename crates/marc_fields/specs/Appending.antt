@@ -1,5 +1,5 @@
 -- What appending leaves, and which records encoding refuses.
-use Rattle.std.specs.Prelude.{◌≡◌, ℕ, Bool, nat_le, List, ◌++◌, length, take, Option, Some, None, if◌then◌else◌, Result, MatchResult}
+use Rattle.std.specs.Prelude.{◌≡◌, ℕ, nat_le, List, ◌++◌, length, take, Option, Some, None, if◌then◌else◌, Result, MatchResult}
 use Rattle.std.specs.List.{list_all}
 use Rattle.marc_fields.specs.Spelling.{longest_frame, is_short, frame_size}
 use Rattle.marc_fields.specs.declared.marc_record.Record.{Record}

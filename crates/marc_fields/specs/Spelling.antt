@@ -1,11 +1,10 @@
 -- How a record stands in a frame (ISO 2709; MARC 21, 'Leader' and 'Directory').
-use Rattle.std.specs.Prelude.{◌≡◌, ℕ, ◌+◌, ◌*◌, ◌-◌, ◌<◌, ◌≤◌, Bool, ◌&&◌, nat_le, nat_lt, IsTrue, List, [], ◌∷◌, ◌++◌, length, take, drop, count_by, Option, Some, None, if◌then◌else◌}
-use Rattle.std.specs.List.{list_all, flat_map}
+use Rattle.std.specs.Prelude.{◌≡◌, ℕ, ◌+◌, ◌*◌, ◌<◌, ◌≤◌, Bool, ◌&&◌, nat_le, nat_lt, IsTrue, List, [], ◌∷◌, ◌++◌, length, take, drop, if◌then◌else◌}
+use Rattle.std.specs.List.{flat_map}
 use Rattle.marc_leader.specs.Codes.{Codes, are_printable}
 use Rattle.marc_leader.specs.Entry.{entry_text}
 use Rattle.marc_leader.specs.Leader.{leader_text}
 use Rattle.marc_leader.specs.declared.entry.Entry.{Entry}
-use Rattle.marc_leader.specs.declared.leader.Leader.{Leader}
 use Rattle.union_base.specs.Fields.{spelled, field_terminator, record_terminator}
 use Rattle.union_base.specs.declared.field.Field.{Field}
 use Rattle.marc_fields.specs.declared.marc_record.Record.{Record}

@@ -11,16 +11,9 @@ use marc_leader::codes::LeaderCodes;
 use marc_leader::entry::{ENTRY_SIZE, Entry, write_entry};
 use marc_leader::leader::{LEADER_SIZE, Leader, write_leader};
 use std::alloc::AllocError;
-use union_base::body::Body;
+use union_base::body::{Body, DELIMITER, FIELD_TERMINATOR, RECORD_TERMINATOR};
 use union_base::field::Field;
-use union_base::body::DELIMITER;
 use union_base::subfield::Subfield;
-
-/// Ends a field (ISO 2709).
-pub const FIELD_TERMINATOR: u8 = 0x1E;
-
-/// Ends a record (ISO 2709).
-pub const RECORD_TERMINATOR: u8 = 0x1D;
 
 /// The longest frame, in bytes: what the leader's five digits can say.
 pub const LONGEST_FRAME: usize = 99_999;
@@ -90,7 +83,11 @@ fn counted_size(entries: usize, bytes: usize) -> Option<usize>
         return None;
     }
     let size = 26 + 12 * entries + bytes;
-    if size > LONGEST_FRAME { None } else { Some(size) }
+    if size > LONGEST_FRAME {
+        None
+    } else {
+        Some(size)
+    }
 }
 
 /// Appends the subfields.
@@ -166,7 +163,12 @@ fn append_entries(fields: &[Field], into: &mut Vec<u8>) -> Result<(), AllocError
 }
 
 /// Appends the leader of a frame of that size with so many entries.
-fn append_leader(codes: LeaderCodes, size: usize, entries: usize, into: &mut Vec<u8>) -> Result<(), AllocError>
+fn append_leader(
+    codes: LeaderCodes,
+    size: usize,
+    entries: usize,
+    into: &mut Vec<u8>,
+) -> Result<(), AllocError>
     requires size { size ≤ 99999 }
     requires base { 25 + 12 * entries ≤ 99999 }
     ensures text { Appends result into.old.items into.new.items (leader_bytes size entries codes) }

@@ -1,17 +1,175 @@
 //! The bytes of one field, read.
-ghost use Rattle.std.specs.Prelude.{◌≡◌, ◌++◌, IsTrue, IfOk, OnErr, if◌then◌else◌, not};
-ghost use Rattle.union_base.specs.Fields.{is_indicator, is_subfield_code};
+ghost use Rattle.std.specs.Prelude.{◌≡◌, ◌++◌, ◌≤◌, ℕ, true, false, length, take, drop, IsTrue, IfOk, MatchOption};
+ghost use Rattle.std.specs.List.{list_all, flat_map};
+ghost use Rattle.union_base.specs.Fields.{is_tag};
+ghost use Rattle.marc_fields.specs.Shapes.{are_inner, are_coded, has_control_shape, begins_with_delimiter, is_end, IsFirstSubfield, AreSubfieldsOf, has_data_shape, IsControlOf, IsDataOf, IsIndicated, has_shape, IsBodyOf, IsFieldOf};
 
-/// Whether the byte may stand as an indicator.
-fn is_indicator_byte(byte: u8) -> bool
-    ensures { result ≡ is_indicator byte }
+use memchr::memchr;
+use std::alloc::Global;
+use union_base::body::{Body, DELIMITER, is_control_tag, is_indicator, is_subfield_code};
+use union_base::bytes::Bytes;
+use union_base::field::Field;
+use union_base::memory::Memory;
+use union_base::sequence::Sequence;
+use union_base::subfield::Subfield;
+
+/// How many bytes stand before the first delimiter, or how many there are.
+fn undelimited_size(bytes: &[u8]) -> usize
+    ensures within { result ≤ length bytes.now }
+    ensures before { has_control_shape (take result bytes.now) ≡ true }
+    ensures behind { is_end (drop result bytes.now) ≡ true }
 {
-    0x20 <= byte && byte <= 0x7E
+    match memchr(DELIMITER, bytes) {
+        Some(place) => place,
+        None => bytes.len(),
+    }
 }
 
-/// Whether the byte may stand as a subfield code.
-fn is_code_byte(byte: u8) -> bool
-    ensures { result ≡ is_subfield_code byte }
+/// The first subfield of bytes, and what follows it.
+#[derive(Clone, Copy)]
+struct FirstSubfield<'a> {
+    code: u8,
+    text: &'a [u8],
+    rest: &'a [u8],
+}
+
+/// The first subfield of bytes that begin with a delimiter; None where no code follows it.
+fn first_subfield(bytes: &[u8]) -> Option<FirstSubfield<'_>>
+    requires { IsTrue (begins_with_delimiter bytes.now) }
+    ensures { MatchOption result (are_coded bytes.now ≡ false) (λ s. IsFirstSubfield bytes.now s.code s.text.now s.rest.now) }
 {
-    0x21 <= byte && byte <= 0x7E
+    let [_, code, behind @ ..] = bytes else {
+        return None;
+    };
+    if !is_subfield_code(*code) {
+        return None;
+    }
+    let (text, rest) = behind.split_at(undelimited_size(behind));
+    Some(FirstSubfield {
+        code: *code,
+        text,
+        rest,
+    })
+}
+
+/// The subfields that the bytes are; None where a delimiter has no code behind it.
+fn read_subfields(alloc: Global, bytes: &[u8]) -> Result<Option<Vec<Subfield>>, Memory>
+    requires begins { IsTrue (begins_with_delimiter bytes.now) }
+    requires inner { IsTrue (are_inner bytes.now) }
+    ensures { IfOk result (λ read. MatchOption read (are_coded bytes.now ≡ false) (λ subfields. AreSubfieldsOf bytes.now subfields.items)) }
+{
+    let mut subfields = Vec::new(alloc);
+    let mut rest = bytes;
+    while !rest.is_empty() {
+        let Some(first) = first_subfield(rest) else {
+            return Ok(None);
+        };
+        subfields.push(Subfield {
+            code: first.code,
+            text: Bytes::of(alloc, first.text)?,
+        })?;
+        rest = first.rest;
+    }
+    Ok(Some(subfields))
+}
+
+/// Whether no byte is a delimiter.
+fn are_undelimited(bytes: &[u8]) -> bool
+    ensures { result ≡ has_control_shape bytes.now }
+{
+    match memchr(DELIMITER, bytes) {
+        Some(_place) => false,
+        None => true,
+    }
+}
+
+/// The body of a control field with these bytes; None where they have a delimiter.
+fn read_control(alloc: Global, bytes: &[u8]) -> Result<Option<Body>, Memory>
+    requires inner { IsTrue (are_inner bytes.now) }
+    ensures { IfOk result (λ read. MatchOption read (has_control_shape bytes.now ≡ false) (λ body. IsControlOf bytes.now body)) }
+{
+    if !are_undelimited(bytes) {
+        return Ok(None);
+    }
+    Ok(Some(Body::Control {
+        text: Bytes::of(alloc, bytes)?,
+    }))
+}
+
+/// What a data field has before and behind its indicators.
+#[derive(Clone, Copy)]
+struct Indicated<'a> {
+    ind1: u8,
+    ind2: u8,
+    rest: &'a [u8],
+}
+
+/// The indicators of a data field and the bytes behind them; None where they are no indicators, or no delimiter follows.
+fn split_indicators(bytes: &[u8]) -> Option<Indicated<'_>>
+    ensures { MatchOption result (has_data_shape bytes.now ≡ false) (λ found. IsIndicated bytes.now found.ind1 found.ind2 found.rest.now) }
+{
+    match bytes {
+        [ind1, ind2, rest @ ..]
+            if is_indicator(*ind1) && is_indicator(*ind2) && begins_subfield(rest) => Some(
+            Indicated {
+                ind1: *ind1,
+                ind2: *ind2,
+                rest,
+            },
+        ),
+        _ => None,
+    }
+}
+
+/// Whether the bytes begin with a delimiter.
+fn begins_subfield(bytes: &[u8]) -> bool
+    ensures { result ≡ begins_with_delimiter bytes.now }
+{
+    match bytes {
+        [byte, ..] => *byte == DELIMITER,
+        [] => false,
+    }
+}
+
+/// The body of a data field with these bytes; None where they have not the shape of one.
+fn read_data(alloc: Global, bytes: &[u8]) -> Result<Option<Body>, Memory>
+    requires inner { IsTrue (are_inner bytes.now) }
+    ensures { IfOk result (λ read. MatchOption read (has_data_shape bytes.now ≡ false) (λ body. IsDataOf bytes.now body)) }
+{
+    let Some(found) = split_indicators(bytes) else {
+        return Ok(None);
+    };
+    let Some(subfields) = read_subfields(alloc, found.rest)? else {
+        return Ok(None);
+    };
+    Ok(Some(Body::Data {
+        ind1: found.ind1,
+        ind2: found.ind2,
+        subfields: Sequence::from(subfields),
+    }))
+}
+
+/// The body of a field with that tag and these bytes; None where they have not the shape that the tag asks for.
+fn read_body(alloc: Global, tag: &[u8; 3], bytes: &[u8]) -> Result<Option<Body>, Memory>
+    requires inner { IsTrue (are_inner bytes.now) }
+    ensures { IfOk result (λ read. MatchOption read (has_shape tag.now bytes.now ≡ false) (λ body. IsBodyOf tag.now bytes.now body)) }
+{
+    if is_control_tag(tag) {
+        read_control(alloc, bytes)
+    } else {
+        read_data(alloc, bytes)
+    }
+}
+
+/// The field with that tag and these bytes, which are those between two terminators; None where they have not the shape
+/// that the tag asks for (MARC 21, 'Variable fields').
+pub fn read_field(alloc: Global, tag: [u8; 3], bytes: &[u8]) -> Result<Option<Field>, Memory>
+    requires tag { IsTrue (is_tag tag) }
+    requires inner { IsTrue (are_inner bytes.now) }
+    ensures { IfOk result (λ read. MatchOption read (has_shape tag bytes.now ≡ false) (λ field. IsFieldOf tag bytes.now field)) }
+{
+    let Some(body) = read_body(alloc, &tag, bytes)? else {
+        return Ok(None);
+    };
+    Ok(Some(Field { tag, body }))
 }

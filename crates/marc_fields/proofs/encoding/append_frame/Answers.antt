@@ -1,4 +1,4 @@
-use Rattle.std.proofs.Common.{◌≡◌, ◌++◌, ◌∷◌, [], append_assoc, length, sym, ap, ◌∙◌}
+use Rattle.std.proofs.Common.{◌++◌, ◌∷◌, [], append_assoc, length, sym, ap, ◌∙◌}
 use Rattle.std.specs.List.{flat_map}
 use Rattle.marc_fields.specs.Spelling.{stored, entry_bytes, entries_from, leader_bytes, frame_size, spelling}
 use Rattle.marc_fields.proofs.AppendingLaws.{Appends-frame, Appends-refused, front_kept, length-entries_from}

@@ -1,0 +1,14 @@
+-- What holds of frames and the records that they spell.
+use Rattle.std.specs.Prelude.{◌≡◌, ℕ, IsTrue, List, None}
+use Rattle.marc_leader.specs.Codes.{are_printable}
+use Rattle.marc_fields.specs.Appending.{too_long}
+use Rattle.marc_fields.specs.Spelling.{Spells, spelling}
+use Rattle.marc_fields.specs.declared.marc_record.Record.{Record}
+
+-- a frame spells one record at most
+abbrev pub SpellsOne : Type 0
+SpellsOne = (frame : List ℕ) (one other : Record) → Spells frame one → Spells frame other → one ≡ other
+
+-- a record within the limits is spelled by the frame that has its fields in the order of the directory
+abbrev pub IsSpelled : Type 0
+IsSpelled = (r : Record) → IsTrue (are_printable r.leader) → too_long r ≡ None → Spells (spelling r) r
