@@ -1,5 +1,5 @@
 -- What the fields of a cutter mean.
-use Rattle.std.specs.Prelude.{◌≡◌, ℕ, ◌≤◌, Bool, true, false, List, [], length, Option, Some, None, vec_len, vec_capacity}
+use Rattle.std.specs.Prelude.{◌≡◌, ℕ, ◌≤◌, Bool, true, false, List, [], Option, Some, None, vec_len, vec_capacity}
 use Rattle.std.specs.List.{list_any}
 use Rattle.iso2709_frame.specs.Cutting.{Cutting, too_long}
 use Rattle.iso2709_frame.specs.Frames.{is_terminator, skip_breaks}

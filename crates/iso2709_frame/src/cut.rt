@@ -3,11 +3,13 @@
 /// The byte that ends a record (ISO 2709, 'Record terminator').
 pub const RECORD_TERMINATOR: u8 = 0x1D;
 
-/// The bytes that may stand in front of a record and are skipped there. This project's own.
+/// CR, which is skipped where it stands in front of a record. This project's own.
 pub const CARRIAGE_RETURN: u8 = 0x0D;
+
+/// LF, which is skipped where it stands in front of a record. This project's own.
 pub const LINE_FEED: u8 = 0x0A;
 
-/// How many bytes the largest frame has, as a leader gives its length in five digits (ISO 2709, 'Record length').
+/// How many bytes the largest frame has, since a leader gives its length in five digits (ISO 2709, 'Record length').
 pub const LARGEST_FRAME: usize = 99_999;
 
 /// How a frame was cut.

@@ -1,5 +1,5 @@
 //! The cutter, which is fed a stream in pieces.
-ghost use Rattle.std.specs.Prelude.{◌≡◌, ◌≢◌, ℕ, ◌<◌, ◌≤◌, false, ◌||◌, nat_lt, if◌then◌else◌, List, [], ◌++◌, length, drop, Some, None, is_some, vec_len, vec_capacity, IfOk};
+ghost use Rattle.std.specs.Prelude.{◌≡◌, ◌≢◌, ℕ, ◌<◌, ◌≤◌, false, ◌||◌, nat_lt, if◌then◌else◌, List, [], ◌++◌, length, drop, Some, None, is_some, vec_len, vec_capacity, IfOk, IfSome};
 ghost use Rattle.std.specs.List.{list_any};
 ghost use Rattle.iso2709_frame.specs.Frames.{frames, first_piece, skip_breaks, is_terminator, is_break, IsWhole};
 ghost use Rattle.iso2709_frame.specs.Cutting.{told, fresh, too_long};
@@ -72,7 +72,11 @@ fn kept_part<'a>(held: &[u8], part: &'a [u8]) -> &'a [u8]
     requires { skip_breaks held.now ≡ held.now }
     ensures { held.now ++ result.now ≡ skip_breaks (held.now ++ part.now) }
 {
-    if held.is_empty() { behind_breaks(part) } else { part }
+    if held.is_empty() {
+        behind_breaks(part)
+    } else {
+        part
+    }
 }
 
 /// Adds a part to the bytes held of a frame, and answers whether the frame is too long. Of one that is, nothing is held.
@@ -85,8 +89,12 @@ fn gather(held: &mut Vec<u8>, overfull: bool, part: &[u8]) -> bool
     ensures overfull { result ≡ (overfull || nat_lt LARGEST_FRAME (length (skip_breaks (held.old.items ++ part.now)))) }
     ensures held { held.new.items ≡ (if result then [] else skip_breaks (held.old.items ++ part.now)) }
 {
+    if overfull {
+        held.clear();
+        return true;
+    }
     let part = kept_part(held.as_slice(), part);
-    if overfull || LARGEST_FRAME - held.len() < part.len() {
+    if LARGEST_FRAME - held.len() < part.len() {
         held.clear();
         return true;
     }
@@ -162,6 +170,7 @@ impl Cutter {
         ensures within { result.0 ≤ length piece.now }
         ensures some { 0 < length piece.now → 0 < result.0 }
         ensures cut { is_some result.1 ≡ list_any is_terminator piece.now }
+        ensures kind { result.1 ≢ Some Cut.Truncated }
         ensures whole { result.1 ≡ Some Cut.Whole → IsWhole self.new.frame }
         ensures lent { result.1 ≢ Some Cut.Whole → self.new.frame ≡ [] }
     {
@@ -177,6 +186,7 @@ impl Cutter {
     /// Afterwards the cutter is as opened. Takes no memory.
     pub fn finish(&mut self) -> Option<Cut>
         ensures frames { frames self.old.pending ≡ told result [] }
+        ensures kind { IfSome result (λ cut. cut ≡ Cut.Truncated) }
         ensures opened { self.new ≡ fresh }
     {
         let left = is_left(self.held.as_slice(), self.phase);

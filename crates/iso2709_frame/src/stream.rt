@@ -10,7 +10,12 @@ use union_base::bytes::Bytes;
 use union_base::memory::Memory;
 
 /// Adds the cuts that end in the piece, each with its frame where it is whole.
-fn add_cuts(alloc: Global, cutter: &mut Cutter, piece: &[u8], cuts: &mut Vec<(Cut, Bytes)>) -> Result<(), Memory>
+fn add_cuts(
+    alloc: Global,
+    cutter: &mut Cutter,
+    piece: &[u8],
+    cuts: &mut Vec<(Cut, Bytes)>,
+) -> Result<(), Memory>
     ensures { OnOk result ((more : List ℕ) → cuts.old.items ++ frames (cutter.old.pending ++ (piece.now ++ more))
         ≡ cuts.new.items ++ frames (cutter.new.pending ++ more)) }
 {

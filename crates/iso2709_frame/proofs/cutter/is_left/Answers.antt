@@ -1,4 +1,4 @@
-use Rattle.std.proofs.Common.{◌≡◌, ℕ, subst, ap, ◌∙◌}
+use Rattle.std.proofs.Common.{subst, ap, ◌∙◌}
 use Rattle.iso2709_frame.specs.Frames.{frames}
 use Rattle.iso2709_frame.specs.Phases.{pending_of, IsGathered}
 use Rattle.iso2709_frame.specs.declared.cutter.Phase.{Phase}
@@ -12,7 +12,7 @@ returns-in-Gathering c =
     let held = c.args.held.now in
     let gathered : IsGathered Gathering held = subst (λ (p : Phase). IsGathered p held) c.in-Gathering.is c.requires in
     ap (λ (p : Phase). frames (pending_of p held)) c.in-Gathering.is
-        ∙ frames-gathered held c.is_empty.result gathered.0 gathered.1 c.is_empty.ensures
+    ∙ frames-gathered held c.is_empty.result gathered.0 gathered.1 c.is_empty.ensures
 
 pub returns-in-Overfull : goal.returns-in-Overfull
 returns-in-Overfull c = ap (λ (p : Phase). frames (pending_of p c.args.held.now)) c.in-Overfull.is ∙ frames-too_long

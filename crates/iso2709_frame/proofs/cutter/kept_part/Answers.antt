@@ -1,4 +1,4 @@
-use Rattle.std.proofs.Common.{◌≡◌, ℕ, ◌<◌, length, sym, arith}
+use Rattle.std.proofs.Common.{◌<◌, length, sym, arith}
 use Rattle.std.proofs.lemmas.Grind.{common_steps}
 use Rattle.iso2709_frame.proofs.FrameLaws.{gathered-skip_breaks}
 use Rattle.iso2709_frame.proofs.cutter.kept_part.Goals as goal
