@@ -1,3 +1,3 @@
--- Lemmas on writing a text in pieces, on reading from a list, and on counts by name.
+-- Lemmas on writing a text in pieces, and on the names and counts that a shelf keeps.
 pub mod Writes
-pub mod Names
+pub mod NamesKept

@@ -1,5 +1,5 @@
 -- A text that is written in pieces.
-use Rattle.std.proofs.Common.{◌≡◌, ◌≤◌, ℕ, List, [], ◌++◌, length, take, drop, refl, sym, ap, subst, ◌∙◌, append_assoc, append-nil, arith, length-append, take-append-drop}
+use Rattle.std.proofs.Common.{◌≡◌, ◌≤◌, ℕ, List, [], ◌++◌, length, take, drop, sym, ap, subst, ◌∙◌, append_assoc, append-nil, arith, length-append, take-append-drop}
 use Rattle.std.proofs.Math.Seq.{take-append_seam}
 use Rattle.std.proofs.KnownBytes.{Appends-trans, Appends-kept}
 use Rattle.std.specs.declared.option.Option.{Option}
@@ -24,7 +24,7 @@ pub written_more : (old mid new : Option (List ℕ)) (text rest : List ℕ) (tak
 written_more old mid new text rest taken so_far piece = record {
   front = so_far.front ++ take taken rest;
   split = so_far.split ∙ ap (λ l. so_far.front ++ l) (sym (take-append-drop taken rest)) ∙ sym (append_assoc so_far.front (take taken rest) (drop taken rest));
-  grown = Appends-trans old mid new so_far.front (take taken rest) so_far.grown piece
+  grown = Appends-trans old mid new so_far.front (take taken rest) so_far.grown piece;
 }
 
 -- a failure that wrote nothing leaves a front of the text written

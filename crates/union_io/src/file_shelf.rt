@@ -1,44 +1,17 @@
 //! The files of the system, read in pieces as large as the caller's buffer. Nothing is copied but by the system.
-ghost use Rattle.std.specs.Prelude.{◌≡◌, None, List, ℕ, [], IfOk};
+ghost use Rattle.std.specs.Prelude.{◌≡◌, None, List, ℕ, []};
 ghost use Rattle.union_io.specs.Opened.{names_in, count_in};
 
 use crate::failed::Failed;
 use crate::opened_names::OpenedNames;
+use crate::reader_source::ReaderSource;
 use crate::shelf::{OpenFail, Shelf};
-use crate::source::Source;
 use std::alloc::Global;
 use std::fs::File;
-use std::io::Read;
 use std::rt::Files;
 use std::str;
 use union_base::bytes::Bytes;
 use union_base::copied::Copied;
-
-/// An opened file, or any reader. It tells no content. Each error of a read is a fault, also one that a signal caused.
-#[derive(Drop)]
-pub struct FileSource<F: Read + Drop> {
-    file: F,
-    name: Bytes,
-    faults: u64,
-}
-
-impl<F: Read + Drop> Source for FileSource<F> {
-    ghost name = { λ source. source.name };
-
-    ghost left = { λ _. None };
-
-    ghost faults = { λ source. source.faults };
-
-    fn read(&mut self, into: &mut [u8]) -> Result<usize, Failed> {
-        match self.file.read(into) {
-            Ok(count) => Ok(count),
-            Err(_) => {
-                self.faults = self.faults.saturating_add(1);
-                Err(Failed)
-            }
-        }
-    }
-}
 
 /// The files of a runtime, by their paths in UTF-8. It tells no content.
 #[derive(Drop)]
@@ -47,15 +20,23 @@ pub struct FileShelf<R: Files + Drop> {
     names: OpenedNames,
 }
 
-impl<R: Files + Drop> FileShelf<R> {
+impl<R: Files + Drop> FileShelf<R>
+where
+    R::File: Send,
+{
     /// The files of that runtime, of which none was opened.
-    pub fn new(alloc: Global, files: R) -> FileShelf<R> {
+    pub fn new(alloc: Global, files: R) -> FileShelf<R>
+        ensures opened { ⟦<FileShelf<R> as Shelf>⟧.opened result ≡ [] }
+        ensures fresh { (name : List ℕ) → ⟦<FileShelf<R> as Shelf>⟧.faults result name ≡ 0 }
+    {
         FileShelf {
             files,
             names: OpenedNames::new(alloc),
         }
     }
+}
 
+impl<R: Files + Drop> FileShelf<R> {
     /// Opens the file of that path. A path that is no UTF-8 fails, as a missing file does.
     fn open_file(&self, path: &Bytes) -> Result<R::File, Failed> {
         let Ok(path) = str::from_utf8(path.bytes()) else {
@@ -72,7 +53,7 @@ impl<R: Files + Drop> Shelf for FileShelf<R>
 where
     R::File: Send,
 {
-    type Src = FileSource<R::File>;
+    type Src = ReaderSource<R::File>;
 
     ghost files = { λ _. None };
 
@@ -80,15 +61,11 @@ where
 
     ghost faults = { λ shelf. count_in shelf.names };
 
-    fn open(&mut self, alloc: Global, path: &Bytes) -> Result<FileSource<R::File>, OpenFail> {
+    fn open(&mut self, alloc: Global, path: &Bytes) -> Result<ReaderSource<R::File>, OpenFail> {
         let name = path.copied(alloc)?;
         self.names.add(path.copied(alloc)?)?;
         match self.open_file(path) {
-            Ok(file) => Ok(FileSource {
-                file,
-                name,
-                faults: 0,
-            }),
+            Ok(file) => Ok(ReaderSource::of(name, file)),
             Err(Failed) => {
                 self.names.count_fault(path);
                 Err(OpenFail::Failed)
@@ -96,7 +73,7 @@ where
         }
     }
 
-    fn give_back(&mut self, source: FileSource<R::File>) {
-        self.names.take_back(&source.name, source.faults);
+    fn give_back(&mut self, source: ReaderSource<R::File>) {
+        self.names.take_back(source.name(), source.faults());
     }
 }

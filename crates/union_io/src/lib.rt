@@ -17,6 +17,7 @@ pub mod mem_sink;
 pub mod mem_source;
 mod opened_names;
 mod pieces;
+pub mod reader_source;
 mod script;
 pub mod shelf;
 pub mod sink;
@@ -24,4 +25,6 @@ pub mod source;
 pub mod sure_shelf;
 pub mod sure_sink;
 pub mod sure_source;
+#[cfg(test)]
+mod tests;
 pub mod writer_sink;

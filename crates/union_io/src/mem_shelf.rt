@@ -1,7 +1,9 @@
 //! A shelf in memory, whose opens and reads fail where its scripts say so.
-ghost use Rattle.std.specs.Prelude.{◌≡◌, ◌≢◌, ◌<◌, ◌≤◌, ◌↔◌, ℕ, List, [], Some, None, false, Contains, IsTrue, IsErrOf, IfOk, OnOk, OnErr, IsSomeAnd, MatchOption};
-ghost use Rattle.union_io.specs.Causes.{Rose};
-ghost use Rattle.union_io.specs.Files.{told_of, SameCounts, SameElsewhere, AddsName};
+ghost use Rattle.std.specs.Prelude.{◌≡◌, ◌≢◌, ◌<◌, ◌≤◌, ◌↔◌, ℕ, List, [], Some, None, false, IsTrue, IsErrOf, IfOk, OnOk, OnErr, IsSomeAnd, MatchOption};
+ghost use Rattle.union_io.specs.Counts.{SameCounts, SameElsewhere};
+ghost use Rattle.union_io.specs.Files.{told_of};
+ghost use Rattle.union_io.specs.Names.{AddsName};
+ghost use Rattle.union_io.specs.Opening.{CountsOpen, ListsOpen};
 ghost use Rattle.union_io.specs.Opened.{names_in, count_in};
 ghost use Rattle.union_io.specs.Script.{after_call, new_script};
 ghost use Rattle.union_io.specs.Store.{at_name};
@@ -84,7 +86,13 @@ impl MemShelf {
 
     /// Stores a file, in place of one of that name. Its opened source gives at most `most` bytes per read, and the reads
     /// with the numbers `fails` fail, counted from 1.
-    pub fn put(&mut self, name: Bytes, content: Bytes, fails: Vec<u64>, most: usize) -> Result<(), Memory>
+    pub fn put(
+        &mut self,
+        name: Bytes,
+        content: Bytes,
+        fails: Vec<u64>,
+        most: usize,
+    ) -> Result<(), Memory>
         requires { 0 < most }
         ensures file { OnOk result (at_name self.new.files name
             ≡ Some (record { content = content; fails = fails.items; most = most })) }
@@ -117,7 +125,7 @@ impl MemShelf {
         ensures { IfOk result (λ found. MatchOption found
             (at_name self.now.files name.now ≡ None)
             (λ source. IsSomeAnd (at_name self.now.files name.now)
-                (λ file. source ≡ new_source name.now file.content file.fails file.most))) }
+            (λ file. source ≡ new_source name.now file.content file.fails file.most))) }
     {
         match self.files.get(name) {
             Some(file) => Ok(Some(file.opened(alloc, name)?)),
@@ -136,7 +144,7 @@ impl MemShelf {
         ensures found { IfOk result (λ found. MatchOption found
             (IsTrue (open_fails self.old path.now))
             (λ source. (open_fails self.old path.now ≡ false) × IsSomeAnd (at_name self.old.files path.now)
-                (λ file. source ≡ new_source path.now file.content file.fails file.most))) }
+            (λ file. source ≡ new_source path.now file.content file.fails file.most))) }
     {
         let source = self.source_of(alloc, path)?;
         self.names.add(path.copied(alloc)?)?;
@@ -166,20 +174,16 @@ impl Shelf for MemShelf {
         ensures fresh { IfOk result (λ source. source.faults ≡ 0) }
 
         ensures later { count_in self.old.names path.now ≤ count_in self.new.names path.now }
-        ensures failed { IsErrOf result OpenFail.Failed
-            → Rose (count_in self.old.names path.now) (count_in self.new.names path.now) }
-        ensures calm { result ≢ Err OpenFail.Failed → SameCounts (count_in self.old.names) (count_in self.new.names) }
+        ensures counts { CountsOpen result (count_in self.old.names) (count_in self.new.names) path.now }
         ensures others { SameElsewhere (count_in self.old.names) (count_in self.new.names) path.now }
 
-        ensures opened { result ≢ Err OpenFail.Memory
-            → AddsName (names_in self.old.names) (names_in self.new.names) path.now }
-        ensures memory { IsErrOf result OpenFail.Memory → names_in self.new.names ≡ names_in self.old.names }
+        ensures names { ListsOpen result (names_in self.old.names) (names_in self.new.names) path.now }
 
         // exactly these opens fail, and each other gives the file from its beginning
         ensures fails { IsErrOf result OpenFail.Failed → IsTrue (open_fails self.old path.now) }
         ensures ok { IfOk result (λ source. (open_fails self.old path.now ≡ false)
             × IsSomeAnd (at_name self.old.files path.now)
-                (λ file. source ≡ new_source path.now file.content file.fails file.most)) }
+            (λ file. source ≡ new_source path.now file.content file.fails file.most)) }
         ensures counted { result ≢ Err OpenFail.Memory → self.new.script ≡ after_call self.old.script }
         ensures uncounted { IsErrOf result OpenFail.Memory → self.new.script ≡ self.old.script }
     {

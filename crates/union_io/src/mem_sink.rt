@@ -28,10 +28,10 @@ impl Model for MemSink {
     ghost Value = { SinkState };
 
     ghost view = { λ sink. record {
-        written = sink.content.items;
-        limit = sink.limit;
-        script = sink.script;
-        faults = sink.faults
+      written = sink.content.items;
+      limit = sink.limit;
+      script = sink.script;
+      faults = sink.faults;
     } };
 
     ghost invariant = { λ sink. (vec_len sink.content ≤ sink.limit) × (sink.limit ≤ vec_capacity sink.content) };

@@ -30,11 +30,11 @@ impl Model for MemSource {
     ghost Value = { SourceState };
 
     ghost view = { λ source. record {
-        name = source.name;
-        left = source.pieces.left;
-        most = source.pieces.most;
-        script = source.script;
-        faults = source.faults
+      name = source.name;
+      left = source.pieces.left;
+      most = source.pieces.most;
+      script = source.script;
+      faults = source.faults;
     } };
 }
 

@@ -1,8 +1,9 @@
 //! The names that were opened at a shelf, each with its count of faults. A look-up takes time by the logarithm of their
 //! number.
-ghost use Rattle.std.specs.Prelude.{◌≡◌, ◌<◌, ◌≤◌, Contains, OnOk, OnErr, [], List, ℕ};
+ghost use Rattle.std.specs.Prelude.{◌≡◌, ◌<◌, ◌≤◌, IsTrue, OnOk, OnErr, [], List, ℕ};
 ghost use Rattle.union_io.specs.Causes.{next_count};
-ghost use Rattle.union_io.specs.Files.{AddsName, SameCounts, SameElsewhere};
+ghost use Rattle.union_io.specs.Counts.{SameCounts, SameElsewhere};
+ghost use Rattle.union_io.specs.Names.{is_among, AddsName};
 ghost use Rattle.union_io.specs.Opened.{names_in, count_in};
 
 use std::alloc::Global;
@@ -49,7 +50,7 @@ impl OpenedNames {
 
     /// Counts one fault more of a name that was opened. Takes no memory.
     pub fn count_fault(&mut self, name: &Bytes)
-        requires { Contains (names_in self.old) name.now }
+        requires { IsTrue (is_among name.now (names_in self.old)) }
         ensures names { names_in self.new ≡ names_in self.old }
         ensures raised { count_in self.new name.now ≡ next_count (count_in self.old name.now) }
         ensures later { count_in self.old name.now ≤ count_in self.new name.now }
@@ -62,7 +63,7 @@ impl OpenedNames {
 
     /// Takes back what was opened under the name, and counts one fault more of it if it had any. Takes no memory.
     pub fn take_back(&mut self, name: &Bytes, faults: u64)
-        requires { Contains (names_in self.old) name.now }
+        requires { IsTrue (is_among name.now (names_in self.old)) }
         ensures names { names_in self.new ≡ names_in self.old }
         ensures raised { 0 < faults → count_in self.new name.now ≡ next_count (count_in self.old name.now) }
         ensures calm { faults ≡ 0 → self.new ≡ self.old }

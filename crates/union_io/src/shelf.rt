@@ -1,8 +1,11 @@
 //! Files by name.
-ghost use Rattle.std.specs.Prelude.{◌≡◌, ◌≢◌, ◌<◌, ◌≤◌, ℕ, List, Contains, IfOk, IsErrOf};
+ghost use Rattle.std.specs.Prelude.{◌≡◌, ◌<◌, ◌≤◌, ℕ, List, IsTrue, IfOk};
 ghost use Rattle.std.specs.declared.option.Option.{Option};
 ghost use Rattle.union_io.specs.Causes.{Rose};
-ghost use Rattle.union_io.specs.Files.{told_of, SameCounts, SameElsewhere, AddsName};
+ghost use Rattle.union_io.specs.Counts.{SameCounts, SameElsewhere};
+ghost use Rattle.union_io.specs.Files.{told_of};
+ghost use Rattle.union_io.specs.Names.{is_among};
+ghost use Rattle.union_io.specs.Opening.{CountsOpen, ListsOpen};
 
 use crate::source::Source;
 use std::alloc::Global;
@@ -55,19 +58,17 @@ pub trait Shelf: Drop {
 
         // the counts
         ensures later { faults self.old path.now ≤ faults self.new path.now }
-        ensures failed { IsErrOf result OpenFail.Failed → Rose (faults self.old path.now) (faults self.new path.now) }
-        ensures calm { result ≢ Err OpenFail.Failed → SameCounts (faults self.old) (faults self.new) }
+        ensures counts { CountsOpen result (faults self.old) (faults self.new) path.now }
         ensures others { SameElsewhere (faults self.old) (faults self.new) path.now }
 
         // the names that were opened
-        ensures opened { result ≢ Err OpenFail.Memory → AddsName (opened self.old) (opened self.new) path.now }
-        ensures memory { IsErrOf result OpenFail.Memory → opened self.new ≡ opened self.old };
+        ensures names { ListsOpen result (opened self.old) (opened self.new) path.now };
 
     /// Takes an opened source back, and raises the count of its name exactly where a read of it failed. Takes no memory.
     fn give_back(&mut self, source: Self::Src)
-        requires { Contains (opened self.old) (Self.Src.name source) }
+        requires { IsTrue (is_among (Self.Src.name source) (opened self.old)) }
         ensures files { files self.new ≡ files self.old }
-        ensures opened { opened self.new ≡ opened self.old }
+        ensures names { opened self.new ≡ opened self.old }
         ensures later { faults self.old (Self.Src.name source) ≤ faults self.new (Self.Src.name source) }
         ensures raised { 0 < Self.Src.faults source
             → Rose (faults self.old (Self.Src.name source)) (faults self.new (Self.Src.name source)) }

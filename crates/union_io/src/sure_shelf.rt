@@ -1,6 +1,7 @@
 //! A shelf in memory of which nothing fails.
 ghost use Rattle.std.specs.Prelude.{◌≡◌, ◌≢◌, ◌<◌, ℕ, List, [], Some, IsErrOf, IfOk, IfSome, OnOk, OnErr, MatchOption};
-ghost use Rattle.union_io.specs.Files.{told_of, AddsName};
+ghost use Rattle.union_io.specs.Files.{told_of};
+ghost use Rattle.union_io.specs.Opening.{ListsOpen};
 ghost use Rattle.union_io.specs.Opened.{names_in};
 ghost use Rattle.union_io.specs.Store.{at_name};
 ghost use Rattle.union_io.specs.SureShelf.{sure_content_at};
@@ -39,11 +40,7 @@ impl SureFile {
         ensures { IfOk result (λ source. source
             ≡ record { name = name.now; left = self.now.content; most = self.now.most }) }
     {
-        Ok(SureSource::named(
-            name.copied(alloc)?,
-            self.content.copied(alloc)?,
-            self.most,
-        ))
+        Ok(SureSource::named(name.copied(alloc)?, self.content.copied(alloc)?, self.most))
     }
 }
 
@@ -95,11 +92,7 @@ impl SureShelf {
     {
         match self.files.get(name) {
             Some(file) => file.opened(alloc, name),
-            None => Ok(SureSource::named(
-                name.copied(alloc)?,
-                Bytes::from(Vec::new(alloc)),
-                1,
-            )),
+            None => Ok(SureSource::named(name.copied(alloc)?, Bytes::from(Vec::new(alloc)), 1)),
         }
     }
 }
@@ -121,9 +114,7 @@ impl Shelf for SureShelf {
         ensures left { IfOk result (λ source. Some source.left ≡ told_of (Some (sure_content_at self.old.files)) path.now) }
         ensures most { IfOk result (λ source. IfSome (at_name self.old.files path.now) (λ file. source.most ≡ file.most)) }
 
-        ensures opened { result ≢ Err OpenFail.Memory
-            → AddsName (names_in self.old.names) (names_in self.new.names) path.now }
-        ensures memory { IsErrOf result OpenFail.Memory → names_in self.new.names ≡ names_in self.old.names }
+        ensures names { ListsOpen result (names_in self.old.names) (names_in self.new.names) path.now }
 
         ensures never_failed { result ≢ Err OpenFail.Failed }
     {

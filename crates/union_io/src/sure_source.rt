@@ -26,9 +26,9 @@ impl Model for SureSource {
     ghost Value = { SureSourceState };
 
     ghost view = { λ source. record {
-        name = unwrap_or source.name [];
-        left = source.pieces.left;
-        most = source.pieces.most
+      name = unwrap_or source.name [];
+      left = source.pieces.left;
+      most = source.pieces.most;
     } };
 }
 

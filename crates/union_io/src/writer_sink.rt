@@ -1,6 +1,6 @@
 //! The standard streams, and any other writer, as sinks. A piece goes to the writer as it is given: whoever writes much
 //! gives large pieces.
-ghost use Rattle.std.specs.Prelude.{◌≡◌, ◌<◌, length, IfOk};
+ghost use Rattle.std.specs.Prelude.{◌≡◌};
 
 use crate::failed::Failed;
 use crate::sink::Sink;
@@ -23,8 +23,8 @@ pub type ErrSink = WriterSink<Stderr>;
 impl<W: Write + Drop> WriterSink<W> {
     /// The writer, of which no write has failed.
     pub fn of(writer: W) -> WriterSink<W>
-        ensures writer { result.writer ≡ writer }
-        ensures fresh { result.faults ≡ 0 }
+        ensures written { ⟦<WriterSink<W> as Sink>⟧.written result ≡ W.contents writer }
+        ensures fresh { ⟦<WriterSink<W> as Sink>⟧.faults result ≡ 0 }
     {
         WriterSink { writer, faults: 0 }
     }

@@ -8,6 +8,7 @@ returns-in_err-taken-clause-front g c =
     let front = front_written _ _ _ _ _ c.loop-rest.invariant.0 c.in_err-taken.ensures.bytes in search rules
 
 pub loop-rest-preserved : goal.loop-rest-preserved
-loop-rest-preserved g c =
-    (rw c.split_at.ensures.back (written_more _ _ _ _ _ c.in_ok-taken.taken c.loop-rest.invariant.0 c.in_ok-taken.ensures.bytes),
-    c.in_ok-taken.ensures.cause.cause ∙ c.loop-rest.invariant.1)
+loop-rest-preserved g c = (
+  rw c.split_at.ensures.back (written_more _ _ _ _ _ c.in_ok-taken.taken c.loop-rest.invariant.0 c.in_ok-taken.ensures.bytes),
+  c.in_ok-taken.ensures.cause.cause ∙ c.loop-rest.invariant.1,
+)

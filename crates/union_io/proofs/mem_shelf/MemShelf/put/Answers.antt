@@ -1,5 +1,5 @@
 -- What stands under another name is not touched.
-use Rattle.union_io.proofs.Names.{fails_other}
+use Rattle.union_io.proofs.NamesKept.{fails_other}
 use Rattle.union_io.proofs.mem_shelf.MemShelf.put.Goals as goal
 
 pub returns-clause-others : goal.returns-clause-others
