@@ -86,7 +86,8 @@ pub fn is_control_tag(tag: &[u8; 3]) -> bool
 pub fn is_text(text: &[u8]) -> bool
     ensures { result ≡ is_text text.now }
 {
-    text.iter().all(|b| !matches!(*b, RECORD_TERMINATOR..=DELIMITER))
+    text.iter()
+        .all(|b| !matches!(*b, RECORD_TERMINATOR..=DELIMITER))
 }
 
 /// Whether the byte may be an indicator. Takes no memory.
@@ -106,7 +107,9 @@ pub fn is_subfield_code(byte: u8) -> bool
 fn are_subfields(subfields: &[Subfield]) -> bool
     ensures { result ≡ list_all is_subfield subfields.now }
 {
-    subfields.iter().all(|s| is_subfield_code(s.code) && is_text(s.text.bytes()))
+    subfields
+        .iter()
+        .all(|s| is_subfield_code(s.code) && is_text(s.text.bytes()))
 }
 
 impl Copied for Body {
