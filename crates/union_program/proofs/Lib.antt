@@ -1,2 +1,4 @@
 pub mod ExportedLaws
 pub mod ExportedSizes
+pub mod CutLaws
+pub mod ReadingLaws

@@ -9,7 +9,8 @@ use Rattle.union_base.specs.declared.body.Body.TheVariants.{Control, Data}
 use Rattle.union_base.specs.declared.field.Field.{Field}
 use Rattle.marc_leader.specs.Codes.{Codes}
 use Rattle.marc_fields.specs.declared.marc_record.Record.{Record}
-use Rattle.union_program.specs.Plain.{has_tag, text_under}
+use Rattle.marc_fields.specs.Spelling.{spelling}
+use Rattle.union_program.specs.Plain.{has_tag, text_under, IsPlain}
 
 -- the field with this tag and this content, where they make one
 unfoldable pub field_of : List ℕ → Body → List Field
@@ -51,3 +52,7 @@ exported library r = record {
   leader = exported_codes r.leader;
   fields = set_of field_cmp (filter is_kept r.fields ++ own_fields library (text_under (codes "001") r.fields));
 }
+
+-- the text is the export of the library's stream, which is one plain record
+abbrev pub IsExport : List ℕ → List ℕ → List ℕ → Type 0
+IsExport library stream text = (r : Record) × IsPlain stream r × (text ≡ spelling (exported library r))

@@ -1,5 +1,6 @@
 pub mod Exported
 pub mod Plain
+pub mod Readings
 pub mod Statuses
 pub mod Texts
 pub mod Words

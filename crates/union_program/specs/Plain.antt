@@ -8,7 +8,7 @@ use Rattle.union_base.specs.declared.body.Body.{Body}
 use Rattle.union_base.specs.declared.body.Body.TheVariants.{Control, Data}
 use Rattle.union_base.specs.declared.field.Field.{Field}
 use Rattle.marc_leader.specs.Codes.{Codes, is_printable}
-use Rattle.marc_fields.specs.Spelling.{spelling}
+use Rattle.marc_fields.specs.Spelling.{spelling, Spells}
 use Rattle.marc_fields.specs.declared.marc_record.Record.{Record}
 use Rattle.iso2709_frame.specs.Frames.{frames}
 use Rattle.iso2709_frame.specs.declared.cut.Cut.TheVariants.{Whole}
@@ -88,8 +88,13 @@ are_plain_fields fields =
 abbrev pub is_plain_record : Record → Bool
 is_plain_record r = are_plain_codes r.leader && are_plain_fields r.fields
 
--- the stream is one frame of at most 9,000 bytes, which is the record's with the fields in the order of the directory
-pub record IsPlain (stream : List ℕ) (r : Record) : Type 0 where
+-- the stream is one frame of at most 9,000 bytes, which spells the record with the fields in the order of the directory
+pub record IsSole (stream : List ℕ) (r : Record) : Type 0 where
   pub one : frames stream ≡ (Whole, spelling r) ∷ []
+  pub spells : Spells (spelling r) r
   pub short : length (spelling r) ≤ longest_plain
+
+-- the stream is one plain record
+pub record IsPlain (stream : List ℕ) (r : Record) : Type 0 where
+  pub sole : IsSole stream r
   pub plain : IsTrue (is_plain_record r)

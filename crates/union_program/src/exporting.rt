@@ -1,8 +1,11 @@
 //! The record that is exported of a library's record.
-ghost use Rattle.std.specs.Prelude.{◌≡◌, ◌++◌, ◌∷◌, [], IfOk, OnOk, IsTrue, filter, codes};
+ghost use Rattle.std.specs.Prelude.{◌≡◌, ◌≤◌, ◌++◌, ◌∷◌, [], length, None, IfOk, OnOk, IsTrue, filter, codes};
 ghost use Rattle.union_base.specs.Fields.{is_field, is_text};
 ghost use Rattle.union_base.specs.declared.body.Body.TheVariants.{Control, Data};
-ghost use Rattle.union_program.specs.Plain.{is_plain_record};
+ghost use Rattle.union_base.specs.LibraryCodes.{is_library_code};
+ghost use Rattle.marc_fields.specs.Spelling.{spelling};
+ghost use Rattle.marc_fields.specs.Appending.{too_long};
+ghost use Rattle.union_program.specs.Plain.{is_plain_record, longest_plain};
 ghost use Rattle.union_program.specs.Exported.{field_of, joined_id, subfield, contributor, own_fields, is_kept, exported_codes, exported};
 
 use crate::plain::{has_tag, text_under};
@@ -24,9 +27,12 @@ const CATALOGUE: &[u8; 5] = b"UNION";
 
 /// The exported record of a plain record of this library.
 pub fn exported(alloc: Global, library: &LibraryCode, rec: Record) -> Result<Record, Memory>
-    requires { IsTrue (is_plain_record rec) }
-    ensures { IfOk result (λ r. r ≡ exported library.now rec) }
+    requires plain { IsTrue (is_plain_record rec) }
+    requires short { length (spelling rec) ≤ longest_plain }
+    ensures value { IfOk result (λ r. r ≡ exported library.now rec) }
+    ensures fits { IfOk result (λ r. too_long r ≡ None) }
 {
+    let library = library.bytes();
     let control = Bytes::of(alloc, text_under(b"001", rec.fields.as_slice()))?;
     let Record { leader, fields } = rec;
     let mut all = kept(fields.into_vec());
@@ -64,8 +70,9 @@ fn exported_codes(leader: LeaderCodes) -> LeaderCodes
 }
 
 /// Adds the catalogue's own fields.
-fn push_own_fields(alloc: Global, library: &LibraryCode, control: &Bytes, fields: &mut Vec<Field>) -> Result<(), Memory>
-    requires { IsTrue (is_text control.now) }
+fn push_own_fields(alloc: Global, library: &[u8], control: &Bytes, fields: &mut Vec<Field>) -> Result<(), Memory>
+    requires library { IsTrue (is_library_code library.now) }
+    requires control { IsTrue (is_text control.now) }
     ensures { OnOk result (fields.new.items ≡ fields.old.items ++ own_fields library.now control.now) }
 {
     fields.push(control_number_field(alloc, library, control)?)?;
@@ -75,11 +82,12 @@ fn push_own_fields(alloc: Global, library: &LibraryCode, control: &Bytes, fields
 }
 
 /// 001, the control number in the catalogue: `LIB.CTL`.
-fn control_number_field(alloc: Global, library: &LibraryCode, control: &Bytes) -> Result<Field, Memory>
-    requires { IsTrue (is_text control.now) }
+fn control_number_field(alloc: Global, library: &[u8], control: &Bytes) -> Result<Field, Memory>
+    requires library { IsTrue (is_library_code library.now) }
+    requires control { IsTrue (is_text control.now) }
     ensures { IfOk result (λ f. field_of (codes "001") (Control (joined_id library.now control.now)) ≡ f ∷ []) }
 {
-    let text = joined_id(alloc, library.bytes(), control.bytes())?;
+    let text = joined_id(alloc, library, control.bytes())?;
     Ok(control_field(b"001", text))
 }
 
@@ -103,11 +111,12 @@ fn catalogue_field(alloc: Global) -> Result<Field, Memory>
 }
 
 /// 993, a contributor: its library in $a and its control number there in $b.
-fn contributor_field(alloc: Global, library: &LibraryCode, control: &Bytes) -> Result<Field, Memory>
-    requires { IsTrue (is_text control.now) }
+fn contributor_field(alloc: Global, library: &[u8], control: &Bytes) -> Result<Field, Memory>
+    requires library { IsTrue (is_library_code library.now) }
+    requires control { IsTrue (is_text control.now) }
     ensures { IfOk result (λ f. field_of (codes "993") (contributor library.now control.now) ≡ f ∷ []) }
 {
-    let subfields = contributor_subfields(alloc, library.bytes(), control)?;
+    let subfields = contributor_subfields(alloc, library, control)?;
     Ok(blank_field(b"993", subfields))
 }
 

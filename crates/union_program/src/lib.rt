@@ -1,8 +1,11 @@
 //! The union catalogue as one call: from the words of a command line to the texts on its two outputs.
 #![tactic(auto)]
 
+pub mod export;
 pub mod exporting;
 pub mod input;
 pub mod plain;
+pub mod reading;
+pub mod sole;
 pub mod status;
 pub mod words;
