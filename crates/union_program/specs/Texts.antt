@@ -14,17 +14,17 @@ input_name (Library code) = code
 input_name Asks = codes "asks"
 input_name Script = codes "script"
 
--- the one line of a run that ended early, without its line feed; none of a run that was done, or could not write
-abbrev pub early_line : Status → List ℕ
-early_line Done = []
-early_line DoneWithRefusals = []
-early_line Usage = codes "union: bad command line"
-early_line (OpenFault input) = codes "union: cannot open " ++ input_name input
-early_line (ReadFault input) = codes "union: read failed in " ++ input_name input
-early_line WriteFault = []
-early_line (TooLong input) = codes "union: " ++ (input_name input ++ codes " is too long")
-early_line Memory = codes "union: out of memory"
-early_line NotBuilt = codes "union: not built"
+-- the one line of a run that ended early; none of a run that was done, or could not write
+abbrev pub early_text : Status → List ℕ
+early_text Done = []
+early_text DoneWithRefusals = []
+early_text Usage = codes "union: bad command line" ++ line_feed ∷ []
+early_text (OpenFault input) = codes "union: cannot open " ++ (input_name input ++ line_feed ∷ [])
+early_text (ReadFault input) = codes "union: read failed in " ++ (input_name input ++ line_feed ∷ [])
+early_text WriteFault = []
+early_text (TooLong input) = codes "union: " ++ (input_name input ++ (codes " is too long" ++ line_feed ∷ []))
+early_text Memory = codes "union: out of memory" ++ line_feed ∷ []
+early_text NotBuilt = codes "union: not built" ++ line_feed ∷ []
 
 -- the report of a library of which one record was loaded
 abbrev pub report_of_one : List ℕ → List ℕ

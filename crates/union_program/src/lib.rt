@@ -4,8 +4,10 @@
 pub mod export;
 pub mod exporting;
 pub mod input;
+pub mod notes;
 pub mod plain;
 pub mod reading;
+pub mod run;
 pub mod sole;
 pub mod status;
 pub mod words;
