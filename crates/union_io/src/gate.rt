@@ -1,4 +1,4 @@
-//! What stands round each turn of a session.
+//! What stands round each turn of a session, so that a test can hold sessions until they meet.
 
 /// Is told before and after each turn of a session, from whichever thread runs it. It changes nothing that a contract
 /// names.

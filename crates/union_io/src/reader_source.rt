@@ -1,4 +1,4 @@
-//! A reader, as an opened file, as a source.
+//! A reader, as an opened file, as a source. Each read is one read of the reader, straight into the caller's buffer.
 ghost use Rattle.std.specs.Prelude.{◌≡◌, ◌<◌, None, List, ℕ, length};
 ghost use Rattle.std.specs.Io.{ReadsAtMost};
 ghost use Rattle.std.specs.Io.KnownBytes.{ReadConsumes};
@@ -50,22 +50,22 @@ impl<R: Read + Drop> ReaderSource<R> {
 }
 
 impl<R: Read + Drop> Source for ReaderSource<R> {
-    ghost use Rattle.union_io.specs.ReaderSource.{reader_of};
+    ghost use Rattle.union_io.specs.ReaderSource.{reader_of, name_of, faults_of};
 
-    ghost name = { λ source. source.name };
+    ghost name = { name_of };
 
     ghost left = { λ _. None };
 
-    ghost faults = { λ source. source.faults };
+    ghost faults = { faults_of };
 
     /// One read of the reader, straight into `into`.
     fn read(&mut self, into: &mut [u8]) -> Result<usize, Failed>
         requires { 0 < length into.old }
-        ensures name { self.new.name ≡ self.old.name }
+        ensures name { name_of self.new ≡ name_of self.old }
         ensures bound { ReadsAtMost result into.new }
         ensures bytes { ReadConsumes None None result into.new }
         ensures end { EndsExactly None result }
-        ensures cause { HasCause self.old.faults self.new.faults result }
+        ensures cause { HasCause (faults_of self.old) (faults_of self.new) result }
 
         // no byte of the reader is lost, repeated or changed
         ensures passed { ReadConsumes (R.remaining (reader_of self.old)) (R.remaining (reader_of self.new)) result into.new }

@@ -1,4 +1,5 @@
-//! Files by name.
+//! Files by name. An opening that failed, and a file of which a read failed, raise the count of their name and of no
+//! other, so that whoever names a file as the cause can be held to it.
 ghost use Rattle.std.specs.Prelude.{◌≡◌, ◌<◌, ◌≤◌, ℕ, List, IsTrue, IfOk};
 ghost use Rattle.std.specs.declared.option.Option.{Option};
 ghost use Rattle.union_io.specs.Causes.{Rose};
@@ -46,7 +47,7 @@ pub trait Shelf: Drop {
     /// How often something failed under a name, up to the count's last value.
     ghost faults: { Self → List ℕ → ℕ };
 
-    /// Opens the file of that name. Whatever a want of memory leaves is as before; any other answer adds the name to
+    /// Opens the file of that name. A want of memory leaves the shelf as it was, and any other answer adds the name to
     /// those that were opened.
     fn open(&mut self, alloc: Global, path: &Bytes) -> Result<Self::Src, OpenFail>
         ensures files { files self.new ≡ files self.old }

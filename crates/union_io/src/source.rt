@@ -1,4 +1,5 @@
-//! Where bytes come from.
+//! Where bytes come from, in whatever pieces. A read gives the next bytes, 0 of them exactly at the end, or fails and
+//! raises the source's count.
 ghost use Rattle.std.specs.Prelude.{◌≡◌, ◌<◌, ℕ, List, length};
 ghost use Rattle.std.specs.declared.option.Option.{Option};
 ghost use Rattle.std.specs.Io.{ReadsAtMost};
