@@ -1,0 +1,9 @@
+mod Digits
+pub mod Inserting
+pub mod Places
+pub mod Resolutions
+pub mod Resolving
+pub mod Sorted
+mod Spending
+pub mod Tags
+pub mod Withdrawing

@@ -1,0 +1,4 @@
+pub mod Reach
+pub mod Resolution
+pub mod SmallSets
+pub mod Withdrawal

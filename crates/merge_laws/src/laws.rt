@@ -1,0 +1,52 @@
+//! What holds of every resolution, for every type that is `Resolvable`: each function here does nothing, and its
+//! contract is a fact that follows from the laws of the two traits alone. Callers and crates above cite it by a call.
+//!
+//! Cost: none. The definitions are in specs/Resolution.antt and specs/Reach.antt.
+ghost use Rattle.std.specs.Prelude.{◌≡◌, ◌↔◌, List, [], ◌∷◌, ◌++◌, IsTrue, Contains};
+ghost use Rattle.std.specs.List.Sorted.{IsPermutation};
+ghost use Rattle.merge_laws.specs.Resolution.{IsDominated, IsResolution, AreApart, IsDominatedOnce};
+
+use crate::resolvable::Resolvable;
+
+/// Domination is an order: each value dominates itself, what dominates a dominating value dominates, and values that
+/// dominate one another are one.
+pub fn domination_is_an_order<R: Resolvable>()
+    ensures reflexive { (x : R) → IsDominated R.meets R.join x x }
+    ensures transitive { (x y z : R) → IsDominated R.meets R.join x y → IsDominated R.meets R.join y z
+        → IsDominated R.meets R.join x z }
+    ensures antisymmetric { (x y : R) → IsDominated R.meets R.join x y → IsDominated R.meets R.join y x → x ≡ y }
+{}
+
+/// Members of a resolution at different places do not match.
+pub fn resolution_is_apart<R: Resolvable>()
+    ensures { (list resolution : List R) → IsResolution R.meets R.join list resolution → AreApart R.meets resolution }
+{}
+
+/// Each member of a list is dominated by the member at exactly one place of the list's resolution.
+pub fn each_is_dominated_once<R: Resolvable>()
+    ensures { (list resolution : List R) → IsResolution R.meets R.join list resolution
+        → (x : R) → Contains list x → IsDominatedOnce R.meets R.join resolution x }
+{}
+
+/// A list has one resolution, up to the order of its members.
+pub fn resolution_is_unique<R: Resolvable>()
+    ensures { (list one other : List R) → IsResolution R.meets R.join list one → IsResolution R.meets R.join list other
+        → IsPermutation one other }
+{}
+
+/// What resolves a resolution and more values resolves all the values: one value more, or a second list by its own
+/// resolution.
+pub fn resolution_goes_on<R: Resolvable>()
+    ensures with_one { (list resolution whole : List R) (value : R) → IsResolution R.meets R.join list resolution
+        → IsResolution R.meets R.join (resolution ++ value ∷ []) whole
+        → IsResolution R.meets R.join (list ++ value ∷ []) whole }
+    ensures with_list { (first second one two whole : List R) → IsResolution R.meets R.join first one
+        → IsResolution R.meets R.join second two → IsResolution R.meets R.join (one ++ two) whole
+        → IsResolution R.meets R.join (first ++ second) whole }
+{}
+
+/// The members of a list that a member of its resolution dominates are those that match it.
+pub fn dominated_is_matching<R: Resolvable>()
+    ensures { (list resolution : List R) → IsResolution R.meets R.join list resolution → (w x : R) → Contains list w
+        → Contains resolution x → IsDominated R.meets R.join w x ↔ IsTrue (R.meets w x) }
+{}

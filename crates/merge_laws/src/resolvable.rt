@@ -1,0 +1,49 @@
+//! Values that match or do not, and merge where they do.
+ghost use Rattle.std.specs.Prelude.{◌≡◌, ◌≢◌, ◌+◌, ◌↔◌, Bool, true, IfOk, Contains, AllPairs};
+ghost use Rattle.merge_laws.specs.Resolution.{MatchLaws, KeyLaws};
+
+use crate::join::Join;
+use crate::steps::Steps;
+use std::alloc::Global;
+use std::hash::Hash;
+use std::sync::ledger::Ledger;
+use union_base::memory::Memory;
+
+/// Values that can be resolved: a test says whether two of them stand for one thing, and then they merge. Values that
+/// match have an index key in common, so an index over keys finds all that a value can match.
+pub trait Resolvable: Join {
+    /// What values are looked up by.
+    type Key: Eq + Hash + Drop;
+
+    /// Whether two values match.
+    ghost meets: { Self → Self → Bool };
+
+    /// A value has a key.
+    ghost has_key: { Self → Self.Key → Type 0 };
+
+    /// Whether two values have a key in common.
+    ghost shares: { Self → Self → Bool };
+
+    /// Whether the values match. Counts exactly one step, and takes no memory.
+    fn matches<L: Ledger>(&self, other: &Self, steps: &mut Steps<L>) -> bool
+        ensures answer { result ≡ meets self.now other.now }
+        ensures counted { steps.new ≡ steps.old + 1 };
+
+    /// The keys of the value, each once, in any order. Memory where it runs out.
+    fn index_keys(&self, alloc: Global) -> Result<Vec<Self::Key>, Memory>
+        ensures keys { IfOk result (λ keys. (k : Self.Key) → Contains keys.items k ↔ has_key self.now k) }
+        ensures once { IfOk result (λ keys. AllPairs (λ j k. j ≢ k) keys.items) };
+
+    /// An equal key. Memory where it runs out.
+    fn copy_key(alloc: Global, key: &Self::Key) -> Result<Self::Key, Memory>
+        ensures { IfOk result (λ k. k ≡ key.now) };
+
+    /// Matching is reflexive and symmetric, and what matches one side of a merge matches the merge.
+    ghost match_laws: { MatchLaws meets Self.join };
+
+    /// Values that match share a key, and a merge has the keys of its two sides.
+    ghost key_laws: { KeyLaws meets Self.join has_key shares };
+
+    /// Keys that compare as equal are one key, so what is found under a key has that key.
+    ghost exact_keys: { (j k : Self.Key) → Self.Key.eq j k ≡ true → j ≡ k };
+}

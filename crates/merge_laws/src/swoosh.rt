@@ -1,0 +1,56 @@
+//! R-Swoosh, the plain resolver of Benjelloun and others, "Swoosh: a generic approach to entity resolution".
+//!
+//! Guarantee: what it answers is a resolution of its list (specs/Resolution.antt). Cost: at most k * k match tests and
+//! fewer than k merges for k values; values are moved and never copied.
+ghost use Rattle.std.specs.Prelude.{◌≡◌, ℕ, ◌+◌, ◌*◌, ◌<◌, ◌≤◌, false, IsTrue, length, slice_index_or, IfOk, IfSome, IfNone, All};
+ghost use Rattle.merge_laws.specs.Resolution.{IsResolution};
+
+use crate::resolvable::Resolvable;
+use crate::steps::Steps;
+use std::sync::ledger::Ledger;
+use union_base::memory::Memory;
+
+/// The place of the first of the values that the given one matches.
+fn first_match<R: Resolvable, L: Ledger>(
+    done: &[R],
+    value: &R,
+    steps: &mut Steps<L>,
+) -> Option<usize>
+    ensures within { IfSome result (λ i. i < length done.now) }
+    ensures found { IfSome result (λ i. (d : R) → IsTrue (R.meets value.now (slice_index_or done.now i d))) }
+    ensures none { IfNone result (All (λ x. R.meets value.now x ≡ false) done.now) }
+    ensures cost { steps.new ≤ steps.old + length done.now }
+{
+    for (i, other) in done.iter().enumerate() {
+        if value.matches(other, steps) {
+            return Some(i);
+        }
+    }
+    None
+}
+
+/// The resolution of the list, in an order that is not fixed. Counts at most k * k steps for k values, also where it
+/// answers Memory. Memory where it runs out.
+pub fn resolve_plain<R: Resolvable, L: Ledger>(
+    list: Vec<R>,
+    steps: &mut Steps<L>,
+) -> Result<Vec<R>, Memory>
+    ensures resolved { IfOk result (λ done. IsResolution R.meets R.join list.items done.items) }
+    ensures cost { steps.new ≤ steps.old + length list.items * length list.items }
+{
+    let alloc = *list.allocator();
+    let mut left = list;
+    let mut done: Vec<R> = Vec::with_capacity(alloc, left.len())?;
+    // A value that matches nothing is done. One that matches a value takes it out of those that are done, and their
+    // merge is tested anew, since it may match what neither of the two did.
+    while let Some(value) = left.pop() {
+        match first_match(done.as_slice(), &value, steps) {
+            None => done.push(value)?,
+            Some(at) => {
+                let other = done.swap_remove(at);
+                left.push(other.joined(alloc, &value)?)?;
+            }
+        }
+    }
+    Ok(done)
+}
