@@ -1,0 +1,6 @@
+pub mod Text
+pub mod Check
+pub mod Isbn
+pub mod Issn
+pub mod Lccn
+pub mod Control

@@ -1,0 +1,5 @@
+pub mod LettersLemmas
+pub mod WordsLemmas
+pub mod AsciiLemmas
+pub mod PartsLemmas
+pub mod SkipLemmas

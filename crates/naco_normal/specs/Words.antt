@@ -1,0 +1,23 @@
+-- Words in a row, with one blank between them.
+use Rattle.std.specs.Prelude.{ℕ, ◌&&◌, Bool, true, false, not, if◌then◌else◌, List, [], ◌∷◌, ◌++◌, filter}
+use Rattle.std.specs.List.{join_with_byte}
+
+-- U+0020, the one blank of a form
+abbrev pub blank : ℕ
+blank = 0x20
+
+abbrev pub is_empty : List ℕ → Bool
+is_empty [] = true
+is_empty (c ∷ cs) = false
+
+-- the words that are not empty, with one blank between each two
+abbrev pub joined_words : List (List ℕ) → List ℕ
+joined_words words = join_with_byte blank (filter (λ word. not (is_empty word)) words)
+
+-- the text, ready for the next character: with a blank where a gap goes before that and the text isn't empty
+abbrev pub after_gap : List ℕ → Bool → List ℕ
+after_gap text gap = if gap && not (is_empty text) then text ++ blank ∷ [] else text
+
+-- two texts, with one blank between them where neither is empty
+abbrev pub joined : List ℕ → List ℕ → List ℕ
+joined text more = if is_empty more then text else after_gap text true ++ more

@@ -1,0 +1,81 @@
+//! The normal form of a text, as `normal_form` in `specs/Normal.antt` has it.
+//!
+//! A text of ASCII goes through `ascii`, any other through `letters`; both meet the same clause.
+ghost use Rattle.std.specs.Prelude.{◌≡◌, chars, encode_utf8_all, IfOk, OnOk};
+ghost use Rattle.naco_normal.specs.Normal.{normal_form};
+ghost use Rattle.naco_normal.specs.Words.{joined};
+
+use crate::ascii::append_ascii;
+use crate::letters::{append_letters, letters};
+use std::alloc::Global;
+use union_base::bytes::Bytes;
+use union_base::memory::Memory;
+
+/// What becomes of the commas of a text (this project's own).
+#[derive(Clone, Copy, Debug, PartialEq, Eq)]
+pub enum Comma {
+    /// The first comma is kept where a letter or number stands after it, as in a name.
+    First,
+    /// No comma is kept, as in a title.
+    None,
+}
+
+impl Comma {
+    ghost use Rattle.naco_normal.specs.Shown.{keeps_first};
+
+    /// Whether the first comma is awaited.
+    pub(crate) fn keeps_first(self) -> bool
+        ensures { result ≡ keeps_first self }
+    {
+        match self {
+            Comma::First => true,
+            Comma::None => false,
+        }
+    }
+}
+
+/// The normal form of the text, in UTF-8, which is this project's own after NACO: compatibility decomposition, full
+/// case folding and decomposition again; marks, modifier letters and the signs `'`, `[` and `]` deleted; plain letters
+/// for `æ`, `œ`, `ø`, `đ`, `ð`, `þ`, `ł` and `ı`; letters, numbers, spacing marks and the signs `&`, `+`, `@`, `#`,
+/// `♭` and `♯` kept, and with `Comma::First` the first comma where a letter or number stands after it; every other
+/// character a blank, and the words joined by one blank. `Dvořák, Antonín,` gives `dvorak, antonin`.
+///
+/// Answers `Memory` where memory ran out.
+pub fn normal(alloc: Global, text: &str, comma: Comma) -> Result<Bytes, Memory>
+    ensures { IfOk result (λ b. b ≡ encode_utf8_all (normal_form comma (chars text.now))) }
+{
+    let mut form = Vec::with_capacity(alloc, text.len())?;
+    append_form(alloc, &mut form, text, comma)?;
+    Ok(Bytes::from(form))
+}
+
+/// Appends the form of the text, behind one blank where neither is empty.
+pub(crate) fn append_form(
+    alloc: Global,
+    form: &mut Vec<u8>,
+    text: &str,
+    comma: Comma,
+) -> Result<(), Memory>
+    ensures { OnOk result (form.new.items ≡ joined form.old.items (encode_utf8_all (normal_form comma (chars text.now)))) }
+{
+    if text.is_ascii() {
+        append_ascii(form, text.as_bytes(), comma)
+    } else {
+        append_any(alloc, form, text, comma)
+    }
+}
+
+/// The same by the steps on characters of every kind.
+fn append_any(alloc: Global, form: &mut Vec<u8>, text: &str, comma: Comma) -> Result<(), Memory>
+    ensures { OnOk result (form.new.items ≡ joined form.old.items (encode_utf8_all (normal_form comma (chars text.now)))) }
+{
+    let characters = characters(alloc, text)?;
+    append_letters(form, &letters(alloc, &characters)?, comma)
+}
+
+/// The characters of the text.
+fn characters(alloc: Global, text: &str) -> Result<Vec<char>, Memory>
+    ensures { IfOk result (λ v. v.items ≡ chars text.now) }
+{
+    Ok(text.chars().collect(alloc)?)
+}

@@ -1,0 +1,141 @@
+//! The heading and the title that a field's subfields make: the forms of their texts, joined by one blank, as
+//! `heading_of` and `title_of` in `specs/Heading.antt` have them.
+ghost use Rattle.std.specs.Prelude.{◌≡◌, ◌==◌, ◌||◌, ℕ, false, All, IsUtf8, chars, IfOk, OnOk};
+ghost use Rattle.std.specs.List.{list_any};
+ghost use Rattle.naco_normal.specs.Heading.{heading_of, title_of, skipped};
+ghost use Rattle.naco_normal.specs.Parts.{first_form, subfield_form, parts_of};
+ghost use Rattle.naco_normal.specs.Words.{joined};
+
+use crate::form::{Comma, append_form};
+use std::alloc::Global;
+use std::str;
+use union_base::bytes::Bytes;
+use union_base::memory::Memory;
+use union_base::subfield::Subfield;
+
+/// The code of the subfield that begins a name or a title.
+const MAIN_CODE: u8 = b'a';
+
+/// The heading of a name: the forms that aren't empty, of the subfields whose code is among `codes`, in their order and
+/// with one blank between each two. The first $a keeps its first comma where a letter or number stands after it; all
+/// other commas go (this project's own, for the fields X00, X10 and X11 of MARC 21).
+///
+/// Answers `Memory` where memory ran out.
+pub fn heading(alloc: Global, subfields: &[Subfield], codes: &[u8]) -> Result<Bytes, Memory>
+    requires { All (λ s. IsUtf8 s.text) subfields.now }
+    ensures { IfOk result (λ b. b ≡ heading_of subfields.now codes.now) }
+{
+    joined_forms(alloc, subfields, codes, FirstPart::WithComma)
+}
+
+/// The form of a title: the forms that aren't empty, of the subfields whose code is among `codes`, in their order and
+/// with one blank between each two. No comma is kept. The first $a is read behind its first `skip` characters (Unicode
+/// scalar values), where it has that many, else from its beginning (MARC 21, nonfiling characters).
+///
+/// Answers `Memory` where memory ran out.
+pub fn title(alloc: Global, subfields: &[Subfield], codes: &[u8], skip: u8) -> Result<Bytes, Memory>
+    requires { All (λ s. IsUtf8 s.text) subfields.now }
+    ensures { IfOk result (λ b. b ≡ title_of subfields.now codes.now skip) }
+{
+    joined_forms(alloc, subfields, codes, FirstPart::Behind(skip))
+}
+
+/// What is particular to the first $a.
+#[derive(Clone, Copy)]
+enum FirstPart {
+    /// Its first comma is kept.
+    WithComma,
+    /// It is read behind this number of characters, where it has that many.
+    Behind(u8),
+}
+
+/// The forms of the subfields whose code is among the codes, with one blank between each two that aren't empty.
+fn joined_forms(
+    alloc: Global,
+    subfields: &[Subfield],
+    codes: &[u8],
+    first: FirstPart,
+) -> Result<Bytes, Memory>
+    requires { All (λ s. IsUtf8 s.text) subfields.now }
+    ensures { IfOk result (λ b. b ≡ parts_of first false codes.now subfields.now) }
+{
+    let mut form = Vec::with_capacity(alloc, room(subfields))?;
+    let mut seen = false;
+    for subfield in subfields {
+        if !codes.contains(&subfield.code) {
+            continue;
+        }
+        append_subfield(alloc, &mut form, subfield, first, seen)?;
+        seen = seen | (subfield.code == MAIN_CODE);
+    }
+    Ok(Bytes::from(form))
+}
+
+/// Room for the texts and the blanks between them.
+fn room(subfields: &[Subfield]) -> usize {
+    let mut room: usize = 0;
+    for subfield in subfields {
+        room = room
+            .saturating_add(subfield.text.bytes().len())
+            .saturating_add(1);
+    }
+    room
+}
+
+/// Appends the form of one subfield; `seen` says that a $a came before it.
+fn append_subfield(
+    alloc: Global,
+    form: &mut Vec<u8>,
+    subfield: &Subfield,
+    first: FirstPart,
+    seen: bool,
+) -> Result<(), Memory>
+    requires { IsUtf8 subfield.now.text }
+    ensures { OnOk result (form.new.items ≡ joined form.old.items (subfield_form first seen subfield.now)) }
+{
+    let text = text_of(subfield);
+    if seen || subfield.code != MAIN_CODE {
+        append_form(alloc, form, text, Comma::None)
+    } else {
+        append_first(alloc, form, text, first)
+    }
+}
+
+/// Appends the form of the first $a.
+fn append_first(
+    alloc: Global,
+    form: &mut Vec<u8>,
+    text: &str,
+    first: FirstPart,
+) -> Result<(), Memory>
+    ensures { OnOk result (form.new.items ≡ joined form.old.items (first_form first text.now)) }
+{
+    match first {
+        FirstPart::WithComma => append_form(alloc, form, text, Comma::First),
+        FirstPart::Behind(skip) => append_form(alloc, form, behind(text, skip), Comma::None),
+    }
+}
+
+/// The text of the subfield.
+fn text_of(subfield: &Subfield) -> &str
+    requires { IsUtf8 subfield.now.text }
+    ensures { result.now ≡ subfield.now.text }
+{
+    match str::from_utf8(subfield.text.bytes()) {
+        Ok(text) => text,
+        Err(_) => unreachable!(),
+    }
+}
+
+/// The text without its first characters, where it has that many, else all of it.
+fn behind(text: &str, skip: u8) -> &str
+    ensures { chars result.now ≡ skipped skip (chars text.now) }
+{
+    let mut rest = text.chars();
+    for _passed in 0..skip {
+        let Some(_character) = rest.next() else {
+            return text;
+        };
+    }
+    rest.as_str()
+}

@@ -1,0 +1,50 @@
+//! Words in a row, with one blank between them, written character by character.
+//!
+//! A form is grown in place: a gap is remembered, and its one blank is written only once a character follows, so runs
+//! of blanks and blanks at the ends never come to be.
+ghost use Rattle.std.specs.Prelude.{◌≡◌, [], ◌∷◌, ◌++◌, encode_utf8, if◌then◌else◌, OnOk};
+ghost use Rattle.naco_normal.specs.Words.{after_gap};
+
+use union_base::memory::Memory;
+
+const BLANK: u8 = b' ';
+
+/// Appends the character where it shows, behind one blank where a gap goes before it and it isn't the first.
+pub(crate) fn push_shown(form: &mut Vec<u8>, gap: bool, shown: bool, c: char) -> Result<(), Memory>
+    ensures { OnOk result (form.new.items ≡ (if shown then after_gap form.old.items gap ++ encode_utf8 c else form.old.items)) }
+{
+    if !shown {
+        return Ok(());
+    }
+    open_word(form, gap)?;
+    let mut room = [0; 4];
+    form.extend_from_slice(c.encode_utf8(&mut room).as_bytes())?;
+    Ok(())
+}
+
+/// The same of an ASCII character.
+pub(crate) fn push_shown_byte(
+    form: &mut Vec<u8>,
+    gap: bool,
+    shown: bool,
+    byte: u8,
+) -> Result<(), Memory>
+    ensures { OnOk result (form.new.items ≡ (if shown then after_gap form.old.items gap ++ byte ∷ [] else form.old.items)) }
+{
+    if !shown {
+        return Ok(());
+    }
+    open_word(form, gap)?;
+    form.push(byte)?;
+    Ok(())
+}
+
+/// Appends one blank where a gap comes behind a word.
+fn open_word(form: &mut Vec<u8>, gap: bool) -> Result<(), Memory>
+    ensures { OnOk result (form.new.items ≡ after_gap form.old.items gap) }
+{
+    if gap && !form.is_empty() {
+        form.push(BLANK)?;
+    }
+    Ok(())
+}
