@@ -1,0 +1,50 @@
+//! The program: the real files and streams, handed to the one call that does all the work.
+#![tactic(auto)]
+
+use std::alloc::Global;
+use std::env;
+use std::io::ErrorKind;
+use std::process::ExitCode;
+use union_base::bytes::Bytes;
+use union_base::memory::Memory;
+use union_io::file_shelf::FileShelf;
+use union_io::gate::OpenGate;
+use union_io::writer_sink::{ErrSink, OutSink};
+use union_program::run::union_run;
+use union_program::status::Status;
+
+/// A word in no form that the program has. It stands for words that are no UTF-8.
+const NO_WORD: &[u8; 1] = b"\xFF";
+
+fn main(rt: HostRuntime) -> ExitCode {
+    ExitCode::from(run(&rt).exit_number())
+}
+
+fn run(rt: &HostRuntime) -> Status {
+    let alloc = rt.alloc();
+    let Ok(words) = words(rt, alloc) else {
+        return Status::Memory;
+    };
+    let Ok(files) = rt.clone() else {
+        return Status::Memory;
+    };
+    let mut shelf = FileShelf::new(alloc, files);
+    let mut out = OutSink::of(rt.stdout());
+    let mut notes = ErrSink::of(rt.stderr());
+    union_run(rt, alloc, words.as_slice(), &mut shelf, &mut out, &mut notes, &OpenGate)
+}
+
+/// The words behind the program's name.
+fn words(rt: &HostRuntime, alloc: Global) -> Result<Vec<Bytes>, Memory> {
+    let mut words = Vec::new(alloc);
+    match env::args(rt) {
+        Ok(args) => {
+            for word in args.skip(1) {
+                words.push(Bytes::of(alloc, word.as_str().as_bytes())?)?;
+            }
+        }
+        Err(error) if error.kind() == ErrorKind::OutOfMemory => return Err(Memory),
+        Err(_) => words.push(Bytes::of(alloc, NO_WORD)?)?,
+    }
+    Ok(words)
+}

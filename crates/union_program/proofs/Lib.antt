@@ -1,0 +1,6 @@
+pub mod ExportedLaws
+pub mod ExportedSizes
+pub mod CutLaws
+pub mod ReadingLaws
+pub mod NoteLaws
+pub mod RunLaws
