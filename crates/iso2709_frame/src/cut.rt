@@ -1,7 +1,8 @@
 //! How a frame was cut from a stream.
+use union_base::body;
 
 /// The byte that ends a record (ISO 2709, 'Record terminator').
-pub const RECORD_TERMINATOR: u8 = 0x1D;
+pub const RECORD_TERMINATOR: u8 = body::RECORD_TERMINATOR;
 
 /// CR, which is skipped where it stands in front of a record. This project's own.
 pub const CARRIAGE_RETURN: u8 = 0x0D;

@@ -11,3 +11,5 @@ pub mod run;
 pub mod sole;
 pub mod status;
 pub mod words;
+#[cfg(test)]
+mod tests;
