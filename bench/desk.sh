@@ -8,8 +8,8 @@ turns=${1:-2000000}
 work=$(mktemp -d)
 trap 'rm -rf "$work"' EXIT
 rustc -O -o "$work/mutex" "$top/bench/desk_mutex.rs"
-(cd "$top/crates/desk_bench" && rt run >/dev/null 2>&1)
-desk="$top/crates/desk_bench/out/desk_bench"
+(cd "$top/crates/bench_desk" && rt run >/dev/null 2>&1)
+desk="$top/crates/bench_desk/out/bench_desk"
 python3 - "$desk" "$work/mutex" "$turns" <<'P'
 import statistics, subprocess, sys, time
 desk, mutex, turns = sys.argv[1], sys.argv[2], int(sys.argv[3])
