@@ -31,7 +31,15 @@ fn run(rt: &HostRuntime) -> Status {
     let mut shelf = FileShelf::new(alloc, files);
     let mut out = OutSink::of(rt.stdout());
     let mut notes = ErrSink::of(rt.stderr());
-    union_run(rt, alloc, words.as_slice(), &mut shelf, &mut out, &mut notes, &OpenGate)
+    union_run(
+        rt,
+        alloc,
+        words.as_slice(),
+        &mut shelf,
+        &mut out,
+        &mut notes,
+        &OpenGate,
+    )
 }
 
 /// The words behind the program's name.

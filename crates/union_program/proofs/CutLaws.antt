@@ -33,7 +33,7 @@ pub finished : (pending rest new : List ℕ) (n : ℕ) (cut : Option Cut) → n 
 finished pending rest new n cut taken open_text says ends =
     let none : drop n rest ≡ [] = taken_whole rest n taken open_text in
     ap (λ xs. frames (pending ++ xs)) (sym (append-nil rest)) ∙ says [] ∙ ap (λ xs. frames (new ++ (xs ++ []))) none ∙ ap frames (append-nil new) ∙ ends
-      ∙ sym (append-nil (told cut [])) ∙ ap (λ xs. told cut [] ++ frames xs) (sym none)
+    ∙ sym (append-nil (told cut [])) ∙ ap (λ xs. told cut [] ++ frames xs) (sym none)
 
 -- nothing is left
 pub nothing_left : (rest : List ℕ) (n : ℕ) → n ≡ length (first_piece rest) → false ≡ list_any is_terminator rest → frames ([] ++ drop n rest) ≡ []

@@ -17,7 +17,7 @@ use Rattle.union_program.specs.Exported.{field_of, joined_id}
 
 field_of-cases : (tag : List ℕ) (body : Body) (b : Bool) (found : is_field tag body ≡ b) (fits : is_field tag body ≡ true)
     → ◌≡◌ {A = List Field} (elim b as (λ answer. is_field tag body ≡ answer → List Field) [
-      true ↦ λ proof. record { tag = tag; body = body; well_formed = proof } ∷ []
+      | true ↦ λ proof. record { tag = tag; body = body; well_formed = proof } ∷ []
       | false ↦ λ _. []
     ] found) (record { tag = tag; body = body; well_formed = fits } ∷ [])
 field_of-cases tag body true found fits = λ i. record { tag = tag; body = body; well_formed = Bool-set (is_field tag body) true found fits i } ∷ []

@@ -54,7 +54,7 @@ unfolding total
 total-put f [] = omega arith
 total-put f (x ∷ xs) =
     elim (field_cmp f x) as (λ r. total (match_ordering r (f ∷ x ∷ xs) (x ∷ xs) (x ∷ put field_cmp f xs)) ≤ (12 + length (stored f)) + total (x ∷ xs)) [
-      Less ↦ omega arith
+      | Less ↦ omega arith
       | Equal ↦ omega arith
       | Greater ↦ omega (arith, total-put f xs)
     ]
@@ -78,10 +78,10 @@ total-field_of : (tag : List ℕ) (body : Body) → total (field_of tag body) �
 unfolding total field_of
 total-field_of tag body =
     elim (is_field tag body) as (λ b. (e : is_field tag body ≡ b) → total (elim b as (λ fits. is_field tag body ≡ fits → List Field) [
-      true ↦ λ fits. record { tag = tag; body = body; well_formed = fits } ∷ []
+      | true ↦ λ fits. record { tag = tag; body = body; well_formed = fits } ∷ []
       | false ↦ λ _. []
     ] e) ≤ 13 + length (spelled body)) [
-      true ↦ λ e. omega (arith, length-append (spelled body) (0x1E ∷ []))
+      | true ↦ λ e. omega (arith, length-append (spelled body) (0x1E ∷ []))
       | false ↦ λ e. omega arith
     ] refl
 
@@ -116,7 +116,7 @@ nothing_wrong false b x y z p q = cc
 not_too_long : (r : Record) → total r.fields ≤ 9300 → too_long r ≡ None
 not_too_long r h =
     nothing_wrong (list_all is_short r.fields) (nat_le (frame_size r) longest_frame) None (Some RecordTooLong) (Some FieldTooLong)
-      (are_short r.fields (omega arith)) (le-leb (frame_size r) 99999 (omega (arith, frame_size-total r.fields)))
+    (are_short r.fields (omega arith)) (le-leb (frame_size r) 99999 (omega (arith, frame_size-total r.fields)))
 
 -- the export of a plain record can be written
 pub exported-fits : (library : List ℕ) (r : Record) → is_library_code library ≡ true → is_plain_record r ≡ true → length (spelling r) ≤ 9000
@@ -126,5 +126,12 @@ exported-fits library r code plain short =
     let fields : List Field = filter is_kept r.fields ++ own_fields library control in
     let own : total (own_fields library control) ≤ 211 = total-own_fields library control (longest-is_library_code library code) (longest-control r plain) in
     let size : frame_size r ≤ 9000 = omega (arith, length-spelling r) in
-    not_too_long (exported library r) (omega (arith, total-union fields, total-append (filter is_kept r.fields) (own_fields library control), total-filter r.fields,
-      frame_size-total r.fields, own, size))
+    not_too_long (exported library r) (omega (
+      arith,
+      total-union fields,
+      total-append (filter is_kept r.fields) (own_fields library control),
+      total-filter r.fields,
+      frame_size-total r.fields,
+      own,
+      size,
+    ))

@@ -15,7 +15,11 @@ use union_base::library_code::LibraryCode;
 use union_base::memory::Memory;
 
 /// The export of the library's stream, where that is one plain record; else None.
-pub fn export_of(alloc: Global, library: &LibraryCode, stream: &[u8]) -> Result<Option<Vec<u8>>, Memory>
+pub fn export_of(
+    alloc: Global,
+    library: &LibraryCode,
+    stream: &[u8],
+) -> Result<Option<Vec<u8>>, Memory>
     ensures { IfOk result (λ found. MatchOption found ((r : Record) → IsPlain stream.now r → ⊥)
         (λ text. IsExport library.now stream.now text.items)) }
 {

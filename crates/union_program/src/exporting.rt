@@ -55,7 +55,8 @@ fn kept(mut fields: Vec<Field>) -> Vec<Field>
 fn is_kept(field: &Field) -> bool
     ensures { result ≡ is_kept field.now }
 {
-    !((has_tag(b"001", field) || has_tag(b"003", field)) || (has_tag(b"991", field) || has_tag(b"993", field)))
+    !((has_tag(b"001", field) || has_tag(b"003", field))
+        || (has_tag(b"991", field) || has_tag(b"993", field)))
 }
 
 fn exported_codes(leader: LeaderCodes) -> LeaderCodes
@@ -70,7 +71,12 @@ fn exported_codes(leader: LeaderCodes) -> LeaderCodes
 }
 
 /// Adds the catalogue's own fields.
-fn push_own_fields(alloc: Global, library: &[u8], control: &Bytes, fields: &mut Vec<Field>) -> Result<(), Memory>
+fn push_own_fields(
+    alloc: Global,
+    library: &[u8],
+    control: &Bytes,
+    fields: &mut Vec<Field>,
+) -> Result<(), Memory>
     requires library { IsTrue (is_library_code library.now) }
     requires control { IsTrue (is_text control.now) }
     ensures { OnOk result (fields.new.items ≡ fields.old.items ++ own_fields library.now control.now) }
@@ -120,7 +126,11 @@ fn contributor_field(alloc: Global, library: &[u8], control: &Bytes) -> Result<F
     Ok(blank_field(b"993", subfields))
 }
 
-fn contributor_subfields(alloc: Global, library: &[u8], control: &Bytes) -> Result<Sequence<Subfield>, Memory>
+fn contributor_subfields(
+    alloc: Global,
+    library: &[u8],
+    control: &Bytes,
+) -> Result<Sequence<Subfield>, Memory>
     ensures { IfOk result (λ all. all ≡ subfield 0x61 library.now ∷ subfield 0x62 control.now ∷ []) }
 {
     let mut subfields = Vec::with_capacity(alloc, 2)?;

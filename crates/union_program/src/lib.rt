@@ -10,6 +10,6 @@ pub mod reading;
 pub mod run;
 pub mod sole;
 pub mod status;
-pub mod words;
 #[cfg(test)]
 mod tests;
+pub mod words;

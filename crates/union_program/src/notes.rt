@@ -26,7 +26,12 @@ pub fn put_report<N: Sink>(notes: &mut N, library: &LibraryCode) -> Result<(), F
     ensures front { OnErr result (AppendsFront (N.written notes.old) (N.written notes.new) (report_of_one library.now)) }
     ensures cause { HasCause (N.faults notes.old) (N.faults notes.new) result }
 {
-    put_parts(notes, library.bytes(), b" frames 1 added 1 replaced 0 removed 0 absent 0 refused 0", b"\n")
+    put_parts(
+        notes,
+        library.bytes(),
+        b" frames 1 added 1 replaced 0 removed 0 absent 0 refused 0",
+        b"\n",
+    )
 }
 
 /// The three parts of the line: what stands before an input's name, the name, and what stands behind it.

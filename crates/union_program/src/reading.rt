@@ -89,7 +89,11 @@ fn read_pieces<S: Source>(alloc: Global, source: &mut S) -> Result<Reading, Stop
 }
 
 /// Reads once, and adds what was read to the content; answers how many bytes that is.
-fn append_piece<S: Source>(source: &mut S, piece: &mut [u8], content: &mut Vec<u8>) -> Result<usize, Stop>
+fn append_piece<S: Source>(
+    source: &mut S,
+    piece: &mut [u8],
+    content: &mut Vec<u8>,
+) -> Result<usize, Stop>
     requires { 0 < length piece.old }
     ensures name { S.name source.new ≡ S.name source.old }
     ensures taken { IfOk result (λ count. TakesPiece (S.left source.old) (S.left source.new) content.old.items content.new.items count) }

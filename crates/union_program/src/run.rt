@@ -100,7 +100,12 @@ pub fn union_run<R, F: Shelf, O: Sink, N: Sink, G: Gate>(
 }
 
 /// The export of the library's file, or the status of a run that ends before it writes.
-fn prepare<F: Shelf>(alloc: Global, library: LibraryCode, path: &[u8], shelf: &mut F) -> Result<Vec<u8>, Status>
+fn prepare<F: Shelf>(
+    alloc: Global,
+    library: LibraryCode,
+    path: &[u8],
+    shelf: &mut F,
+) -> Result<Vec<u8>, Status>
     ensures export { IfOk result (λ text. IfSome (told_of (F.files shelf.old) path.now) (λ stream. IsExport library stream text.items)) }
     ensures kinds { IfErr result (λ status. IsTrue (ends_input status)) }
     ensures open_fault { (i : Input) → result ≡ Err (Status.OpenFault i)
@@ -152,7 +157,12 @@ fn read_file<F: Shelf>(alloc: Global, path: &Bytes, shelf: &mut F) -> Result<Rea
 }
 
 /// Writes the export and the library's report: the status is `Done` or `WriteFault`.
-fn write_export<O: Sink, N: Sink>(library: &LibraryCode, text: &[u8], out: &mut O, notes: &mut N) -> Status
+fn write_export<O: Sink, N: Sink>(
+    library: &LibraryCode,
+    text: &[u8],
+    out: &mut O,
+    notes: &mut N,
+) -> Status
     ensures kinds { (result ≡ Status.Done) ⊎ (result ≡ Status.WriteFault) }
     ensures done { result ≡ Status.Done → Appends (O.written out.old) (O.written out.new) text.now }
     ensures reported { result ≡ Status.Done → Appends (N.written notes.old) (N.written notes.new) (report_of_one library.now) }

@@ -9,7 +9,7 @@ loop-source-init g c =
 pub returns-in-Ok-eq0-clause-matches : goal.returns-in-Ok-eq0-clause-matches
 returns-in-Ok-eq0-clause-matches g c =
     whole_read _ _ _ c.loop-source.content.items _ _ _ c.loop-source.invariant.taken c.in-Ok-eq0.ensures.taken c.in-Ok-eq0.field-0-test
-      (c.in-Ok-eq0.ensures.end c.in-Ok-eq0.field-0-test) (omega arith)
+    (c.in-Ok-eq0.ensures.end c.in-Ok-eq0.field-0-test) (omega arith)
 
 pub loop-source-preserved : goal.loop-source-preserved
 loop-source-preserved g c =
