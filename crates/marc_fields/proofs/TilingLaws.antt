@@ -1,0 +1,86 @@
+-- What marking the bytes of entries shows.
+use Rattle.std.proofs.Common.{◌≡◌, ℕ, zero, suc, ◌+◌, ◌-◌, ◌<◌, ◌≤◌, Bool, true, false, not, ◌&&◌, ◌||◌, List, [], ◌∷◌, ◌++◌, length, get_or, take, drop, refl, sym, ◌∙◌, ap, subst, arith, add-one, Option, None, Some}
+use Rattle.std.proofs.Math.Seq.{drop-cons, take-length}
+use Rattle.std.proofs.lemmas.Bool.{and_parts, and_from}
+use Rattle.std.proofs.lemmas.Bool.Decides.{nat_tests}
+use Rattle.std.proofs.lemmas.List.Folds.{list_any-append}
+use Rattle.std.specs.List.{list_all, list_any}
+use Rattle.std.specs.Prelude.{nat_le, if◌then◌else◌}
+use Rattle.marc_leader.specs.declared.entry.Entry.{Entry}
+use Rattle.marc_fields.specs.Rows.{any_from, all_from, ends_in_only, fails}
+use Rattle.marc_fields.specs.Rules.{is_tile, is_owned, shares, range_of, tiling_from, tiling_failure}
+use Rattle.marc_fields.specs.declared.rules.Rule.TheVariants.{Tiling}
+use Rattle.marc_fields.specs.Spelling.{is_in}
+use Rattle.marc_fields.specs.Tilings.{AreOwners, is_marked}
+use Rattle.marc_fields.proofs.AppendingLaws.{take_one_more}
+use Rattle.marc_fields.proofs.RowLaws.{any_from-marks, all_from-marks}
+
+-- an entry's bytes are free where none is marked
+free_is : (test : Bool) (bytes : List ℕ) (earlier : List Entry) (marks : List Bool) (e : Entry) → is_tile bytes e ≡ test → length marks ≡ length bytes
+    → AreOwners earlier marks
+    → (test && not (list_any is_marked (take e.length (drop e.start marks)))) ≡ (test && not (shares earlier e))
+free_is true bytes earlier marks e is size owners =
+    let both = and_parts (nat_le (e.start + e.length) (length bytes)) (ends_in_only 0x1E (range_of bytes e)) is in
+    let room : e.start + e.length ≤ length marks = fits_in (e.start + e.length) (length bytes) (length marks) both.0 size in
+    ap not (sym (any_from-marks (is_owned earlier) marks e.start e.length owners room))
+  where
+    fits_in : (m n k : ℕ) → nat_le m n ≡ true → k ≡ n → m ≤ k
+    fits_in m n k h s = grind (arith, nat_tests)
+free_is false bytes earlier marks e is size owners = refl
+
+pub free-is : (bytes : List ℕ) (earlier : List Entry) (marks : List Bool) (e : Entry) → length marks ≡ length bytes → AreOwners earlier marks
+    → (is_tile bytes e && not (list_any is_marked (take e.length (drop e.start marks)))) ≡ (is_tile bytes e && not (shares earlier e))
+free-is bytes earlier marks e size owners = free_is (is_tile bytes e) bytes earlier marks e refl size owners
+
+-- the next entry is no free field
+pub tiling-here : (bytes : List ℕ) (entries : List Entry) (i : ℕ) (e : Entry) → i < length entries → e ≡ get_or entries i e
+    → (is_tile bytes e && not (shares (take i entries) e)) ≡ false → tiling_from bytes (take i entries) (i + 1) (drop i entries) ≡ Some (i + 1)
+tiling-here bytes entries i e below is test =
+    ap (tiling_from bytes (take i entries) (i + 1)) (drop-cons entries i e below ∙ ap (λ x. x ∷ drop (suc i) entries) (sym is)) ∙ rw test refl
+
+-- the next entry is one
+pub tiling-later : (bytes : List ℕ) (entries : List Entry) (i : ℕ) (e : Entry) → i < length entries → e ≡ get_or entries i e
+    → (is_tile bytes e && not (shares (take i entries) e)) ≡ true
+    → tiling_from bytes (take i entries) (i + 1) (drop i entries) ≡ tiling_from bytes (take (i + 1) entries) (i + 1 + 1) (drop (i + 1) entries)
+tiling-later bytes entries i e below is test =
+    ap (tiling_from bytes (take i entries) (i + 1)) (drop-cons entries i e below ∙ ap (λ x. x ∷ drop (suc i) entries) (sym is))
+        ∙ (rw test (ap (λ es. tiling_from bytes es (suc (i + 1)) (drop (suc i) entries)) (sym (take_one_more entries i e below is)))
+        ∙ (ap (λ k. tiling_from bytes (take (i + 1) entries) k (drop (suc i) entries)) (sym (add-one (i + 1)))
+        ∙ ap (λ k. tiling_from bytes (take (i + 1) entries) (i + 1 + 1) (drop k entries)) (sym (add-one i))))
+
+or_none : (test : Bool) → (test || false) ≡ test
+or_none true = refl
+or_none false = refl
+
+-- one more entry has its bytes
+pub owners-more : (entries : List Entry) (i : ℕ) (e : Entry) (old new : List Bool) → i < length entries → e ≡ get_or entries i e
+    → AreOwners (take i entries) old → ((k : ℕ) → get_or new k false ≡ (get_or old k false || is_in k e)) → AreOwners (take (i + 1) entries) new
+owners-more entries i e old new below is owners marks = λ k.
+    let more : is_owned (take (i + 1) entries) k ≡ (is_owned (take i entries) k || is_in k e)
+        = ap (λ es. is_owned es k) (take_one_more entries i e below is)
+          ∙ (list_any-append (is_in k) (take i entries) (e ∷ []) ∙ ap (λ b. is_owned (take i entries) k || b) (or_none (is_in k e))) in
+    marks k ∙ (ap (λ b. b || is_in k e) (owners k) ∙ sym more)
+
+-- all bytes have their entry where all are marked
+pub covered-is : (bytes : List ℕ) (entries : List Entry) (marks : List Bool) → length marks ≡ length bytes → AreOwners entries marks
+    → all_from (is_owned entries) 0 (length bytes) ≡ list_all is_marked marks
+covered-is bytes entries marks size owners =
+    all_from-marks (is_owned entries) marks 0 (length bytes) owners (omega (arith, size))
+        ∙ ap (list_all is_marked) (ap (λ n. take n marks) (sym size) ∙ take-length marks)
+
+-- the rule on ranges, its two parts one after the other
+pub tiling_failure-tile : (bytes : List ℕ) (entries : List Entry) (place : ℕ) → tiling_from bytes [] 1 entries ≡ Some place
+    → tiling_failure bytes entries ≡ Some (record { rule = Tiling; place = place })
+unfolding tiling_failure
+tiling_failure-tile bytes entries place is = rw is refl
+
+pub tiling_failure-gap : (bytes : List ℕ) (entries : List Entry) → tiling_from bytes [] 1 entries ≡ None
+    → all_from (is_owned entries) 0 (length bytes) ≡ false → tiling_failure bytes entries ≡ Some (record { rule = Tiling; place = length entries + 1 })
+unfolding tiling_failure
+tiling_failure-gap bytes entries none gap =
+    rw (none, gap) (ap (λ n. fails Tiling (Some n)) (sym (add-one (length entries))))
+
+pub tiling_failure-none : (bytes : List ℕ) (entries : List Entry) → tiling_from bytes [] 1 entries ≡ None
+    → all_from (is_owned entries) 0 (length bytes) ≡ true → tiling_failure bytes entries ≡ None
+unfolding tiling_failure
+tiling_failure-none bytes entries none covered = rw (none, covered) refl
