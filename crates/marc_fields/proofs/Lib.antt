@@ -7,3 +7,4 @@ pub mod FrontLaws
 pub mod DirectoryLaws
 pub mod RowLaws
 pub mod TilingLaws
+pub mod FieldReading

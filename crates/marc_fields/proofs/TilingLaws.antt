@@ -1,5 +1,6 @@
 -- What marking the bytes of entries shows.
 use Rattle.std.proofs.Common.{◌≡◌, ℕ, zero, suc, ◌+◌, ◌-◌, ◌<◌, ◌≤◌, Bool, true, false, not, ◌&&◌, ◌||◌, List, [], ◌∷◌, ◌++◌, length, get_or, take, drop, refl, sym, ◌∙◌, ap, subst, arith, add-one, Option, None, Some}
+use Rattle.std.specs.Prelude.{replicate}
 use Rattle.std.proofs.Math.Seq.{drop-cons, take-length}
 use Rattle.std.proofs.lemmas.Bool.{and_parts, and_from}
 use Rattle.std.proofs.lemmas.Bool.Decides.{nat_tests}
@@ -7,8 +8,8 @@ use Rattle.std.proofs.lemmas.List.Folds.{list_any-append}
 use Rattle.std.specs.List.{list_all, list_any}
 use Rattle.std.specs.Prelude.{nat_le, if◌then◌else◌}
 use Rattle.marc_leader.specs.declared.entry.Entry.{Entry}
-use Rattle.marc_fields.specs.Rows.{any_from, all_from, ends_in_only, fails}
-use Rattle.marc_fields.specs.Rules.{is_tile, is_owned, shares, range_of, tiling_from, tiling_failure}
+use Rattle.marc_fields.specs.Rows.{any_from, all_from, ends_in_only, fails, or_then}
+use Rattle.marc_fields.specs.Rules.{is_tile, is_owned, shares, range_of, tiling_from, tiling_failure, covering}
 use Rattle.marc_fields.specs.declared.rules.Rule.TheVariants.{Tiling}
 use Rattle.marc_fields.specs.Spelling.{is_in}
 use Rattle.marc_fields.specs.Tilings.{AreOwners, is_marked}
@@ -84,3 +85,38 @@ pub tiling_failure-none : (bytes : List ℕ) (entries : List Entry) → tiling_f
     → all_from (is_owned entries) 0 (length bytes) ≡ true → tiling_failure bytes entries ≡ None
 unfolding tiling_failure
 tiling_failure-none bytes entries none covered = rw (none, covered) refl
+
+-- no byte is marked at first
+pub replicate-unmarked : (n at : ℕ) → get_or (replicate n false) at false ≡ false
+replicate-unmarked zero at = refl
+replicate-unmarked (suc n) zero = refl
+replicate-unmarked (suc n) (suc at) = replicate-unmarked n at
+
+-- an entry was passed, and the others too
+pub tiling-passed : (test : Bool) (later : Option ℕ) (i : ℕ) → (if test then later else Some i) ≡ None → (test ≡ true) × (later ≡ None)
+tiling-passed true later i none = (refl, none)
+tiling-passed false later i none = cc
+
+-- both parts of the rule on ranges
+none_both : (o p : Option ℕ) → or_then (fails Tiling o) (fails Tiling p) ≡ None → (o ≡ None) × (p ≡ None)
+none_both None None none = (refl, refl)
+none_both None (Some place) none = cc
+none_both (Some place) p none = cc
+
+pub tiling-none : (bytes : List ℕ) (entries : List Entry) → tiling_failure bytes entries ≡ None
+    → (tiling_from bytes [] 1 entries ≡ None) × (all_from (is_owned entries) 0 (length bytes) ≡ true)
+unfolding tiling_failure
+tiling-none bytes entries none =
+    let both = none_both (tiling_from bytes [] 1 entries) (covering bytes entries) none in
+    (both.0, (tiling-passed (all_from (is_owned entries) 0 (length bytes)) None (suc (length entries)) both.1).0)
+
+-- where no entry is refused, each is a field of the data
+tiles-from : (bytes : List ℕ) (earlier : List Entry) (i : ℕ) (entries : List Entry) → tiling_from bytes earlier i entries ≡ None
+    → list_all (is_tile bytes) entries ≡ true
+tiles-from bytes earlier i [] none = refl
+tiles-from bytes earlier i (e ∷ entries) none =
+    let step = tiling-passed (is_tile bytes e && not (shares earlier e)) (tiling_from bytes (earlier ++ e ∷ []) (suc i) entries) i none in
+    and_from _ _ (and_parts (is_tile bytes e) (not (shares earlier e)) step.0).0 (tiles-from bytes (earlier ++ e ∷ []) (suc i) entries step.1)
+
+pub tiles-all : (bytes : List ℕ) (entries : List Entry) → tiling_failure bytes entries ≡ None → list_all (is_tile bytes) entries ≡ true
+tiles-all bytes entries none = tiles-from bytes [] 1 entries (tiling-none bytes entries none).0

@@ -7,6 +7,7 @@
 pub mod decoding;
 pub mod directory;
 pub mod encoding;
+pub mod fields;
 pub mod head;
 pub mod laws;
 pub mod marc_record;
