@@ -8,3 +8,4 @@ pub mod DirectoryLaws
 pub mod RowLaws
 pub mod TilingLaws
 pub mod FieldReading
+pub mod DecodingLaws

@@ -1,17 +1,18 @@
 -- What marking the bytes of entries shows.
-use Rattle.std.proofs.Common.{◌≡◌, ℕ, zero, suc, ◌+◌, ◌-◌, ◌<◌, ◌≤◌, Bool, true, false, not, ◌&&◌, ◌||◌, List, [], ◌∷◌, ◌++◌, length, get_or, take, drop, refl, sym, ◌∙◌, ap, subst, arith, add-one, Option, None, Some}
+use Rattle.std.proofs.Common.{◌≡◌, ℕ, zero, suc, ◌+◌, ◌-◌, ◌<◌, ◌≤◌, Bool, true, false, not, ◌&&◌, ◌||◌, List, [], ◌∷◌, ◌++◌, length, get_or, take, drop, refl, sym, ◌∙◌, ap, subst, arith, add-one, append_assoc, inl, inr, Option, None, Some}
 use Rattle.std.specs.Prelude.{replicate}
 use Rattle.std.proofs.Math.Seq.{drop-cons, take-length}
-use Rattle.std.proofs.lemmas.Bool.{and_parts, and_from}
+use Rattle.std.proofs.lemmas.Bool.{and_parts, and_from, cases_eq}
+use Rattle.std.proofs.lemmas.List.{append-nil}
 use Rattle.std.proofs.lemmas.Bool.Decides.{nat_tests}
 use Rattle.std.proofs.lemmas.List.Folds.{list_any-append}
 use Rattle.std.specs.List.{list_all, list_any}
-use Rattle.std.specs.Prelude.{nat_le, if◌then◌else◌}
+use Rattle.std.specs.Prelude.{nat_le, nat_lt, if◌then◌else◌}
 use Rattle.marc_leader.specs.declared.entry.Entry.{Entry}
 use Rattle.marc_fields.specs.Rows.{any_from, all_from, ends_in_only, fails, or_then}
 use Rattle.marc_fields.specs.Rules.{is_tile, is_owned, shares, range_of, tiling_from, tiling_failure, covering}
 use Rattle.marc_fields.specs.declared.rules.Rule.TheVariants.{Tiling}
-use Rattle.marc_fields.specs.Spelling.{is_in}
+use Rattle.marc_fields.specs.Spelling.{is_in, owners}
 use Rattle.marc_fields.specs.Tilings.{AreOwners, is_marked}
 use Rattle.marc_fields.proofs.AppendingLaws.{take_one_more}
 use Rattle.marc_fields.proofs.RowLaws.{any_from-marks, all_from-marks}
@@ -120,3 +121,96 @@ tiles-from bytes earlier i (e ∷ entries) none =
 
 pub tiles-all : (bytes : List ℕ) (entries : List Entry) → tiling_failure bytes entries ≡ None → list_all (is_tile bytes) entries ≡ true
 tiles-all bytes entries none = tiles-from bytes [] 1 entries (tiling-none bytes entries none).0
+
+-- one more entry may have the byte
+owners-push : (at : ℕ) (entries : List Entry) (e : Entry) → owners at (entries ++ e ∷ []) ≡ owners at entries + (if is_in at e then 1 else 0)
+owners-push at [] e = omega arith
+owners-push at (d ∷ entries) e = omega (arith, owners-push at entries e)
+
+-- a byte that is in no range has no owner
+unowned : (at : ℕ) (entries : List Entry) → is_owned entries at ≡ false → owners at entries ≡ 0
+unowned at [] none = refl
+unowned at (e ∷ entries) none =
+    let both = or_parts (is_in at e) (is_owned entries at) none in
+    rw (both.0, unowned at entries both.1) refl
+  where
+    or_parts : (a b : Bool) → (a || b) ≡ false → (a ≡ false) × (b ≡ false)
+    or_parts true b h = cc
+    or_parts false b h = (refl, h)
+
+-- a byte that is in a range has an owner
+owned : (at : ℕ) (entries : List Entry) → is_owned entries at ≡ true → 1 ≤ owners at entries
+owned at [] some = cc
+owned at (e ∷ entries) some = here (is_in at e) (λ h. owned at entries h) some
+  where
+    here : (test : Bool) → (is_owned entries at ≡ true → 1 ≤ owners at entries) → (test || is_owned entries at) ≡ true
+        → 1 ≤ (if test then 1 else 0) + owners at entries
+    here true later h = omega arith
+    here false later h = omega (arith, later h)
+
+-- a test that no number passes, and one that each passes
+any_from-none : (p : ℕ → Bool) (start n k : ℕ) → any_from p start n ≡ false → start ≤ k → k < start + n → p k ≡ false
+any_from-none p start zero k none low high = absurd (omega arith)
+any_from-none p start (suc n) k none low high =
+    let both = or_parts (p start) (any_from p (suc start) n) none in
+    elim (cases_eq k start) [
+      inl same ↦ ap p same ∙ both.0
+    | inr other ↦ any_from-none p (suc start) n k both.1 (omega arith) (omega arith)
+    ]
+  where
+    or_parts : (a b : Bool) → (a || b) ≡ false → (a ≡ false) × (b ≡ false)
+    or_parts true b h = cc
+    or_parts false b h = (refl, h)
+
+all_from-each : (p : ℕ → Bool) (start n k : ℕ) → all_from p start n ≡ true → start ≤ k → k < start + n → p k ≡ true
+all_from-each p start zero k all low high = absurd (omega arith)
+all_from-each p start (suc n) k all low high =
+    let both = and_parts (p start) (all_from p (suc start) n) all in
+    elim (cases_eq k start) [
+      inl same ↦ ap p same ∙ both.0
+    | inr other ↦ all_from-each p (suc start) n k both.1 (omega arith) (omega arith)
+    ]
+
+-- a field that shares no byte leaves each byte one owner at most
+once-push : (at : ℕ) (earlier : List Entry) (e : Entry) → shares earlier e ≡ false → owners at earlier ≤ 1 → owners at (earlier ++ e ∷ []) ≤ 1
+once-push at earlier e apart once = of (is_in at e) refl
+  where
+    inside : (low high : Bool) → (low && high) ≡ true → (low ≡ true) × (high ≡ true)
+    inside true true h = (refl, refl)
+    inside true false h = cc
+    inside false high h = cc
+    at_most : (m n : ℕ) → nat_le m n ≡ true → m ≤ n
+    at_most m n h = grind (arith, nat_tests)
+    below : (m n : ℕ) → nat_lt m n ≡ true → m < n
+    below m n h = grind (arith, nat_tests)
+    of : (test : Bool) → is_in at e ≡ test → owners at (earlier ++ e ∷ []) ≤ 1
+    of true is =
+        let both = inside (nat_le e.start at) (nat_lt at (e.start + e.length)) is in
+        let free = any_from-none (is_owned earlier) e.start e.length at apart (at_most e.start at both.0) (below at (e.start + e.length) both.1) in
+        let none = unowned at earlier free in
+        let more : owners at (earlier ++ e ∷ []) ≡ owners at earlier + 1 = owners-push at earlier e ∙ rw is refl in
+        omega arith
+    of false is =
+        let more : owners at (earlier ++ e ∷ []) ≡ owners at earlier + 0 = owners-push at earlier e ∙ rw is refl in
+        omega arith
+
+not_true : (test : Bool) → not test ≡ true → test ≡ false
+not_true true h = sym h
+not_true false h = refl
+
+once-from : (bytes : List ℕ) (at : ℕ) (earlier : List Entry) (i : ℕ) (entries : List Entry) → tiling_from bytes earlier i entries ≡ None
+    → owners at earlier ≤ 1 → owners at (earlier ++ entries) ≤ 1
+once-from bytes at earlier i [] none once = rw append-nil once
+once-from bytes at earlier i (e ∷ entries) none once =
+    let step = tiling-passed (is_tile bytes e && not (shares earlier e)) (tiling_from bytes (earlier ++ e ∷ []) (suc i) entries) i none in
+    let apart = not_true (shares earlier e) (and_parts (is_tile bytes e) (not (shares earlier e)) step.0).1 in
+    let later = once-from bytes at (earlier ++ e ∷ []) (suc i) entries step.1 (once-push at earlier e apart once) in
+    subst (λ es. owners at es ≤ 1) (append_assoc earlier (e ∷ []) entries) later
+
+-- the ranges partition the data
+pub tiled-once : (bytes : List ℕ) (entries : List Entry) → tiling_failure bytes entries ≡ None → (at : ℕ) → at < length bytes → owners at entries ≡ 1
+tiled-once bytes entries none = λ at below.
+    let both = tiling-none bytes entries none in
+    let one = once-from bytes at [] 1 entries both.0 (omega arith) in
+    let some = owned at entries (all_from-each (is_owned entries) 0 (length bytes) at both.1 (omega arith) (omega arith)) in
+    omega arith

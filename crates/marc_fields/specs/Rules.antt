@@ -64,12 +64,9 @@ entry_texts (suc n) directory = take 12 directory ∷ entry_texts n (drop 12 dir
 abbrev pub entry_in : List ℕ → Entry
 entry_in text = record { tag = tag_place text; length = number_of (size_place text); start = number_of (start_place text) }
 
--- the directory's texts, and its entries
+-- the directory's texts
 abbrev pub texts_of : List ℕ → List (List ℕ)
 texts_of frame = entry_texts ((base_of frame - 25) / 12) (take (base_of frame - 25) (drop 24 frame))
-
-abbrev pub entries_of : List ℕ → List Entry
-entries_of frame = map entry_in (texts_of frame)
 
 -- the data
 abbrev pub data_in : List ℕ → List ℕ
@@ -130,8 +127,14 @@ unfoldable pub shape_failure : List ℕ → List Entry → Option Failure
 shape_failure bytes entries =
     or_then (fails ControlShape (least_where_not (is_control_shaped bytes) 1 entries)) (fails DataShape (least_where_not (is_data_shaped bytes) 1 entries))
 
+-- the rules on the data of entries
+abbrev pub data_failure : List ℕ → List Entry → Option Failure
+data_failure bytes entries = or_then (tiling_failure bytes entries) (shape_failure bytes entries)
+
+-- the rules on the directory and the data
+abbrev pub parts_failure : List (List ℕ) → List ℕ → Option Failure
+parts_failure texts bytes = or_then (directory_failure texts) (data_failure bytes (map entry_in texts))
+
 -- the first rule that fails of those on what a frame has to be to spell a record
-abbrev pub first_failure : List ℕ → Option Failure
-first_failure frame =
-    or_then (head_failure frame) (or_then (directory_failure (texts_of frame))
-    (or_then (tiling_failure (data_in frame) (entries_of frame)) (shape_failure (data_in frame) (entries_of frame))))
+unfoldable pub first_failure : List ℕ → Option Failure
+first_failure frame = or_then (head_failure frame) (parts_failure (texts_of frame) (data_in frame))

@@ -1,9 +1,26 @@
 //! Frames read as records.
-ghost use Rattle.std.specs.Prelude.{◌≡◌};
+ghost use Rattle.std.specs.Prelude.{◌≡◌, ◌+◌, ◌-◌, ◌*◌, ◌≤◌, true, length, take, drop, None, map};
+ghost use Rattle.std.specs.List.{list_all};
+ghost use Rattle.union_base.specs.Fields.{record_terminator};
+ghost use Rattle.marc_fields.specs.Directories.{is_formed, AreDecoded};
+ghost use Rattle.marc_fields.specs.Fronts.{IsFront};
+ghost use Rattle.marc_fields.specs.Rows.{Answers, ends_in_only};
+ghost use Rattle.marc_fields.specs.Rules.{entry_texts, texts_of, data_in, leader_of_frame, tiling_failure, data_failure, parts_failure, first_failure};
+ghost use Rattle.marc_fields.specs.Shapes.{ends_no_record};
+ghost use Rattle.marc_fields.specs.Spelling.{AreEntriesOf, Spells};
 
+use crate::directory::check_directory;
+use crate::fields::check_fields;
+use crate::head::{Front, SMALLEST_BASE, check_head};
+use crate::marc_record::Record;
 use crate::rules::Rule;
-use std::alloc::{AllocError, AllocFailed};
+use crate::tiling::check_tiling;
+use marc_leader::entry::{ENTRY_SIZE, Entry};
+use marc_leader::leader::LEADER_SIZE;
+use std::alloc::{AllocError, AllocFailed, Global};
+use union_base::field::Field;
 use union_base::memory::Memory;
+use union_base::sequence::Sequence;
 
 /// Why a frame is not read.
 #[derive(Clone, Copy, Debug, PartialEq, Eq)]
@@ -44,5 +61,86 @@ impl<T: Drop> From<AllocFailed<T>> for DecodeRefusal {
 
     fn from(_refused: AllocFailed<T>) -> DecodeRefusal {
         DecodeRefusal::Memory
+    }
+}
+
+/// The directory and the data of a frame.
+#[derive(Clone, Copy)]
+struct Parts<'a> {
+    directory: &'a [u8],
+    bytes: &'a [u8],
+}
+
+/// The bytes between the leader and the base address's terminator, and those from there to the record terminator.
+fn split_frame(frame: &[u8], base: usize) -> Parts<'_>
+    requires low { 25 ≤ base }
+    requires high { base + 1 ≤ length frame.now }
+    ensures directory { result.directory.now ≡ take (base - 25) (drop 24 frame.now) }
+    ensures bytes { result.bytes.now ≡ take (length frame.now - 1 - base) (drop base frame.now) }
+{
+    let (_, behind) = frame.split_at(LEADER_SIZE);
+    let (directory, _) = behind.split_at(base - SMALLEST_BASE);
+    let (_, rest) = frame.split_at(base);
+    let (bytes, _) = rest.split_at(frame.len() - 1 - base);
+    Parts { directory, bytes }
+}
+
+/// The fields that lie at the entries, or the first rule on the data that fails.
+fn decode_data(alloc: Global, entries: &[Entry], bytes: &[u8]) -> Result<Vec<Field>, DecodeRefusal>
+    requires few { length entries.now ≤ 9999 }
+    requires formed { list_all is_formed entries.now ≡ true }
+    requires inner { ends_no_record bytes.now ≡ true }
+    ensures { Answers result (data_failure bytes.now entries.now)
+        (λ fields. (tiling_failure bytes.now entries.now ≡ None) × AreEntriesOf bytes.now entries.now fields.items) }
+{
+    match check_tiling(alloc, entries, bytes) {
+        Ok(()) => check_fields(alloc, entries, bytes),
+        Err(refusal) => Err(refusal),
+    }
+}
+
+/// The fields that a directory of so many entries and the data have, or the first rule on them that fails.
+fn decode_parts(alloc: Global, directory: &[u8], bytes: &[u8], count: usize) -> Result<Vec<Field>, DecodeRefusal>
+    requires size { length directory.now ≡ 12 * count }
+    requires few { count ≤ 9999 }
+    requires inner { ends_no_record bytes.now ≡ true }
+    ensures { Answers result (parts_failure (entry_texts count directory.now) bytes.now)
+        (λ fields. AreDecoded directory.now bytes.now count fields.items) }
+{
+    match check_directory(alloc, directory, count) {
+        Ok(entries) => decode_data(alloc, entries.as_slice(), bytes),
+        Err(refusal) => Err(refusal),
+    }
+}
+
+/// The record that the frame with that leader spells, or the first rule behind those on the leader that fails.
+fn decode_behind(alloc: Global, frame: &[u8], front: &Front) -> Result<Record, DecodeRefusal>
+    requires size { length frame.now ≤ 99999 }
+    requires ends { ends_in_only record_terminator frame.now ≡ true }
+    requires front { IsFront (leader_of_frame frame.now) frame.now front.now.codes front.now.base }
+    ensures { Answers result (parts_failure (texts_of frame.now) (data_in frame.now)) (λ found. Spells frame.now found) }
+{
+    let base = front.base;
+    let parts = split_frame(frame, base);
+    match decode_parts(alloc, parts.directory, parts.bytes, (base - SMALLEST_BASE) / ENTRY_SIZE) {
+        Ok(fields) => Ok(Record {
+            leader: front.codes,
+            fields: Sequence::from(fields),
+        }),
+        Err(refusal) => Err(refusal),
+    }
+}
+
+/// The record that the frame spells (ISO 2709; MARC 21), with the fields' bytes in any order, or the first rule that
+/// fails of those on length, leader, directory, ranges and shape of fields, with its place (see `Rule`). The frame has at
+/// most 99,999 bytes and ends in its only record terminator. Linear in the frame.
+pub fn decode(alloc: Global, frame: &[u8]) -> Result<Record, DecodeRefusal>
+    requires size { length frame.now ≤ 99999 }
+    requires ends { ends_in_only record_terminator frame.now ≡ true }
+    ensures { Answers result (first_failure frame.now) (λ found. Spells frame.now found) }
+{
+    match check_head(frame) {
+        Ok(front) => decode_behind(alloc, frame, &front),
+        Err(refusal) => Err(refusal),
     }
 }
