@@ -95,9 +95,10 @@ data-parts frame base has ends =
     let inside : base ≤ length text = omega (arith, size, has.high) in
     let split : base + (length frame - 1 - base) ≡ length frame - 1 = omega (arith, has.high) in
     let bytes : drop base text ≡ take (length frame - 1 - base) (drop base frame)
-        = ap (λ n. drop base (take n frame)) (sym split) ∙ drop-take base (length frame - 1 - base) frame in
-    (ap (drop base) ended.parts ∙ (drop-append-le base text (0x1D ∷ []) inside ∙ ap (λ t. t ++ 0x1D ∷ []) bytes),
-      sym (ap ends_no_record bytes) ∙ all_drop (λ b. not (b == 0x1D)) base text ended.before)
+    = ap (λ n. drop base (take n frame)) (sym split) ∙ drop-take base (length frame - 1 - base) frame in (
+      ap (drop base) ended.parts ∙ (drop-append-le base text (0x1D ∷ []) inside ∙ ap (λ t. t ++ 0x1D ∷ []) bytes),
+      sym (ap ends_no_record bytes) ∙ all_drop (λ b. not (b == 0x1D)) base text ended.before,
+    )
 
 -- what is behind the leader
 pub behind-parts : (frame : List ℕ) (base : ℕ) → HasBase frame base → ends_in_only 0x1D frame ≡ true
@@ -108,12 +109,12 @@ behind-parts frame base has ends =
     let below : base - 1 < length frame = omega (arith, has.low, has.high) in
     let next : suc (base - 1) ≡ base = omega (arith, has.low) in
     let first : drop (base - 1) frame ≡ 0x1E ∷ drop base frame
-        = drop-cons frame (base - 1) 0 below ∙ (ap (λ b. b ∷ drop (suc (base - 1)) frame) has.ends ∙ ap (λ n. 0x1E ∷ drop n frame) next) in
+    = drop-cons frame (base - 1) 0 below ∙ (ap (λ b. b ∷ drop (suc (base - 1)) frame) has.ends ∙ ap (λ n. 0x1E ∷ drop n frame) next) in
     sym (take-append-drop (base - 25) rest)
-        ∙ ap (λ t. take (base - 25) rest ++ t) (here ∙ (first ∙ ap (λ t. 0x1E ∷ t) (data-parts frame base has ends).0))
+    ∙ ap (λ t. take (base - 25) rest ++ t) (here ∙ (first ∙ ap (λ t. 0x1E ∷ t) (data-parts frame base has ends).0))
 
 -- the leader that was read is spelled by its bytes
-leader_cases : (d e : Bool) (o : Option ℕ) (text : List ℕ) (l : Leader)
+pub leader_cases : (d e : Bool) (o : Option ℕ) (text : List ℕ) (l : Leader)
     → (if d then (if e then counted o text else Err BaseDigits) else Err LengthDigits) ≡ Ok l → (d ≡ true) × (e ≡ true) × (o ≡ None)
 leader_cases true true None text l is = (refl, refl, refl)
 leader_cases true true (Some at) text l is = cc
@@ -133,8 +134,8 @@ pub parts-same : (frame directory bytes : List ℕ) (base : ℕ) → base ≡ ba
     → parts_failure (entry_texts ((base - 25) / 12) directory) bytes ≡ parts_failure (texts_of frame) (data_in frame)
 parts-same frame directory bytes base is d b =
     ap (λ t. parts_failure (entry_texts ((base - 25) / 12) t) bytes) d
-        ∙ (ap (λ t. parts_failure (entry_texts ((base - 25) / 12) (take (base - 25) (drop 24 frame))) t) b
-        ∙ ap (λ n. parts_failure (entry_texts ((n - 25) / 12) (take (n - 25) (drop 24 frame))) (take (length frame - 1 - n) (drop n frame))) is)
+    ∙ (ap (λ t. parts_failure (entry_texts ((base - 25) / 12) (take (base - 25) (drop 24 frame))) t) b
+    ∙ ap (λ n. parts_failure (entry_texts ((n - 25) / 12) (take (n - 25) (drop 24 frame))) (take (length frame - 1 - n) (drop n frame))) is)
 
 -- the record that was decoded is spelled by the frame
 pub decoded-Spells : (frame : List ℕ) (codes : Codes) (base : ℕ) (directory bytes : List ℕ) (fields : List Field)
@@ -151,11 +152,11 @@ decoded-Spells frame codes base directory bytes fields front short ends d b deco
     let count = length-read directory ((base - 25) / 12) entries decoded.read in
     let based : base ≡ 25 + 12 * length entries = omega (arith, count, has.low, has.twelve) in
     let leader : text ≡ leader_bytes (length frame) (length entries) codes
-        = leader_text-read text (Say base) size front.read ∙ ap (λ n. leader_text (Say n)) based in
+    = leader_text-read text (Say base) size front.read ∙ ap (λ n. leader_text (Say n)) based in
     let behind : drop 24 frame ≡ flat_map entry_bytes entries ++ (0x1E ∷ (bytes ++ 0x1D ∷ []))
-        = behind-parts frame base has ends
-          ∙ (ap (λ t. t ++ (0x1E ∷ (take (length frame - 1 - base) (drop base frame) ++ 0x1D ∷ []))) (sym d ∙ decoded.read.spelled)
-          ∙ ap (λ t. flat_map entry_bytes entries ++ (0x1E ∷ (t ++ 0x1D ∷ []))) (sym b)) in
+    = behind-parts frame base has ends
+    ∙ (ap (λ t. t ++ (0x1E ∷ (take (length frame - 1 - base) (drop base frame) ++ 0x1D ∷ []))) (sym d ∙ decoded.read.spelled)
+    ∙ ap (λ t. flat_map entry_bytes entries ++ (0x1E ∷ (t ++ 0x1D ∷ []))) (sym b)) in
     record {
       entries = entries;
       bytes = bytes;

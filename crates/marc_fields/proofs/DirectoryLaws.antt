@@ -51,10 +51,10 @@ pub row-later : (passes : List ℕ → Bool) (i n m : ℕ) (rest text later : Li
     → passes text ≡ true → least_where_not passes (i + 1) (entry_texts n rest) ≡ least_where_not passes (i + 1 + 1) (entry_texts m later)
 row-later passes i n m rest text later some less is back good =
     ap (least_where_not passes (i + 1)) (texts-step n rest some)
-        ∙ (least-later passes (i + 1) (take 12 rest) _ (ap passes (sym is) ∙ good)
-        ∙ (ap (λ k. least_where_not passes k (entry_texts (n - 1) (drop 12 rest))) (sym (add-one (i + 1)))
-        ∙ (ap (λ k. least_where_not passes (i + 1 + 1) (entry_texts k (drop 12 rest))) (sym less)
-        ∙ ap (λ t. least_where_not passes (i + 1 + 1) (entry_texts m t)) (sym back))))
+    ∙ (least-later passes (i + 1) (take 12 rest) _ (ap passes (sym is) ∙ good)
+    ∙ (ap (λ k. least_where_not passes k (entry_texts (n - 1) (drop 12 rest))) (sym (add-one (i + 1)))
+    ∙ (ap (λ k. least_where_not passes (i + 1 + 1) (entry_texts k (drop 12 rest))) (sym less)
+    ∙ ap (λ t. least_where_not passes (i + 1 + 1) (entry_texts m t)) (sym back))))
 
 -- where none is found, the text of the next entry passes
 pub row-none : (passes : List ℕ → Bool) (i n : ℕ) (rest text : List ℕ) → 0 < n → text ≡ take 12 rest
@@ -88,9 +88,9 @@ pub spelled-more : (directory rest text later : List ℕ) (old new : List Entry)
 spelled-more directory rest text later old new e parts front back one more =
     let before = flat_map entry_bytes old in
     let split : rest ≡ entry_bytes e ++ later
-        = sym (take-append-drop 12 rest) ∙ (ap (λ t. t ++ drop 12 rest) (sym front ∙ one) ∙ ap (λ t. entry_bytes e ++ t) (sym back)) in
+    = sym (take-append-drop 12 rest) ∙ (ap (λ t. t ++ drop 12 rest) (sym front ∙ one) ∙ ap (λ t. entry_bytes e ++ t) (sym back)) in
     let spell : flat_map entry_bytes new ≡ before ++ entry_bytes e
-        = ap (flat_map entry_bytes) more ∙ (flat_map-append entry_bytes old (e ∷ []) ∙ ap (λ t. before ++ t) (append-nil (entry_bytes e))) in
+    = ap (flat_map entry_bytes) more ∙ (flat_map-append entry_bytes old (e ∷ []) ∙ ap (λ t. before ++ t) (append-nil (entry_bytes e))) in
     parts ∙ (ap (λ t. before ++ t) split ∙ (sym (append_assoc before (entry_bytes e) later) ∙ ap (λ t. t ++ later) (sym spell)))
 
 -- one more of the entries that stand there
@@ -99,11 +99,11 @@ pub are-more : (all : List Entry) (n m : ℕ) (rest text later : List ℕ) (old 
     → all ≡ new ++ map entry_in (entry_texts m later)
 are-more all n m rest text later old new e some less front back one parts more =
     let step : map entry_in (entry_texts n rest) ≡ e ∷ map entry_in (entry_texts m later)
-        = ap (map entry_in) (texts-step n rest some)
-          ∙ (ap (λ x. x ∷ map entry_in (entry_texts (n - 1) (drop 12 rest))) (ap entry_in (sym front) ∙ sym one)
-          ∙ (ap (λ k. e ∷ map entry_in (entry_texts k (drop 12 rest))) (sym less) ∙ ap (λ t. e ∷ map entry_in (entry_texts m t)) (sym back))) in
+    = ap (map entry_in) (texts-step n rest some)
+    ∙ (ap (λ x. x ∷ map entry_in (entry_texts (n - 1) (drop 12 rest))) (ap entry_in (sym front) ∙ sym one)
+    ∙ (ap (λ k. e ∷ map entry_in (entry_texts k (drop 12 rest))) (sym less) ∙ ap (λ t. e ∷ map entry_in (entry_texts m t)) (sym back))) in
     parts ∙ (ap (λ es. old ++ es) step ∙ (sym (append_assoc old (e ∷ []) (map entry_in (entry_texts m later)))
-        ∙ ap (λ es. es ++ map entry_in (entry_texts m later)) (sym more)))
+    ∙ ap (λ es. es ++ map entry_in (entry_texts m later)) (sym more)))
 
 pub formed-more : (old new : List Entry) (e : Entry) → list_all is_formed old ≡ true → is_tag e.tag ≡ true → e.length ≤ 9999 → new ≡ old ++ e ∷ []
     → list_all is_formed new ≡ true

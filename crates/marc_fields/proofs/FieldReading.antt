@@ -32,8 +32,8 @@ pub least-drop-later : {A : Type 0} (passes : A → Bool) (xs : List A) (i : ℕ
     → least_where_not passes (i + 1) (drop i xs) ≡ least_where_not passes (i + 1 + 1) (drop (i + 1) xs)
 least-drop-later passes xs i x below is good =
     least_at passes xs i x below is ∙ (least-later passes (i + 1) x (drop (suc i) xs) good
-        ∙ (ap (λ k. least_where_not passes k (drop (suc i) xs)) (sym (add-one (i + 1)))
-        ∙ ap (λ k. least_where_not passes (i + 1 + 1) (drop k xs)) (sym (add-one i))))
+    ∙ (ap (λ k. least_where_not passes k (drop (suc i) xs)) (sym (add-one (i + 1)))
+    ∙ ap (λ k. least_where_not passes (i + 1 + 1) (drop k xs)) (sym (add-one i))))
 
 pub least-drop-none : {A : Type 0} (passes : A → Bool) (xs : List A) (i : ℕ) (x : A) → i < length xs → x ≡ get_or xs i x
     → least_where_not passes (i + 1) (drop i xs) ≡ None → passes x ≡ true
@@ -58,7 +58,7 @@ tile-parts bytes e is =
     let size : length (range_of bytes e) ≡ e.length = omega (arith, length-take e.length (drop e.start bytes), length-drop e.start bytes, inside) in
     let some : 1 ≤ e.length = omega (arith, size, range.some) in
     let text : take (length (range_of bytes e) - 1) (range_of bytes e) ≡ text_of bytes e
-        = ap (λ n. take (n - 1) (range_of bytes e)) size ∙ take-take (e.length - 1) e.length (drop e.start bytes) (omega arith) in
+    = ap (λ n. take (n - 1) (range_of bytes e)) size ∙ take-take (e.length - 1) e.length (drop e.start bytes) (omega arith) in
     record {
       inside = inside;
       some = some;

@@ -69,7 +69,7 @@ leader_failure-counts leader frame size d is same based =
     rw (d, test, based) refl
 
 -- the leader that was read has the numbers that were read
-leader_of-numbers : (o : Option ℕ) (text : List ℕ) (l : Leader) → counted o text ≡ Ok l
+pub leader_of-numbers : (o : Option ℕ) (text : List ℕ) (l : Leader) → counted o text ≡ Ok l
     → l ≡ record { length = number_of (length_place text); base = number_of (base_place text); codes = l.codes }
 leader_of-numbers None text l is =
     let one : Leader = record { length = number_of (length_place text); base = number_of (base_place text); codes = codes_of text } in
@@ -87,7 +87,7 @@ front-read leader frame size base codes d e is same based base_is counts =
     let Say : ℕ → ℕ → Codes → Leader = λ n b c. record { length = n; base = b; codes = c } in
     record {
       read = counts.read ∙ ap Ok (numbers ∙ (ap (λ n. Say n (number_of (base_place leader)) l.codes) (sym is ∙ same)
-        ∙ (ap (λ b. Say (length frame) b l.codes) (sym base_is) ∙ ap (λ c. Say (length frame) base c) (sym counts.codes_are))));
+          ∙ (ap (λ b. Say (length frame) b l.codes) (sym base_is) ∙ ap (λ c. Say (length frame) base c) (sym counts.codes_are))));
       based = based;
       base_is = base_is;
     }

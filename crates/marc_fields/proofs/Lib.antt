@@ -9,3 +9,4 @@ pub mod RowLaws
 pub mod TilingLaws
 pub mod FieldReading
 pub mod DecodingLaws
+pub mod NoFailure

@@ -20,10 +20,10 @@ use Rattle.marc_fields.proofs.ReadingLaws.{IsHead, entry_of-entry_bytes, fronts_
 use Rattle.marc_fields.proofs.SpellingLaws.{length-tag, length-leader_bytes, length-entry_bytes, length-directory, length-spelling, spelling-Spells}
 
 -- the tag of an entry is its field's
-entry_tag : (bytes : List ℕ) (e : Entry) (f : Field) → IsEntryOf bytes e f → is_tag e.tag ≡ true
+pub entry_tag : (bytes : List ℕ) (e : Entry) (f : Field) → IsEntryOf bytes e f → is_tag e.tag ≡ true
 entry_tag bytes e f is = subst (λ t. is_tag t ≡ true) (sym is.tag) (and_parts (is_tag f.tag) (fits_tag f.tag f.body) f.well_formed).0
 
-entry_size : (bytes : List ℕ) (e : Entry) (f : Field) → IsEntryOf bytes e f → length (entry_bytes e) ≡ 12
+pub entry_size : (bytes : List ℕ) (e : Entry) (f : Field) → IsEntryOf bytes e f → length (entry_bytes e) ≡ 12
 entry_size bytes e f is = length-entry_bytes e (ap length is.tag ∙ length-tag f)
 
 -- the directory of fields that lie in the data
@@ -90,7 +90,7 @@ abbrev pub behind_leader : List Entry → List ℕ → List ℕ
 behind_leader entries bytes = flat_map entry_bytes entries ++ (0x1E ∷ (bytes ++ 0x1D ∷ []))
 
 -- the bytes of a frame that spells a record
-spelled-size : (frame : List ℕ) (r : Record) (s : Spells frame r) → length frame ≡ 26 + 12 * length s.entries + length s.bytes
+pub spelled-size : (frame : List ℕ) (r : Record) (s : Spells frame r) → length frame ≡ 26 + 12 * length s.entries + length s.bytes
 spelled-size frame r s =
     let leader = leader_bytes (length frame) (length s.entries) r.leader in
     let directory = flat_map entry_bytes s.entries in

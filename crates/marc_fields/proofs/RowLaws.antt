@@ -21,29 +21,29 @@ not_last : (n : ℕ) → (0 + 1 == suc (suc n)) ≡ false
 not_last n = grind (arith, nat_tests)
 
 -- the first terminator stands at a place
-pub ends-at : (range : List ℕ) (k : ℕ) → k < length range → (get_or range k 0 == 0x1E) ≡ true
-    → ((j : ℕ) → j < k → (get_or range j 0 == 0x1E) ≡ true → ⊥) → (k + 1 == length range) ≡ ends_in_only 0x1E range
-ends-at [] k below is before = absurd (omega arith)
-ends-at (b ∷ []) zero below is before = sym is
-ends-at (b ∷ []) (suc k) below is before = absurd (omega arith)
-ends-at (b ∷ c ∷ rest) zero below is before = not_last (length rest) ∙ rw is refl
-ends-at (b ∷ c ∷ rest) (suc k) below is before =
-    let other : not (b == 0x1E) ≡ true = not_end (b == 0x1E) (before 0 (omega arith)) in
+pub ends-at : (end : ℕ) (range : List ℕ) (k : ℕ) → k < length range → (get_or range k 0 == end) ≡ true
+    → ((j : ℕ) → j < k → (get_or range j 0 == end) ≡ true → ⊥) → (k + 1 == length range) ≡ ends_in_only end range
+ends-at end [] k below is before = absurd (omega arith)
+ends-at end (b ∷ []) zero below is before = sym is
+ends-at end (b ∷ []) (suc k) below is before = absurd (omega arith)
+ends-at end (b ∷ c ∷ rest) zero below is before = not_last (length rest) ∙ rw is refl
+ends-at end (b ∷ c ∷ rest) (suc k) below is before =
+    let other : not (b == end) ≡ true = not_end (b == end) (before 0 (omega arith)) in
     let less : k < length (c ∷ rest) = omega arith in
     one_more k (length (c ∷ rest))
-        ∙ (ends-at (c ∷ rest) k less is (λ j lt. before (suc j) (omega arith)) ∙ rw other refl)
+    ∙ (ends-at end (c ∷ rest) k less is (λ j lt. before (suc j) (omega arith)) ∙ rw other refl)
 
 -- no terminator at any place
-pub ends-nowhere : (range : List ℕ) → ((j : ℕ) → j < length range → (get_or range j 0 == 0x1E) ≡ true → ⊥) → ends_in_only 0x1E range ≡ false
-ends-nowhere [] none = refl
-ends-nowhere (b ∷ []) none = false_from (b == 0x1E) (none 0 (omega arith))
+pub ends-nowhere : (end : ℕ) (range : List ℕ) → ((j : ℕ) → j < length range → (get_or range j 0 == end) ≡ true → ⊥) → ends_in_only end range ≡ false
+ends-nowhere end [] none = refl
+ends-nowhere end (b ∷ []) none = false_from (b == end) (none 0 (omega arith))
   where
     false_from : (test : Bool) → (test ≡ true → ⊥) → test ≡ false
     false_from true h = absurd (h refl)
     false_from false h = refl
-ends-nowhere (b ∷ c ∷ rest) none =
-    let other : not (b == 0x1E) ≡ true = not_end (b == 0x1E) (none 0 (omega arith)) in
-    rw other (ends-nowhere (c ∷ rest) (λ j below. none (suc j) (omega arith)))
+ends-nowhere end (b ∷ c ∷ rest) none =
+    let other : not (b == end) ≡ true = not_end (b == end) (none 0 (omega arith)) in
+    rw other (ends-nowhere end (c ∷ rest) (λ j below. none (suc j) (omega arith)))
 
 -- a text that ends in its only terminator
 pub record IsEnded (end : ℕ) (t : List ℕ) : Type 0 where

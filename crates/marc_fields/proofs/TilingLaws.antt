@@ -46,9 +46,9 @@ pub tiling-later : (bytes : List ℕ) (entries : List Entry) (i : ℕ) (e : Entr
     → tiling_from bytes (take i entries) (i + 1) (drop i entries) ≡ tiling_from bytes (take (i + 1) entries) (i + 1 + 1) (drop (i + 1) entries)
 tiling-later bytes entries i e below is test =
     ap (tiling_from bytes (take i entries) (i + 1)) (drop-cons entries i e below ∙ ap (λ x. x ∷ drop (suc i) entries) (sym is))
-        ∙ (rw test (ap (λ es. tiling_from bytes es (suc (i + 1)) (drop (suc i) entries)) (sym (take_one_more entries i e below is)))
-        ∙ (ap (λ k. tiling_from bytes (take (i + 1) entries) k (drop (suc i) entries)) (sym (add-one (i + 1)))
-        ∙ ap (λ k. tiling_from bytes (take (i + 1) entries) (i + 1 + 1) (drop k entries)) (sym (add-one i))))
+    ∙ (rw test (ap (λ es. tiling_from bytes es (suc (i + 1)) (drop (suc i) entries)) (sym (take_one_more entries i e below is)))
+    ∙ (ap (λ k. tiling_from bytes (take (i + 1) entries) k (drop (suc i) entries)) (sym (add-one (i + 1)))
+    ∙ ap (λ k. tiling_from bytes (take (i + 1) entries) (i + 1 + 1) (drop k entries)) (sym (add-one i))))
 
 or_none : (test : Bool) → (test || false) ≡ test
 or_none true = refl
@@ -59,8 +59,8 @@ pub owners-more : (entries : List Entry) (i : ℕ) (e : Entry) (old new : List B
     → AreOwners (take i entries) old → ((k : ℕ) → get_or new k false ≡ (get_or old k false || is_in k e)) → AreOwners (take (i + 1) entries) new
 owners-more entries i e old new below is owners marks = λ k.
     let more : is_owned (take (i + 1) entries) k ≡ (is_owned (take i entries) k || is_in k e)
-        = ap (λ es. is_owned es k) (take_one_more entries i e below is)
-          ∙ (list_any-append (is_in k) (take i entries) (e ∷ []) ∙ ap (λ b. is_owned (take i entries) k || b) (or_none (is_in k e))) in
+    = ap (λ es. is_owned es k) (take_one_more entries i e below is)
+    ∙ (list_any-append (is_in k) (take i entries) (e ∷ []) ∙ ap (λ b. is_owned (take i entries) k || b) (or_none (is_in k e))) in
     marks k ∙ (ap (λ b. b || is_in k e) (owners k) ∙ sym more)
 
 -- all bytes have their entry where all are marked
@@ -68,7 +68,7 @@ pub covered-is : (bytes : List ℕ) (entries : List Entry) (marks : List Bool) �
     → all_from (is_owned entries) 0 (length bytes) ≡ list_all is_marked marks
 covered-is bytes entries marks size owners =
     all_from-marks (is_owned entries) marks 0 (length bytes) owners (omega (arith, size))
-        ∙ ap (list_all is_marked) (ap (λ n. take n marks) (sym size) ∙ take-length marks)
+    ∙ ap (list_all is_marked) (ap (λ n. take n marks) (sym size) ∙ take-length marks)
 
 -- the rule on ranges, its two parts one after the other
 pub tiling_failure-tile : (bytes : List ℕ) (entries : List Entry) (place : ℕ) → tiling_from bytes [] 1 entries ≡ Some place
@@ -128,7 +128,7 @@ owners-push at [] e = omega arith
 owners-push at (d ∷ entries) e = omega (arith, owners-push at entries e)
 
 -- a byte that is in no range has no owner
-unowned : (at : ℕ) (entries : List Entry) → is_owned entries at ≡ false → owners at entries ≡ 0
+pub unowned : (at : ℕ) (entries : List Entry) → is_owned entries at ≡ false → owners at entries ≡ 0
 unowned at [] none = refl
 unowned at (e ∷ entries) none =
     let both = or_parts (is_in at e) (is_owned entries at) none in
@@ -139,7 +139,7 @@ unowned at (e ∷ entries) none =
     or_parts false b h = (refl, h)
 
 -- a byte that is in a range has an owner
-owned : (at : ℕ) (entries : List Entry) → is_owned entries at ≡ true → 1 ≤ owners at entries
+pub owned : (at : ℕ) (entries : List Entry) → is_owned entries at ≡ true → 1 ≤ owners at entries
 owned at [] some = cc
 owned at (e ∷ entries) some = here (is_in at e) (λ h. owned at entries h) some
   where
@@ -154,8 +154,8 @@ any_from-none p start zero k none low high = absurd (omega arith)
 any_from-none p start (suc n) k none low high =
     let both = or_parts (p start) (any_from p (suc start) n) none in
     elim (cases_eq k start) [
-      inl same ↦ ap p same ∙ both.0
-    | inr other ↦ any_from-none p (suc start) n k both.1 (omega arith) (omega arith)
+      | inl same ↦ ap p same ∙ both.0
+      | inr other ↦ any_from-none p (suc start) n k both.1 (omega arith) (omega arith)
     ]
   where
     or_parts : (a b : Bool) → (a || b) ≡ false → (a ≡ false) × (b ≡ false)
@@ -167,8 +167,8 @@ all_from-each p start zero k all low high = absurd (omega arith)
 all_from-each p start (suc n) k all low high =
     let both = and_parts (p start) (all_from p (suc start) n) all in
     elim (cases_eq k start) [
-      inl same ↦ ap p same ∙ both.0
-    | inr other ↦ all_from-each p (suc start) n k both.1 (omega arith) (omega arith)
+      | inl same ↦ ap p same ∙ both.0
+      | inr other ↦ all_from-each p (suc start) n k both.1 (omega arith) (omega arith)
     ]
 
 -- a field that shares no byte leaves each byte one owner at most
@@ -179,10 +179,13 @@ once-push at earlier e apart once = of (is_in at e) refl
     inside true true h = (refl, refl)
     inside true false h = cc
     inside false high h = cc
+
     at_most : (m n : ℕ) → nat_le m n ≡ true → m ≤ n
     at_most m n h = grind (arith, nat_tests)
+
     below : (m n : ℕ) → nat_lt m n ≡ true → m < n
     below m n h = grind (arith, nat_tests)
+
     of : (test : Bool) → is_in at e ≡ test → owners at (earlier ++ e ∷ []) ≤ 1
     of true is =
         let both = inside (nat_le e.start at) (nat_lt at (e.start + e.length)) is in

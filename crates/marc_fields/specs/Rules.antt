@@ -1,17 +1,22 @@
 -- The rules on leader, directory and fields: which fails first, and where (ISO 2709; MARC 21; the order and the places are
 -- this project's own).
-use Rattle.std.specs.Prelude.{ℕ, zero, suc, ◌+◌, ◌-◌, ◌/◌, ◌%◌, Bool, true, false, not, ◌&&◌, ◌||◌, ◌==◌, nat_le, List, [], ◌∷◌, ◌++◌, length, take, drop, map, slice_index, Option, None, Some, if◌then◌else◌}
+use Rattle.std.specs.Prelude.{◌≡◌, ◌≤◌, ℕ, zero, suc, ◌+◌, ◌-◌, ◌/◌, ◌%◌, Bool, true, false, not, ◌&&◌, ◌||◌, ◌==◌, nat_le, List, [], ◌∷◌, ◌++◌, length, take, drop, map, slice_index, Option, None, Some, if◌then◌else◌}
 use Rattle.std.specs.List.{list_any}
 use Rattle.marc_leader.specs.Entry.{tag_place, size_place, start_place, is_tag}
 use Rattle.marc_leader.specs.Leader.{length_place, base_place, misfit}
 use Rattle.marc_leader.specs.Numeral.{are_digits, number_of}
 use Rattle.marc_leader.specs.declared.entry.Entry.{Entry}
-use Rattle.union_base.specs.Fields.{field_terminator, is_control_tag}
+use Rattle.union_base.specs.Fields.{field_terminator, record_terminator, is_control_tag}
 use Rattle.marc_fields.specs.Rows.{unless, least_where_not, fails, or_then, any_from, all_from, ends_in_only}
 use Rattle.marc_fields.specs.Shapes.{has_control_shape, has_data_shape}
-use Rattle.marc_fields.specs.Spelling.{is_in}
+use Rattle.marc_fields.specs.Spelling.{is_in, longest_frame}
 use Rattle.marc_fields.specs.declared.rules.Failure.{Failure}
 use Rattle.marc_fields.specs.declared.rules.Rule.TheVariants.{TooShort, LengthDigits, LengthDiffers, BaseAddress, LeaderCounts, EntryDigits, Tag, Tiling, ControlShape, DataShape}
+
+-- the bytes are no more than a frame may have, and the only record terminator ends them
+pub record IsFrame (frame : List ℕ) : Type 0 where
+  pub size : length frame ≤ longest_frame
+  pub ends : ends_in_only record_terminator frame ≡ true
 
 -- the leader's 24 bytes
 abbrev pub leader_of_frame : List ℕ → List ℕ

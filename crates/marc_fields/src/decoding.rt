@@ -1,15 +1,16 @@
 //! Frames read as records.
-ghost use Rattle.std.specs.Prelude.{◌≡◌, ◌+◌, ◌-◌, ◌*◌, ◌≤◌, true, length, take, drop, None, map};
+ghost use Rattle.std.specs.Prelude.{◌≡◌, ◌+◌, ◌-◌, ◌*◌, ◌≤◌, IsTrue, ◌↔◌, true, length, take, drop, None, map};
 ghost use Rattle.std.specs.List.{list_all};
-ghost use Rattle.union_base.specs.Fields.{record_terminator};
 ghost use Rattle.marc_fields.specs.Directories.{is_formed, AreDecoded};
 ghost use Rattle.marc_fields.specs.Fronts.{IsFront};
-ghost use Rattle.marc_fields.specs.Rows.{Answers, ends_in_only};
-ghost use Rattle.marc_fields.specs.Rules.{entry_texts, texts_of, data_in, leader_of_frame, tiling_failure, data_failure, parts_failure, first_failure};
+ghost use Rattle.marc_fields.specs.Rows.{Answers};
+ghost use Rattle.marc_fields.specs.Rules.{IsFrame, entry_texts, texts_of, data_in, leader_of_frame, tiling_failure, data_failure, parts_failure, first_failure};
 ghost use Rattle.marc_fields.specs.Shapes.{ends_no_record};
 ghost use Rattle.marc_fields.specs.Spelling.{AreEntriesOf, Spells};
 
 use crate::directory::check_directory;
+use crate::encoding::LONGEST_FRAME;
+use crate::ending::ends_in_only;
 use crate::fields::check_fields;
 use crate::head::{Front, SMALLEST_BASE, check_head};
 use crate::marc_record::Record;
@@ -18,6 +19,7 @@ use crate::tiling::check_tiling;
 use marc_leader::entry::{ENTRY_SIZE, Entry};
 use marc_leader::leader::LEADER_SIZE;
 use std::alloc::{AllocError, AllocFailed, Global};
+use union_base::body::RECORD_TERMINATOR;
 use union_base::field::Field;
 use union_base::memory::Memory;
 use union_base::sequence::Sequence;
@@ -26,10 +28,7 @@ use union_base::sequence::Sequence;
 #[derive(Clone, Copy, Debug, PartialEq, Eq)]
 pub enum DecodeRefusal {
     /// The first rule that fails, of those on leader, directory and shape of fields, and its place (see `Failure`).
-    Rule {
-        rule: Rule,
-        place: u32,
-    },
+    Rule { rule: Rule, place: u32 },
     /// Memory ran out.
     Memory,
 }
@@ -62,6 +61,14 @@ impl<T: Drop> From<AllocFailed<T>> for DecodeRefusal {
     fn from(_refused: AllocFailed<T>) -> DecodeRefusal {
         DecodeRefusal::Memory
     }
+}
+
+/// Whether `decode` may be asked about the bytes: they are at most 99,999, and the only record terminator ends them. Takes
+/// no memory.
+pub fn is_frame(bytes: &[u8]) -> bool
+    ensures { IsTrue result ↔ IsFrame bytes.now }
+{
+    bytes.len() <= LONGEST_FRAME && ends_in_only(RECORD_TERMINATOR, bytes)
 }
 
 /// The directory and the data of a frame.
@@ -100,7 +107,12 @@ fn decode_data(alloc: Global, entries: &[Entry], bytes: &[u8]) -> Result<Vec<Fie
 }
 
 /// The fields that a directory of so many entries and the data have, or the first rule on them that fails.
-fn decode_parts(alloc: Global, directory: &[u8], bytes: &[u8], count: usize) -> Result<Vec<Field>, DecodeRefusal>
+fn decode_parts(
+    alloc: Global,
+    directory: &[u8],
+    bytes: &[u8],
+    count: usize,
+) -> Result<Vec<Field>, DecodeRefusal>
     requires size { length directory.now ≡ 12 * count }
     requires few { count ≤ 9999 }
     requires inner { ends_no_record bytes.now ≡ true }
@@ -115,14 +127,18 @@ fn decode_parts(alloc: Global, directory: &[u8], bytes: &[u8], count: usize) -> 
 
 /// The record that the frame with that leader spells, or the first rule behind those on the leader that fails.
 fn decode_behind(alloc: Global, frame: &[u8], front: &Front) -> Result<Record, DecodeRefusal>
-    requires size { length frame.now ≤ 99999 }
-    requires ends { ends_in_only record_terminator frame.now ≡ true }
+    requires frame { IsFrame frame.now }
     requires front { IsFront (leader_of_frame frame.now) frame.now front.now.codes front.now.base }
     ensures { Answers result (parts_failure (texts_of frame.now) (data_in frame.now)) (λ found. Spells frame.now found) }
 {
     let base = front.base;
     let parts = split_frame(frame, base);
-    match decode_parts(alloc, parts.directory, parts.bytes, (base - SMALLEST_BASE) / ENTRY_SIZE) {
+    match decode_parts(
+        alloc,
+        parts.directory,
+        parts.bytes,
+        (base - SMALLEST_BASE) / ENTRY_SIZE,
+    ) {
         Ok(fields) => Ok(Record {
             leader: front.codes,
             fields: Sequence::from(fields),
@@ -135,8 +151,7 @@ fn decode_behind(alloc: Global, frame: &[u8], front: &Front) -> Result<Record, D
 /// fails of those on length, leader, directory, ranges and shape of fields, with its place (see `Rule`). The frame has at
 /// most 99,999 bytes and ends in its only record terminator. Linear in the frame.
 pub fn decode(alloc: Global, frame: &[u8]) -> Result<Record, DecodeRefusal>
-    requires size { length frame.now ≤ 99999 }
-    requires ends { ends_in_only record_terminator frame.now ≡ true }
+    requires { IsFrame frame.now }
     ensures { Answers result (first_failure frame.now) (λ found. Spells frame.now found) }
 {
     match check_head(frame) {

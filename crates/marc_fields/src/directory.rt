@@ -64,7 +64,11 @@ fn read_entries(alloc: Global, directory: &[u8], count: usize) -> Result<Vec<Ent
 
 /// The entries of a directory of so many (ISO 2709, 'Directory'; MARC 21, 'Directory'), or the first rule on them that
 /// fails.
-pub fn check_directory(alloc: Global, directory: &[u8], count: usize) -> Result<Vec<Entry>, DecodeRefusal>
+pub fn check_directory(
+    alloc: Global,
+    directory: &[u8],
+    count: usize,
+) -> Result<Vec<Entry>, DecodeRefusal>
     requires size { length directory.now ≡ 12 * count }
     requires few { count ≤ 9999 }
     ensures { Answers result (directory_failure (entry_texts count directory.now)) (λ entries. AreRead directory.now count entries.items) }

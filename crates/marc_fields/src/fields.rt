@@ -76,7 +76,11 @@ fn read_fields(alloc: Global, entries: &[Entry], bytes: &[u8]) -> Result<Vec<Fie
 }
 
 /// The fields that lie at the entries (MARC 21, 'Variable fields'), or the first rule on their shape that fails.
-pub fn check_fields(alloc: Global, entries: &[Entry], bytes: &[u8]) -> Result<Vec<Field>, DecodeRefusal>
+pub fn check_fields(
+    alloc: Global,
+    entries: &[Entry],
+    bytes: &[u8],
+) -> Result<Vec<Field>, DecodeRefusal>
     requires few { length entries.now ≤ 9999 }
     requires tiles { list_all (is_tile bytes.now) entries.now ≡ true }
     requires formed { list_all is_formed entries.now ≡ true }

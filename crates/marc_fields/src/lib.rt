@@ -7,10 +7,13 @@
 pub mod decoding;
 pub mod directory;
 pub mod encoding;
+pub mod ending;
 pub mod fields;
 pub mod head;
 pub mod laws;
 pub mod marc_record;
 pub mod rules;
 pub mod shape;
+#[cfg(test)]
+mod tests;
 pub mod tiling;

@@ -2,27 +2,16 @@
 //! marked as it finds its entry, and the first entry that meets a mark is refused, so the work is linear in the data.
 ghost use Rattle.std.specs.Prelude.{⊤, ◌≡◌, ◌+◌, ◌≤◌, ℕ, ◌||◌, ◌&&◌, [], not, false, nat_le, nat_lt, List, length, take, drop, Some, None, slice_index_or};
 ghost use Rattle.std.specs.List.{list_any, list_all};
-ghost use Rattle.union_base.specs.Fields.{field_terminator};
-ghost use Rattle.marc_fields.specs.Rows.{Answers, ends_in_only};
+ghost use Rattle.marc_fields.specs.Rows.{Answers};
 ghost use Rattle.marc_fields.specs.Rules.{is_tile, is_owned, tiling_from, tiling_failure, covering};
 ghost use Rattle.marc_fields.specs.Tilings.{AreOwners, is_marked};
 
 use crate::decoding::DecodeRefusal;
+use crate::ending::ends_in_only;
 use crate::rules::Rule;
 use marc_leader::entry::Entry;
-use memchr::memchr;
 use std::alloc::Global;
 use union_base::body::FIELD_TERMINATOR;
-
-/// Whether the bytes end in their only field terminator.
-fn is_terminated(range: &[u8]) -> bool
-    ensures { result ≡ ends_in_only field_terminator range.now }
-{
-    match memchr(FIELD_TERMINATOR, range) {
-        Some(place) => place + 1 == range.len(),
-        None => false,
-    }
-}
 
 /// Whether a byte has its entry.
 fn has_mark(marks: &[bool]) -> bool
@@ -52,7 +41,7 @@ fn is_free_tile(entry: &Entry, marks: &[bool], bytes: &[u8]) -> bool
     let (range, _) = behind.split_at(size);
     let (_, later) = marks.split_at(start);
     let (owned, _) = later.split_at(size);
-    is_terminated(range) && !has_mark(owned)
+    ends_in_only(FIELD_TERMINATOR, range) && !has_mark(owned)
 }
 
 /// Marks so many bytes from that one on.

@@ -23,12 +23,12 @@ decode_parts-requires-clause-size c =
 pub decode_parts-requires-clause-few : goal.decode_parts-requires-clause-few
 decode_parts-requires-clause-few c =
     let has = front-base (leader_of_frame c.args.frame.now) c.args.frame.now c.args.front.now.codes c.args.front.now.base c.requires.front in
-    omega (arith, has.high, c.requires.size)
+    omega (arith, has.high, c.requires.frame.size)
 
 pub decode_parts-requires-clause-inner : goal.decode_parts-requires-clause-inner
 decode_parts-requires-clause-inner c =
     let has = front-base (leader_of_frame c.args.frame.now) c.args.frame.now c.args.front.now.codes c.args.front.now.base c.requires.front in
-    ap ends_no_record c.split_frame-parts.ensures.bytes ∙ (data-parts c.args.frame.now c.args.front.now.base has c.requires.ends).1
+    ap ends_no_record c.split_frame-parts.ensures.bytes ∙ (data-parts c.args.frame.now c.args.front.now.base has c.requires.frame.ends).1
 
 pub returns-in-Ok : goal.returns-in-Ok
 returns-in-Ok c =
@@ -38,7 +38,8 @@ returns-in-Ok c =
     let bytes = c.split_frame-parts.result.bytes.now in
     let d = c.split_frame-parts.ensures.directory in
     let b = c.split_frame-parts.ensures.bytes in
-    let Decoded : List Field → Type 0 = λ fields. AreDecoded directory bytes ((base - 25) / 12) fields in
-    (sym (parts-same frame directory bytes base c.requires.front.base_is d b) ∙ c.in-Ok.ensures.0,
-      decoded-Spells frame c.args.front.now.codes base directory bytes c.from.result c.requires.front c.requires.size c.requires.ends d b
-      (subst Decoded (sym c.from.ensures) c.in-Ok.ensures.1))
+    let Decoded : List Field → Type 0 = λ fields. AreDecoded directory bytes ((base - 25) / 12) fields in (
+      sym (parts-same frame directory bytes base c.requires.front.base_is d b) ∙ c.in-Ok.ensures.0,
+      decoded-Spells frame c.args.front.now.codes base directory bytes c.from.result c.requires.front c.requires.frame.size c.requires.frame.ends d b
+          (subst Decoded (sym c.from.ensures) c.in-Ok.ensures.1),
+    )

@@ -15,5 +15,5 @@ loop-i-preserved c =
     record {
       size = omega (arith, c.split_at.ensures.back_len, c.loop-i.invariant.size);
       row = c.loop-i.invariant.row ∙ row-later has_digits c.loop-i.i n (c.args.count - (c.loop-i.i + 1)) c.loop-i.rest.now c.split_at.result.0.now c.split_at.result.1.now
-        (omega arith) (omega arith) c.split_at.ensures.front c.split_at.ensures.back (sym c.if-not-are_numbers.ensures);
+          (omega arith) (omega arith) c.split_at.ensures.front c.split_at.ensures.back (sym c.if-not-are_numbers.ensures);
     }

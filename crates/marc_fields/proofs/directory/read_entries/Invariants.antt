@@ -9,10 +9,10 @@ use Rattle.marc_fields.proofs.directory.read_entries.Given as goal
 -- the entries so far and the rest of the texts are the whole, and the rest decides
 abbrev pub invariant-loop-i : goal.invariant-loop-i
 invariant-loop-i l = record {
-    size : length l.rest ≡ 12 * (l.count - l.i);
-    digits : least_where_not has_digits (l.i + 1) (entry_texts (l.count - l.i) l.rest) ≡ None;
-    row : least_where_not has_tag 1 (entry_texts l.count l.directory) ≡ least_where_not has_tag (l.i + 1) (entry_texts (l.count - l.i) l.rest);
-    spelled : l.directory ≡ flat_map entry_bytes l.entries.items ++ l.rest;
-    are : map entry_in (entry_texts l.count l.directory) ≡ l.entries.items ++ map entry_in (entry_texts (l.count - l.i) l.rest);
-    formed : list_all is_formed l.entries.items ≡ true
-  }
+  size : length l.rest ≡ 12 * (l.count - l.i);
+  digits : least_where_not has_digits (l.i + 1) (entry_texts (l.count - l.i) l.rest) ≡ None;
+  row : least_where_not has_tag 1 (entry_texts l.count l.directory) ≡ least_where_not has_tag (l.i + 1) (entry_texts (l.count - l.i) l.rest);
+  spelled : l.directory ≡ flat_map entry_bytes l.entries.items ++ l.rest;
+  are : map entry_in (entry_texts l.count l.directory) ≡ l.entries.items ++ map entry_in (entry_texts (l.count - l.i) l.rest);
+  formed : list_all is_formed l.entries.items ≡ true;
+}

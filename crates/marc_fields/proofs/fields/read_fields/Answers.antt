@@ -56,10 +56,10 @@ loop-i-preserved c =
     let At : List Entry → List Field → Type 0 = λ es fs. AreEntriesOf bytes es fs in
     let old = c.loop-i.fields.items in
     let lies : At (take i entries ++ e ∷ []) (old ++ f ∷ [])
-        = AreEntriesOf-push bytes (take i entries) old e f c.loop-i.invariant.read (field-IsEntryOf bytes c.text_in-text.result.now e f tile formed c.text_in-text.ensures read) in
+    = AreEntriesOf-push bytes (take i entries) old e f c.loop-i.invariant.read (field-IsEntryOf bytes c.text_in-text.result.now e f tile formed c.text_in-text.ensures read) in
     record {
       control = c.loop-i.invariant.control ∙ least-drop-later (is_control_shaped bytes) entries i e c.loop-i-test.true is control;
       shaped = c.loop-i.invariant.shaped ∙ least-drop-later (is_data_shaped bytes) entries i e c.loop-i-test.true is (data-right bytes e right);
       read = subst (λ es. At es c.push.new.self.items) (sym (take_one_more entries i e c.loop-i-test.true is))
-        (subst (λ fs. At (take i entries ++ e ∷ []) fs) (sym c.in_ok-push-in-Some.ensures.items) lies);
+          (subst (λ fs. At (take i entries ++ e ∷ []) fs) (sym c.in_ok-push-in-Some.ensures.items) lies);
     }

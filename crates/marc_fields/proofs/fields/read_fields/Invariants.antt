@@ -7,7 +7,7 @@ use Rattle.marc_fields.proofs.fields.read_fields.Given as goal
 -- the fields so far lie at their entries, and the other entries decide
 abbrev pub invariant-loop-i : goal.invariant-loop-i
 invariant-loop-i l = record {
-    control : least_where_not (is_control_shaped l.bytes) 1 l.entries ≡ least_where_not (is_control_shaped l.bytes) (l.i + 1) (drop l.i l.entries);
-    shaped : least_where_not (is_data_shaped l.bytes) 1 l.entries ≡ least_where_not (is_data_shaped l.bytes) (l.i + 1) (drop l.i l.entries);
-    read : AreEntriesOf l.bytes (take l.i l.entries) l.fields.items
-  }
+  control : least_where_not (is_control_shaped l.bytes) 1 l.entries ≡ least_where_not (is_control_shaped l.bytes) (l.i + 1) (drop l.i l.entries);
+  shaped : least_where_not (is_data_shaped l.bytes) 1 l.entries ≡ least_where_not (is_data_shaped l.bytes) (l.i + 1) (drop l.i l.entries);
+  read : AreEntriesOf l.bytes (take l.i l.entries) l.fields.items;
+}

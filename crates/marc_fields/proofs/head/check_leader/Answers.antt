@@ -34,9 +34,10 @@ pub returns-in-Ok : goal.returns-in-Ok
 returns-in-Ok c =
     let size = some_if _ _ c.in-Some.size c.in-Some.ensures.value in
     let base = some_if _ _ c.in-Some-read_base.base c.in-Some-read_base.ensures in
-    let digits = (and_parts (are_digits (base_place c.args.leader.now)) (is_base (base_in c.args.leader.now) c.args.frame.now) base.0).0 in
-    (leader_failure-counts c.args.leader.now c.args.frame.now c.in-Some.size size.0 size.1 c.if-size-frame.false base.0 ∙ c.in-Ok.ensures.0,
-      front-read c.args.leader.now c.args.frame.now c.in-Some.size c.in-Some-read_base.base c.in-Ok.codes size.0 digits size.1 c.if-size-frame.false base.0 base.1 c.in-Ok.ensures.1)
+    let digits = (and_parts (are_digits (base_place c.args.leader.now)) (is_base (base_in c.args.leader.now) c.args.frame.now) base.0).0 in (
+      leader_failure-counts c.args.leader.now c.args.frame.now c.in-Some.size size.0 size.1 c.if-size-frame.false base.0 ∙ c.in-Ok.ensures.0,
+      front-read c.args.leader.now c.args.frame.now c.in-Some.size c.in-Some-read_base.base c.in-Ok.codes size.0 digits size.1 c.if-size-frame.false base.0 base.1 c.in-Ok.ensures.1,
+    )
 
 pub returns-in-Err : goal.returns-in-Err
 returns-in-Err c =

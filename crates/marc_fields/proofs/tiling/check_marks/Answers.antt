@@ -15,6 +15,8 @@ returns-then-not-are_marked c =
 pub returns : goal.returns
 returns c =
     let size = c.first_untiled.auto.marks ∙ c.requires.size in
-    let owners = c.in_default.ensures.marked refl in
-    (tiling_failure-none c.args.bytes.now c.args.entries.now (sym c.in_default.ensures.row)
-    (covered-is c.args.bytes.now c.args.entries.now c.first_untiled.new.marks size owners ∙ sym c.if-not-are_marked.ensures), tt)
+    let owners = c.in_default.ensures.marked refl in (
+      tiling_failure-none c.args.bytes.now c.args.entries.now (sym c.in_default.ensures.row)
+          (covered-is c.args.bytes.now c.args.entries.now c.first_untiled.new.marks size owners ∙ sym c.if-not-are_marked.ensures),
+      tt,
+    )

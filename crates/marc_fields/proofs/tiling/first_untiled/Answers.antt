@@ -29,6 +29,6 @@ loop-i-preserved c =
     let size : length c.loop-i.marks ≡ length c.args.bytes.now = c.loop-i.auto.marks ∙ c.requires.size in
     record {
       row = c.loop-i.invariant.row ∙ tiling-later c.args.bytes.now entries i e c.loop-i-test.true is
-        (sym (c.if-not-is_free_tile.ensures ∙ free-is c.args.bytes.now (take i entries) c.loop-i.marks e size c.loop-i.invariant.marked));
+          (sym (c.if-not-is_free_tile.ensures ∙ free-is c.args.bytes.now (take i entries) c.loop-i.marks e size c.loop-i.invariant.marked));
       marked = owners-more entries i e c.loop-i.marks c.mark.new.marks c.loop-i-test.true is c.loop-i.invariant.marked c.mark.ensures;
     }
