@@ -1,4 +1,4 @@
-//! The nine codes of a leader.
+//! The nine codes of a leader, which contracts see as the plain record `Codes`.
 ghost use Rattle.std.specs.Prelude.{IsTrue};
 ghost use Rattle.marc_leader.specs.Codes.{are_printable};
 

@@ -1,4 +1,4 @@
-//! An entry of the directory.
+//! An entry of the directory, 12 bytes: `entry_of` says what is read of them, `entry_text` what is written.
 ghost use Rattle.std.specs.Prelude.{◌≡◌, ◌≤◌, length, IfOk, Ok, IsTrue};
 ghost use Rattle.marc_leader.specs.Entry.{entry_text, entry_of, is_tag};
 
@@ -7,19 +7,23 @@ use crate::numeral::{digits, last_digit};
 /// How many bytes an entry has.
 pub const ENTRY_SIZE: usize = 12;
 
-// Where the parts of an entry end: the tag, the field's length, and where the field starts.
+/// Where an entry's tag ends.
 pub const TAG_END: usize = 3;
 
+/// Where the field's length ends, four digits behind the tag.
 pub const SIZE_END: usize = 7;
 
+/// Where the field's start ends, five digits behind its length.
 pub const START_END: usize = 12;
 
-/// An entry of the directory (ISO 2709, 'Directory'): a field's tag, its length in bytes with its terminator, and where
-/// it starts, counted from the base address of data.
+/// An entry of the directory (ISO 2709, 'Directory'; MARC 21, 'Directory').
 #[derive(Clone, Copy, Debug, PartialEq, Eq)]
 pub struct Entry {
+    /// The field's tag.
     pub tag: [u8; 3],
+    /// The field's length in bytes, its terminator included.
     pub length: u32,
+    /// Where the field starts, in bytes from the base address of data.
     pub start: u32,
 }
 

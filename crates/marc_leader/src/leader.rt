@@ -1,4 +1,4 @@
-//! The leader, the 24 bytes at the front of a record.
+//! The leader, the 24 bytes at the front of a record: `leader_of` says what is read of them, `leader_text` what is written.
 ghost use Rattle.std.specs.Prelude.{◌≡◌, ◌≤◌, length, IfOk, Ok};
 ghost use Rattle.marc_leader.specs.Leader.{leader_text, leader_of, may_stand, misfit};
 
@@ -8,39 +8,39 @@ use crate::numeral::{digits, last_digit};
 /// How many bytes a leader has.
 pub const LEADER_SIZE: usize = 24;
 
-// The offsets of a leader's parts: the length stands in front of LENGTH_END, the base address from BASE to BASE_END.
+/// Where the record's length ends, which five digits at the front give.
 pub const LENGTH_END: usize = 5;
-
+/// The offset of the record's status.
 pub const STATUS: usize = 5;
-
+/// The offset of the type of record.
 pub const KIND: usize = 6;
-
+/// The offset of the bibliographic level.
 pub const LEVEL: usize = 7;
-
+/// The offset of the type of control.
 pub const CONTROL: usize = 8;
-
+/// The offset of the character coding scheme.
 pub const CODING: usize = 9;
-
+/// The offset of the count of a field's indicators, always `2`.
 pub const INDICATOR_COUNT: usize = 10;
-
+/// The offset of the count of a subfield code's bytes, delimiter included, always `2`.
 pub const CODE_COUNT: usize = 11;
-
+/// Where the base address of data begins, five digits.
 pub const BASE: usize = 12;
-
+/// Where the base address of data ends.
 pub const BASE_END: usize = 17;
-
+/// The offset of the encoding level.
 pub const ENCODING: usize = 17;
-
+/// The offset of the descriptive cataloguing form.
 pub const FORM: usize = 18;
-
+/// The offset of the multipart resource record level.
 pub const PART: usize = 19;
-
+/// The offset of the entry map's count of an entry's digits of length, always `4`.
 pub const LENGTH_PORTION: usize = 20;
-
+/// The offset of the entry map's count of an entry's digits of start, always `5`.
 pub const START_PORTION: usize = 21;
-
+/// The offset of the entry map's count of an entry's further bytes, always `0`.
 pub const OWN_PORTION: usize = 22;
-
+/// The offset of the entry map's last byte.
 pub const LAST: usize = 23;
 
 /// A leader's content (MARC 21, 'Leader'): what its 24 bytes say beside the bytes that are the same in each record.

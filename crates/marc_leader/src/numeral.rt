@@ -1,4 +1,5 @@
-//! Numbers in decimal digits.
+//! Numbers in decimal digits, as ISO 2709 writes them: with leading zeros to a fixed width. A number is what `number_of`
+//! says of its digits, and `numeral` is what is written.
 ghost use Rattle.std.specs.Prelude.{◌≡◌, ◌+◌, ◌%◌, ◌^◌, ◌<◌, ◌≤◌, if◌then◌else◌, length, Some, None, IfSome};
 ghost use Rattle.marc_leader.specs.Numeral.{are_digits, number_of};
 
