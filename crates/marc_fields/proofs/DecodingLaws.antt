@@ -1,11 +1,10 @@
 -- A frame that breaks no rule spells the record that is read from it.
-use Rattle.std.proofs.Common.{◌≡◌, ℕ, zero, suc, ◌+◌, ◌-◌, ◌*◌, ◌/◌, ◌%◌, ◌<◌, ◌≤◌, Bool, true, false, not, ◌&&◌, ◌||◌, List, [], ◌∷◌, ◌++◌, length, get_or, take, drop, map, refl, sym, ◌∙◌, ap, subst, arith, length-append, length-drop, drop-drop, Option, None, Some, Result, Ok, Err}
+use Rattle.std.proofs.Common.{◌≡◌, ℕ, zero, suc, ◌+◌, ◌-◌, ◌*◌, ◌/◌, ◌%◌, ◌<◌, ◌≤◌, Bool, true, false, not, ◌&&◌, List, [], ◌∷◌, ◌++◌, length, get_or, take, drop, refl, sym, ◌∙◌, ap, subst, arith, length-drop, drop-drop, Option, None, Some, Result, Ok, Err}
 use Rattle.std.proofs.Math.Seq.{drop-cons}
-use Rattle.std.proofs.lemmas.Bool.{and_parts, and_from, eqb-true}
+use Rattle.std.proofs.lemmas.Bool.{and_parts, eqb-true}
 use Rattle.std.proofs.lemmas.Bool.Decides.{nat_tests}
 use Rattle.std.proofs.lemmas.List.{length-take, take-append-drop, drop-append-le, drop-take, length-map}
-use Rattle.std.proofs.lemmas.List.Folds.{list_any-append}
-use Rattle.std.specs.List.{list_all, list_any, flat_map}
+use Rattle.std.specs.List.{flat_map}
 use Rattle.std.specs.Prelude.{◌==◌, nat_le, if◌then◌else◌}
 use Rattle.marc_leader.specs.Codes.{Codes}
 use Rattle.marc_leader.specs.Leader.{leader_of, leader_text, counted, misfit, length_place, base_place}
@@ -21,7 +20,6 @@ use Rattle.marc_fields.specs.Shapes.{ends_no_record}
 use Rattle.marc_fields.proofs.FieldReading.{all_drop}
 use Rattle.union_base.specs.declared.field.Field.{Field}
 use Rattle.marc_fields.specs.Spelling.{leader_bytes, entry_bytes, Spells}
-use Rattle.marc_fields.specs.declared.marc_record.Record.{Record}
 use Rattle.marc_fields.proofs.SpellingLaws.{leader_of-printable}
 use Rattle.marc_fields.proofs.TilingLaws.{tiled-once}
 use Rattle.marc_fields.proofs.RowLaws.{ends-parts}

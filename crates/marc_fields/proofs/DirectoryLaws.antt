@@ -1,13 +1,13 @@
 -- What reading a directory shows.
-use Rattle.std.proofs.Common.{◌≡◌, ℕ, zero, suc, ◌+◌, ◌-◌, ◌*◌, ◌<◌, ◌≤◌, Bool, true, false, ◌&&◌, List, [], ◌∷◌, ◌++◌, length, take, drop, map, refl, sym, ◌∙◌, ap, subst, arith, append_assoc, length-append, add-one, Option, None, Some, Ok, Err}
-use Rattle.std.proofs.lemmas.Bool.{and_parts, and_from}
+use Rattle.std.proofs.Common.{◌≡◌, ℕ, zero, suc, ◌+◌, ◌-◌, ◌<◌, ◌≤◌, Bool, true, false, List, [], ◌∷◌, ◌++◌, take, drop, map, refl, sym, ◌∙◌, ap, arith, append_assoc, add-one, None, Some, Ok, Err}
+use Rattle.std.proofs.lemmas.Bool.{and_from}
 use Rattle.std.proofs.lemmas.Bool.Decides.{nat_tests}
 use Rattle.std.proofs.lemmas.Grind.{flat_map-append}
 use Rattle.std.proofs.lemmas.List.{append-nil, take-append-drop}
 use Rattle.std.proofs.lemmas.List.Folds.{list_all-append}
 use Rattle.std.specs.List.{flat_map, list_all}
 use Rattle.std.specs.Prelude.{if◌then◌else◌, nat_le}
-use Rattle.marc_leader.specs.Entry.{entry_of, is_tag as marc_is_tag, tag_place, size_place, start_place}
+use Rattle.marc_leader.specs.Entry.{entry_of}
 use Rattle.marc_leader.specs.declared.entry.Entry.{Entry}
 use Rattle.marc_leader.specs.declared.entry.EntryRule.{EntryRule}
 use Rattle.marc_leader.specs.declared.entry.EntryRule.TheVariants.{Digits, Tag}

@@ -1,5 +1,5 @@
 -- What reading the fields at entries shows.
-use Rattle.std.proofs.Common.{◌≡◌, ℕ, suc, ◌+◌, ◌-◌, ◌<◌, ◌≤◌, Bool, true, false, not, ◌&&◌, ◌||◌, List, [], ◌∷◌, ◌++◌, length, get_or, take, drop, refl, sym, ◌∙◌, ap, subst, arith, add-one, length-drop, Option, None, Some}
+use Rattle.std.proofs.Common.{◌≡◌, ℕ, suc, ◌+◌, ◌-◌, ◌<◌, ◌≤◌, Bool, true, false, not, ◌||◌, List, [], ◌∷◌, ◌++◌, length, get_or, take, drop, refl, sym, ◌∙◌, ap, arith, add-one, length-drop, None, Some}
 use Rattle.std.proofs.Math.Seq.{drop-cons}
 use Rattle.std.proofs.lemmas.Bool.{and_parts, and_from}
 use Rattle.std.proofs.lemmas.Bool.Decides.{nat_tests}
@@ -8,13 +8,13 @@ use Rattle.std.proofs.lemmas.List.Folds.{list_all-append}
 use Rattle.std.specs.List.{list_all}
 use Rattle.std.specs.Prelude.{◌==◌, nat_le, if◌then◌else◌}
 use Rattle.marc_leader.specs.declared.entry.Entry.{Entry}
-use Rattle.union_base.specs.Fields.{is_tag, is_control_tag, spelled}
+use Rattle.union_base.specs.Fields.{is_tag, is_control_tag}
 use Rattle.union_base.specs.declared.field.Field.{Field}
 use Rattle.marc_fields.specs.Directories.{is_formed}
 use Rattle.marc_fields.specs.Rows.{least_where_not, ends_in_only, fails}
 use Rattle.marc_fields.specs.Rules.{is_tile, range_of, text_of, is_control_shaped, is_data_shaped, shape_failure}
 use Rattle.marc_fields.specs.Shapes.{are_inner, is_inner, ends_no_record, has_shape, has_control_shape, has_data_shape, IsFieldOf}
-use Rattle.marc_fields.specs.Spelling.{stored, IsEntryOf, AreEntriesOf}
+use Rattle.marc_fields.specs.Spelling.{IsEntryOf, AreEntriesOf}
 use Rattle.marc_fields.specs.declared.rules.Rule.TheVariants.{ControlShape, DataShape}
 use Rattle.marc_fields.proofs.DirectoryLaws.{least-here, least-later, least-none}
 use Rattle.marc_fields.proofs.RowLaws.{ends-parts}

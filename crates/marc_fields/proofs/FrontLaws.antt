@@ -1,13 +1,12 @@
 -- What reading a leader shows.
-use Rattle.std.proofs.Common.{◌≡◌, ℕ, ◌+◌, ◌*◌, ◌<◌, ◌≤◌, Bool, true, false, ◌&&◌, List, length, take, refl, sym, ◌∙◌, ap, subst, arith, Option, None, Some, Ok, Err}
+use Rattle.std.proofs.Common.{◌≡◌, ℕ, Bool, true, false, ◌&&◌, List, length, refl, sym, ◌∙◌, ap, arith, Option, None, Some, Ok, Err}
 use Rattle.std.proofs.lemmas.Bool.Decides.{nat_tests}
 use Rattle.std.specs.Prelude.{if◌then◌else◌, ◌==◌}
 use Rattle.marc_leader.specs.Codes.{Codes}
 use Rattle.marc_leader.specs.Leader.{leader_of, counted, misfit, length_place, base_place, codes_of}
 use Rattle.marc_leader.specs.Numeral.{are_digits, number_of}
 use Rattle.marc_leader.specs.declared.leader.Leader.{Leader}
-use Rattle.marc_leader.specs.declared.leader.LeaderRule.{LeaderRule}
-use Rattle.marc_leader.specs.declared.leader.LeaderRule.TheVariants.{LengthDigits, BaseDigits, Counts}
+use Rattle.marc_leader.specs.declared.leader.LeaderRule.TheVariants.{LengthDigits, BaseDigits}
 use Rattle.marc_fields.specs.Fronts.{IsCounted, IsFront}
 use Rattle.marc_fields.specs.Rules.{base_in, has_base, leader_failure, leader_counts}
 use Rattle.marc_fields.specs.declared.rules.Rule.TheVariants.{LengthDigits as LengthDigitsRule, LengthDiffers, BaseAddress}

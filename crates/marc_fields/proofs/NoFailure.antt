@@ -1,24 +1,23 @@
 -- A frame that spells a record breaks no rule.
-use Rattle.std.proofs.Common.{◌≡◌, ℕ, zero, suc, ◌+◌, ◌-◌, ◌*◌, ◌/◌, ◌%◌, ◌<◌, ◌≤◌, Bool, true, false, not, ◌&&◌, ◌||◌, List, [], ◌∷◌, ◌++◌, length, get_or, take, drop, map, refl, sym, ◌∙◌, ap, subst, arith, append_assoc, length-append, length-drop, Option, None, Some, Ok}
+use Rattle.std.proofs.Common.{◌≡◌, ℕ, zero, suc, ◌+◌, ◌-◌, ◌*◌, ◌/◌, ◌%◌, ◌<◌, ◌≤◌, Bool, true, false, not, ◌&&◌, ◌||◌, List, [], ◌∷◌, ◌++◌, length, get_or, take, drop, map, refl, sym, ◌∙◌, ap, arith, append_assoc, length-append, length-drop, None}
 use Rattle.std.proofs.Math.Seq.{take-append_seam, drop-append_seam, get_or-append_seam}
 use Rattle.std.proofs.lemmas.Bool.{and_parts, and_from}
 use Rattle.std.proofs.lemmas.Bool.Decides.{nat_tests}
 use Rattle.std.proofs.lemmas.List.{take-take, length-take}
-use Rattle.std.specs.List.{list_all, list_any, flat_map}
+use Rattle.std.specs.List.{list_all, flat_map}
 use Rattle.std.specs.Prelude.{◌==◌, nat_le, nat_lt, if◌then◌else◌}
-use Rattle.marc_leader.specs.Entry.{entry_of}
-use Rattle.marc_leader.specs.Leader.{leader_of, misfit, length_place, base_place}
-use Rattle.marc_leader.specs.Numeral.{are_digits, number_of}
+use Rattle.marc_leader.specs.Leader.{misfit, length_place, base_place}
+use Rattle.marc_leader.specs.Numeral.{are_digits}
 use Rattle.marc_leader.specs.declared.entry.Entry.{Entry}
 use Rattle.marc_leader.specs.declared.leader.Leader.{Leader}
 use Rattle.union_base.specs.Fields.{is_control_tag, spelled as body_bytes}
 use Rattle.union_base.specs.declared.field.Field.{Field}
 use Rattle.marc_fields.specs.declared.marc_record.Record.{Record}
-use Rattle.marc_fields.specs.declared.rules.Rule.TheVariants.{EntryDigits, Tag, ControlShape, DataShape, LeaderCounts}
-use Rattle.marc_fields.specs.Rows.{least_where_not, ends_in_only, any_from, all_from, fails, or_then}
-use Rattle.marc_fields.specs.Rules.{leader_of_frame, base_in, base_of, is_base, has_base, head_failure, leader_failure, entry_in, entry_texts, texts_of, data_in, has_digits, has_tag, directory_failure, is_tile, is_owned, shares, tiling_from, tiling_failure, range_of, text_of, is_control_shaped, is_data_shaped, shape_failure, parts_failure, first_failure}
+use Rattle.marc_fields.specs.declared.rules.Rule.TheVariants.{LeaderCounts}
+use Rattle.marc_fields.specs.Rows.{least_where_not, ends_in_only, any_from, all_from, fails}
+use Rattle.marc_fields.specs.Rules.{leader_of_frame, base_in, base_of, is_base, has_base, head_failure, leader_failure, entry_in, entry_texts, texts_of, data_in, has_digits, has_tag, directory_failure, is_tile, is_owned, shares, tiling_from, tiling_failure, range_of, text_of, is_control_shaped, is_data_shaped, shape_failure, first_failure}
 use Rattle.marc_fields.specs.Shapes.{are_inner, is_inner, has_shape, has_control_shape, has_data_shape}
-use Rattle.marc_fields.specs.Spelling.{stored, is_in, owners, entry_bytes, leader_bytes, Spells, IsEntryOf, AreEntriesOf}
+use Rattle.marc_fields.specs.Spelling.{is_in, owners, entry_bytes, leader_bytes, Spells, IsEntryOf, AreEntriesOf}
 use Rattle.marc_fields.proofs.DecodingLaws.{leader_cases}
 use Rattle.marc_fields.proofs.DirectoryLaws.{least-later, entry-read}
 use Rattle.marc_fields.proofs.FrontLaws.{leader_of-counted, leader_of-numbers, leader_failure-counts}

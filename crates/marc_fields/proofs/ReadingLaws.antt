@@ -1,25 +1,22 @@
 -- What is read from the parts of a frame.
-use Rattle.std.proofs.Common.{◌≡◌, ℕ, suc, ◌+◌, ◌-◌, ◌*◌, ◌<◌, ◌≤◌, Bool, true, false, not, ◌&&◌, List, [], ◌∷◌, ◌++◌, length, get_or, take, drop, refl, sym, ◌∙◌, ap, subst, arith, append_assoc, length-append, Ok, Err, Option, None, Some, ◌||◌}
+use Rattle.std.proofs.Common.{◌≡◌, ℕ, ◌+◌, ◌*◌, ◌≤◌, Bool, true, false, ◌&&◌, List, [], ◌∷◌, ◌++◌, length, take, drop, refl, sym, ◌∙◌, ap, subst, arith, Ok, Err}
 use Rattle.std.proofs.Math.Seq.{take-append_seam, drop-append_seam}
 use Rattle.std.proofs.lemmas.Bool.{and_parts, and_from, eqb-true}
 use Rattle.std.proofs.lemmas.Bool.Decides.{nat_tests}
-use Rattle.std.proofs.lemmas.Grind.{flat_map-append}
-use Rattle.std.proofs.lemmas.List.{length-take, append_cancel_right, append-nil, take-append-drop}
-use Rattle.std.proofs.lemmas.List.Folds.{list_all-append}
+use Rattle.std.proofs.lemmas.List.{length-take}
 use Rattle.std.specs.Char.{is_ascii_alphanumeric}
-use Rattle.std.specs.List.{flat_map, list_all}
-use Rattle.std.specs.Prelude.{◌==◌, nat_le, if◌then◌else◌, MatchOption}
+use Rattle.std.specs.List.{list_all}
+use Rattle.std.specs.Prelude.{◌==◌, if◌then◌else◌}
 use Rattle.marc_leader.specs.Entry.{entry_of, tag_place, size_place, start_place, is_tag as marc_is_tag}
 use Rattle.marc_leader.specs.Codes.{Codes, are_printable}
-use Rattle.marc_leader.specs.Leader.{leader_of, leader_text}
+use Rattle.marc_leader.specs.Leader.{leader_of}
 use Rattle.marc_leader.specs.declared.leader.Leader.{Leader}
 use Rattle.marc_leader.proofs.LeaderLaws.{leader_of-text}
 use Rattle.marc_leader.specs.Numeral.{are_digits, number_of}
 use Rattle.marc_leader.specs.declared.entry.EntryRule.TheVariants.{Digits, Tag}
 use Rattle.marc_leader.specs.declared.entry.Entry.{Entry}
 use Rattle.marc_leader.proofs.EntryLaws.{entry_of-entry_text}
-use Rattle.union_base.specs.Fields.{is_tag, is_tag_byte, fits_tag, spelled as body_bytes}
-use Rattle.union_base.specs.declared.field.Field.{Field}
+use Rattle.union_base.specs.Fields.{is_tag, is_tag_byte}
 use Rattle.marc_fields.specs.Spelling.{entry_bytes, leader_bytes, longest_frame}
 use Rattle.marc_fields.proofs.SpellingLaws.{length-leader_bytes}
 

@@ -14,10 +14,9 @@ use Rattle.union_base.specs.declared.field.Field.{Field}
 use Rattle.marc_fields.specs.declared.marc_record.Record.{Record}
 use Rattle.marc_fields.specs.declared.encoding.EncodeRefusal.TheVariants.{FieldTooLong, RecordTooLong}
 use Rattle.marc_fields.specs.Appending.{too_long}
-use Rattle.marc_fields.specs.Spelling.{stored, entries_from, entry_bytes, leader_bytes, is_short, frame_size, spelling, Spells, IsEntryOf, AreEntriesOf}
-use Rattle.marc_fields.proofs.AppendingLaws.{length-entries_from}
+use Rattle.marc_fields.specs.Spelling.{stored, entry_bytes, leader_bytes, is_short, frame_size, spelling, Spells, IsEntryOf, AreEntriesOf}
 use Rattle.marc_fields.proofs.ReadingLaws.{IsHead, entry_of-entry_bytes, fronts_same, rests_same, head-one}
-use Rattle.marc_fields.proofs.SpellingLaws.{length-tag, length-leader_bytes, length-entry_bytes, length-directory, length-spelling, spelling-Spells}
+use Rattle.marc_fields.proofs.SpellingLaws.{length-tag, length-leader_bytes, length-entry_bytes, spelling-Spells}
 
 -- the tag of an entry is its field's
 pub entry_tag : (bytes : List ℕ) (e : Entry) (f : Field) → IsEntryOf bytes e f → is_tag e.tag ≡ true

@@ -1,5 +1,5 @@
 -- What is known of a frame whose leader was read.
-use Rattle.std.specs.Prelude.{◌≡◌, ℕ, ◌+◌, ◌*◌, Bool, true, List, length, take, Result, Ok}
+use Rattle.std.specs.Prelude.{◌≡◌, ℕ, true, List, length, Ok}
 use Rattle.marc_leader.specs.Codes.{Codes}
 use Rattle.marc_leader.specs.Leader.{leader_of}
 use Rattle.marc_leader.specs.declared.leader.Leader.{Leader}

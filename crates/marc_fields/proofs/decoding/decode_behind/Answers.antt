@@ -1,4 +1,4 @@
-use Rattle.std.proofs.Common.{◌≡◌, ◌∙◌, sym, ap, subst, arith, length, true, take, drop, ◌-◌, ◌/◌, List}
+use Rattle.std.proofs.Common.{◌∙◌, sym, ap, subst, arith, length, ◌-◌, ◌/◌, List}
 use Rattle.union_base.specs.declared.field.Field.{Field}
 use Rattle.marc_fields.specs.Directories.{AreDecoded}
 use Rattle.marc_fields.specs.Rules.{leader_of_frame}

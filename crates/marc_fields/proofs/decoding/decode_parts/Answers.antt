@@ -1,4 +1,4 @@
-use Rattle.std.proofs.Common.{◌∙◌, ap, length, arith}
+use Rattle.std.proofs.Common.{ap, length, arith}
 use Rattle.marc_fields.proofs.DecodingLaws.{length-read}
 use Rattle.marc_fields.proofs.decoding.decode_parts.Goals as goal
 

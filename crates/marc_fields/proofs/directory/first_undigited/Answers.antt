@@ -1,4 +1,4 @@
-use Rattle.std.proofs.Common.{◌≡◌, ◌<◌, ◌+◌, ◌-◌, ◌∙◌, sym, arith}
+use Rattle.std.proofs.Common.{◌+◌, ◌-◌, ◌∙◌, sym, arith}
 use Rattle.marc_fields.specs.Rules.{has_digits}
 use Rattle.marc_fields.proofs.DirectoryLaws.{row-here, row-later}
 use Rattle.marc_fields.proofs.directory.first_undigited.Goals as goal

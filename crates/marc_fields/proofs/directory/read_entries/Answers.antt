@@ -1,4 +1,4 @@
-use Rattle.std.proofs.Common.{◌≡◌, ◌<◌, ◌+◌, ◌-◌, ◌∙◌, sym, ap, arith, true, length}
+use Rattle.std.proofs.Common.{◌≡◌, ◌+◌, ◌-◌, ◌∙◌, sym, ap, arith, true, length}
 use Rattle.marc_fields.specs.Rows.{fails}
 use Rattle.marc_fields.specs.Rules.{has_digits, has_tag}
 use Rattle.marc_fields.specs.Spelling.{entry_bytes}

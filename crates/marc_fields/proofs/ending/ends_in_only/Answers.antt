@@ -1,4 +1,4 @@
-use Rattle.std.proofs.Common.{◌≤◌, arith, sym}
+use Rattle.std.proofs.Common.{arith, sym}
 use Rattle.marc_fields.proofs.RowLaws.{ends-at, ends-nowhere}
 use Rattle.marc_fields.proofs.ending.ends_in_only.Goals as goal
 

@@ -1,11 +1,11 @@
-use Rattle.std.proofs.Common.{◌≡◌, ◌∙◌, ◌++◌, ◌∷◌, sym, ap, subst, arith, take, get_or, [], length, true, List}
+use Rattle.std.proofs.Common.{◌≡◌, ◌∙◌, ◌++◌, ◌∷◌, sym, ap, subst, take, get_or, [], true, List}
 use Rattle.std.proofs.lemmas.List.{get_or_default}
 use Rattle.marc_leader.specs.declared.entry.Entry.{Entry}
 use Rattle.union_base.specs.declared.field.Field.{Field}
 use Rattle.marc_fields.specs.Directories.{is_formed}
 use Rattle.marc_fields.specs.Rows.{fails}
 use Rattle.marc_fields.specs.Rules.{is_tile, is_control_shaped, is_data_shaped}
-use Rattle.marc_fields.specs.Shapes.{are_inner, has_shape, IsFieldOf}
+use Rattle.marc_fields.specs.Shapes.{are_inner, has_shape}
 use Rattle.marc_fields.specs.Spelling.{AreEntriesOf}
 use Rattle.marc_fields.specs.declared.rules.Rule.TheVariants.{DataShape}
 use Rattle.marc_fields.proofs.AppendingLaws.{list_all-at, take_one_more}

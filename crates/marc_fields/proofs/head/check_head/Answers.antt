@@ -1,4 +1,4 @@
-use Rattle.std.proofs.Common.{◌≡◌, ◌≤◌, refl, sym, subst, false, true, List, ℕ, length, arith, take}
+use Rattle.std.proofs.Common.{◌≡◌, refl, subst, false, true, List, ℕ, length, arith}
 use Rattle.std.specs.Prelude.{nat_le}
 use Rattle.std.proofs.lemmas.Bool.Decides.{nat_tests}
 use Rattle.marc_fields.specs.Fronts.{IsFront}

@@ -1,4 +1,4 @@
-use Rattle.std.proofs.Common.{◌≡◌, ◌∙◌, sym, ap, subst, true, Option}
+use Rattle.std.proofs.Common.{◌∙◌, sym, subst, Option}
 use Rattle.std.proofs.lemmas.Bool.{and_parts}
 use Rattle.marc_leader.specs.Leader.{base_place}
 use Rattle.marc_leader.specs.Numeral.{are_digits}

@@ -1,4 +1,4 @@
-use Rattle.std.proofs.Common.{◌≡◌, ◌∙◌, sym, refl, length}
+use Rattle.std.proofs.Common.{◌∙◌, sym, refl}
 use Rattle.marc_fields.proofs.TilingLaws.{tiling_failure-tile, tiling_failure-gap, tiling_failure-none, covered-is}
 use Rattle.marc_fields.proofs.tiling.check_marks.Goals as goal
 

@@ -1,4 +1,4 @@
-use Rattle.std.proofs.Common.{◌≡◌, ◌∙◌, sym, arith, take, get_or, [], length}
+use Rattle.std.proofs.Common.{◌≡◌, ◌∙◌, sym, take, get_or, [], length}
 use Rattle.std.proofs.lemmas.List.{get_or_default}
 use Rattle.marc_leader.specs.declared.entry.Entry.{Entry}
 use Rattle.marc_fields.proofs.TilingLaws.{free-is, tiling-here, tiling-later, owners-more}

@@ -1,4 +1,4 @@
-use Rattle.std.proofs.Common.{◌≡◌, ◌+◌, [], take, drop, length}
+use Rattle.std.proofs.Common.{◌≡◌, ◌+◌, [], take, drop}
 use Rattle.marc_fields.specs.Rules.{tiling_from}
 use Rattle.marc_fields.specs.Tilings.{AreOwners}
 use Rattle.marc_fields.proofs.tiling.first_untiled.Given as goal
