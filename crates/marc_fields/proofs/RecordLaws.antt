@@ -14,17 +14,15 @@ use Rattle.union_base.specs.declared.field.Field.{Field}
 use Rattle.marc_fields.specs.declared.marc_record.Record.{Record}
 use Rattle.marc_fields.specs.declared.encoding.EncodeRefusal.TheVariants.{FieldTooLong, RecordTooLong}
 use Rattle.marc_fields.specs.Appending.{too_long}
-use Rattle.marc_fields.specs.Reading.{LieInOrder, IsHead, HasHead, IsBehind}
-use Rattle.marc_fields.specs.Spelling.{stored, entries_from, entry_bytes, leader_bytes, is_short, frame_size, spelling, Spells, IsEntryOf, AreEntriesOf}
-use Rattle.marc_fields.proofs.AppendingLaws.{length-entries_from}
-use Rattle.marc_fields.proofs.ReadingLaws.{entry_of-entry_bytes, fronts_same, rests_same, head-one, behind-one}
-use Rattle.marc_fields.proofs.SpellingLaws.{length-tag, length-leader_bytes, length-entry_bytes, length-directory, length-spelling, spelling-Spells}
+use Rattle.marc_fields.specs.Spelling.{stored, entry_bytes, leader_bytes, is_short, frame_size, spelling, Spells, IsEntryOf, AreEntriesOf}
+use Rattle.marc_fields.proofs.ReadingLaws.{IsHead, entry_of-entry_bytes, fronts_same, rests_same, head-one}
+use Rattle.marc_fields.proofs.SpellingLaws.{length-tag, length-leader_bytes, length-entry_bytes, spelling-Spells}
 
 -- the tag of an entry is its field's
-entry_tag : (bytes : List ℕ) (e : Entry) (f : Field) → IsEntryOf bytes e f → is_tag e.tag ≡ true
+pub entry_tag : (bytes : List ℕ) (e : Entry) (f : Field) → IsEntryOf bytes e f → is_tag e.tag ≡ true
 entry_tag bytes e f is = subst (λ t. is_tag t ≡ true) (sym is.tag) (and_parts (is_tag f.tag) (fits_tag f.tag f.body) f.well_formed).0
 
-entry_size : (bytes : List ℕ) (e : Entry) (f : Field) → IsEntryOf bytes e f → length (entry_bytes e) ≡ 12
+pub entry_size : (bytes : List ℕ) (e : Entry) (f : Field) → IsEntryOf bytes e f → length (entry_bytes e) ≡ 12
 entry_size bytes e f is = length-entry_bytes e (ap length is.tag ∙ length-tag f)
 
 -- the directory of fields that lie in the data
@@ -91,7 +89,7 @@ abbrev pub behind_leader : List Entry → List ℕ → List ℕ
 behind_leader entries bytes = flat_map entry_bytes entries ++ (0x1E ∷ (bytes ++ 0x1D ∷ []))
 
 -- the bytes of a frame that spells a record
-spelled-size : (frame : List ℕ) (r : Record) (s : Spells frame r) → length frame ≡ 26 + 12 * length s.entries + length s.bytes
+pub spelled-size : (frame : List ℕ) (r : Record) (s : Spells frame r) → length frame ≡ 26 + 12 * length s.entries + length s.bytes
 spelled-size frame r s =
     let leader = leader_bytes (length frame) (length s.entries) r.leader in
     let directory = flat_map entry_bytes s.entries in
@@ -144,84 +142,3 @@ spelling-IsSpelled r codes fits =
   where
     small : (n : ℕ) → nat_le n 99999 ≡ true → n ≤ 99999
     small n h = grind (arith, nat_tests)
-
--- what is behind the leader of a record's frame
-abbrev pub order_rest : Record → List ℕ
-order_rest r = behind_leader (entries_from 0 r.fields) (flat_map stored r.fields)
-
--- the frame of a record has its head
-pub ordered-head : (frame : List ℕ) (r : Record) → Spells frame r → frame ≡ spelling r → IsHead frame r.leader (length r.fields) (order_rest r)
-unfolding spelling
-ordered-head frame r s is =
-    let size : length frame ≡ frame_size r = ap length is ∙ length-spelling r in
-    record {
-      short = s.short;
-      base = omega (arith, size, s.short);
-      printable = s.codes;
-      parts = is ∙ (ap (λ n. leader_bytes n (length (entries_from 0 r.fields)) r.leader ++ order_rest r) (sym size)
-          ∙ ap (λ n. leader_bytes (length frame) n r.leader ++ order_rest r) (length-entries_from 0 r.fields));
-    }
-
--- and behind it the directory and the data
-pub ordered-behind : (r : Record) → IsBehind (order_rest r) (12 * length r.fields) (flat_map entry_bytes (entries_from 0 r.fields)) (flat_map stored r.fields)
-ordered-behind r = record { size_is = length-directory 0 r.fields; parts = refl }
-
--- and in them its fields
-pub ordered-fields : (frame : List ℕ) (r : Record) → Spells frame r
-    → LieInOrder (flat_map entry_bytes (entries_from 0 r.fields)) (flat_map stored r.fields) 0 r.fields
-ordered-fields frame r s = record { short = are-short s.bytes s.entries r.fields s.fields; entries = refl; stored = refl }
-
--- where there is no directory behind the head, there is no record in order
-pub ordered-none_behind : (frame : List ℕ) (codes : Codes) (size : ℕ) (rest : List ℕ) (r : Record) → HasHead frame codes size rest
-    → ((directory bytes : List ℕ) → IsBehind rest size directory bytes → ⊥) → Spells frame r → frame ≡ spelling r → ⊥
-ordered-none_behind frame codes size rest r has none s is =
-    let one = head-one frame codes r.leader has.entries (length r.fields) rest (order_rest r) has.head (ordered-head frame r s is) in
-    let At : List ℕ → ℕ → Type 0 = λ t n. IsBehind t n (flat_map entry_bytes (entries_from 0 r.fields)) (flat_map stored r.fields) in
-    let sizes : size ≡ 12 * length r.fields = has.size_is ∙ ap (λ n. 12 * n) one.1 in
-    none _ _ (subst (λ t. At t size) (sym one.2) (subst (λ n. At (order_rest r) n) (sym sizes) (ordered-behind r)))
-
--- where no fields lie in the directory and the data, there is no record in order
-pub ordered-none_fields : (frame : List ℕ) (codes : Codes) (size : ℕ) (rest directory bytes : List ℕ) (r : Record) → HasHead frame codes size rest
-    → IsBehind rest size directory bytes → ((fields : List Field) → LieInOrder directory bytes 0 fields → ⊥) → Spells frame r → frame ≡ spelling r → ⊥
-ordered-none_fields frame codes size rest directory bytes r has behind none s is =
-    let one = head-one frame codes r.leader has.entries (length r.fields) rest (order_rest r) has.head (ordered-head frame r s is) in
-    let At : List ℕ → ℕ → Type 0 = λ t n. IsBehind t n (flat_map entry_bytes (entries_from 0 r.fields)) (flat_map stored r.fields) in
-    let sizes : size ≡ 12 * length r.fields = has.size_is ∙ ap (λ n. 12 * n) one.1 in
-    let other : At rest size = subst (λ t. At t size) (sym one.2) (subst (λ n. At (order_rest r) n) (sym sizes) (ordered-behind r)) in
-    let same = behind-one rest size directory (flat_map entry_bytes (entries_from 0 r.fields)) bytes (flat_map stored r.fields) behind other in
-    let Lie : List ℕ → List ℕ → Type 0 = λ d b. LieInOrder d b 0 r.fields in
-    none r.fields (subst (λ d. Lie d bytes) (sym same.0) (subst (λ b. Lie (flat_map entry_bytes (entries_from 0 r.fields)) b) (sym same.1) (ordered-fields frame r s)))
-
--- the record that was read
-pub ordered-read : (frame : List ℕ) (size : ℕ) (rest directory bytes : List ℕ) (r : Record) → HasHead frame r.leader size rest
-    → IsBehind rest size directory bytes → LieInOrder directory bytes 0 r.fields → frame ≡ spelling r
-unfolding spelling
-ordered-read frame size rest directory bytes r has behind order =
-    let count : length r.fields ≡ has.entries
-    = omega (arith, ap length order.entries, length-directory 0 r.fields, behind.size_is, has.size_is) in
-    let whole : rest ≡ order_rest r = behind.parts ∙ (ap (λ d. d ++ (0x1E ∷ (bytes ++ 0x1D ∷ []))) order.entries
-    ∙ ap (λ b. flat_map entry_bytes (entries_from 0 r.fields) ++ (0x1E ∷ (b ++ 0x1D ∷ []))) order.stored) in
-    let sizes : length frame ≡ frame_size r
-    = omega (
-      arith,
-      ap length has.head.parts,
-      length-append (leader_bytes (length frame) has.entries r.leader) rest,
-      length-leader_bytes (length frame) has.entries r.leader,
-      ap length behind.parts,
-      length-append directory (0x1E ∷ (bytes ++ 0x1D ∷ [])),
-      length-append bytes (0x1D ∷ []),
-      ap length order.stored,
-      ap length order.entries,
-      length-directory 0 r.fields,
-    ) in
-    has.head.parts ∙ (ap (λ n. leader_bytes n has.entries r.leader ++ rest) sizes
-    ∙ (ap (λ n. leader_bytes (frame_size r) n r.leader ++ rest) (sym count ∙ sym (length-entries_from 0 r.fields))
-    ∙ ap (λ t. leader_bytes (frame_size r) (length (entries_from 0 r.fields)) r.leader ++ t) whole))
-
--- and it is spelled so
-pub ordered-Spells : (frame : List ℕ) (size : ℕ) (rest directory bytes : List ℕ) (r : Record) → HasHead frame r.leader size rest
-    → IsBehind rest size directory bytes → LieInOrder directory bytes 0 r.fields → Spells frame r
-ordered-Spells frame size rest directory bytes r has behind order =
-    let is : frame ≡ spelling r = ordered-read frame size rest directory bytes r has behind order in
-    let few : frame_size r ≤ 99999 = omega (arith, ap length is, length-spelling r, has.head.short) in
-    subst (λ t. Spells t r) (sym is) (spelling-Spells r has.head.printable order.short few)

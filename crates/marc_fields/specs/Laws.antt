@@ -2,6 +2,7 @@
 use Rattle.std.specs.Prelude.{◌≡◌, ℕ, IsTrue, List, None}
 use Rattle.marc_leader.specs.Codes.{are_printable}
 use Rattle.marc_fields.specs.Appending.{too_long}
+use Rattle.marc_fields.specs.Rules.{first_failure}
 use Rattle.marc_fields.specs.Spelling.{Spells, spelling}
 use Rattle.marc_fields.specs.declared.marc_record.Record.{Record}
 
@@ -12,3 +13,7 @@ SpellsOne = (frame : List ℕ) (one other : Record) → Spells frame one → Spe
 -- a record within the limits is spelled by the frame that has its fields in the order of the directory
 abbrev pub IsSpelled : Type 0
 IsSpelled = (r : Record) → IsTrue (are_printable r.leader) → too_long r ≡ None → Spells (spelling r) r
+
+-- a frame that spells a record breaks no rule on leader, directory, data and shape of fields
+abbrev pub BreaksNoRule : Type 0
+BreaksNoRule = (frame : List ℕ) (r : Record) → Spells frame r → first_failure frame ≡ None

@@ -1,5 +1,9 @@
 pub mod Shapes
 pub mod Spelling
 pub mod Appending
-pub mod Reading
 pub mod Laws
+pub mod Rows
+pub mod Rules
+pub mod Fronts
+pub mod Directories
+pub mod Tilings

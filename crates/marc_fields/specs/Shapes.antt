@@ -96,3 +96,7 @@ pub record IsFieldOf (tag bytes : List ℕ) (f : Field) : Type 0 where
   pub shaped : has_shape tag bytes ≡ true
   pub tagged : f.tag ≡ tag
   pub spelled : spelled f.body ≡ bytes
+
+-- no byte ends a record
+abbrev pub ends_no_record : List ℕ → Bool
+ends_no_record bytes = list_all (λ b. not (b == record_terminator)) bytes

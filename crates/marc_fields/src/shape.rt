@@ -74,7 +74,7 @@ fn read_subfields(alloc: Global, bytes: &[u8]) -> Result<Option<Vec<Subfield>>, 
 }
 
 /// Whether no byte is a delimiter.
-fn are_undelimited(bytes: &[u8]) -> bool
+pub fn are_undelimited(bytes: &[u8]) -> bool
     ensures { result ≡ has_control_shape bytes.now }
 {
     match memchr(DELIMITER, bytes) {

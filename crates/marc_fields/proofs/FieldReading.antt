@@ -1,0 +1,135 @@
+-- What reading the fields at entries shows.
+use Rattle.std.proofs.Common.{◌≡◌, ℕ, suc, ◌+◌, ◌-◌, ◌<◌, ◌≤◌, Bool, true, false, not, ◌||◌, List, [], ◌∷◌, ◌++◌, length, get_or, take, drop, refl, sym, ◌∙◌, ap, arith, add-one, length-drop, None, Some}
+use Rattle.std.proofs.Math.Seq.{drop-cons}
+use Rattle.std.proofs.lemmas.Bool.{and_parts, and_from}
+use Rattle.std.proofs.lemmas.Bool.Decides.{nat_tests}
+use Rattle.std.proofs.lemmas.List.{length-take, take-take, take-append-drop}
+use Rattle.std.proofs.lemmas.List.Folds.{list_all-append}
+use Rattle.std.specs.List.{list_all}
+use Rattle.std.specs.Prelude.{◌==◌, nat_le, if◌then◌else◌}
+use Rattle.marc_leader.specs.declared.entry.Entry.{Entry}
+use Rattle.union_base.specs.Fields.{is_tag, is_control_tag}
+use Rattle.union_base.specs.declared.field.Field.{Field}
+use Rattle.marc_fields.specs.Directories.{is_formed}
+use Rattle.marc_fields.specs.Rows.{least_where_not, ends_in_only, fails}
+use Rattle.marc_fields.specs.Rules.{is_tile, range_of, text_of, is_control_shaped, is_data_shaped, shape_failure}
+use Rattle.marc_fields.specs.Shapes.{are_inner, is_inner, ends_no_record, has_shape, has_control_shape, has_data_shape, IsFieldOf}
+use Rattle.marc_fields.specs.Spelling.{IsEntryOf, AreEntriesOf}
+use Rattle.marc_fields.specs.declared.rules.Rule.TheVariants.{ControlShape, DataShape}
+use Rattle.marc_fields.proofs.DirectoryLaws.{least-here, least-later, least-none}
+use Rattle.marc_fields.proofs.RowLaws.{ends-parts}
+
+-- the value at a place, and the places behind it
+least_at : {A : Type 0} (passes : A → Bool) (xs : List A) (i : ℕ) (x : A) → i < length xs → x ≡ get_or xs i x
+    → least_where_not passes (i + 1) (drop i xs) ≡ least_where_not passes (i + 1) (x ∷ drop (suc i) xs)
+least_at passes xs i x below is = ap (least_where_not passes (i + 1)) (drop-cons xs i x below ∙ ap (λ y. y ∷ drop (suc i) xs) (sym is))
+
+pub least-drop-here : {A : Type 0} (passes : A → Bool) (xs : List A) (i : ℕ) (x : A) → i < length xs → x ≡ get_or xs i x → passes x ≡ false
+    → least_where_not passes (i + 1) (drop i xs) ≡ Some (i + 1)
+least-drop-here passes xs i x below is bad = least_at passes xs i x below is ∙ least-here passes (i + 1) x (drop (suc i) xs) bad
+
+pub least-drop-later : {A : Type 0} (passes : A → Bool) (xs : List A) (i : ℕ) (x : A) → i < length xs → x ≡ get_or xs i x → passes x ≡ true
+    → least_where_not passes (i + 1) (drop i xs) ≡ least_where_not passes (i + 1 + 1) (drop (i + 1) xs)
+least-drop-later passes xs i x below is good =
+    least_at passes xs i x below is ∙ (least-later passes (i + 1) x (drop (suc i) xs) good
+    ∙ (ap (λ k. least_where_not passes k (drop (suc i) xs)) (sym (add-one (i + 1)))
+    ∙ ap (λ k. least_where_not passes (i + 1 + 1) (drop k xs)) (sym (add-one i))))
+
+pub least-drop-none : {A : Type 0} (passes : A → Bool) (xs : List A) (i : ℕ) (x : A) → i < length xs → x ≡ get_or xs i x
+    → least_where_not passes (i + 1) (drop i xs) ≡ None → passes x ≡ true
+least-drop-none passes xs i x below is none =
+    least-none passes (i + 1) x (drop (suc i) xs) (sym (least_at passes xs i x below is) ∙ none)
+
+-- a field of the data
+pub record IsTile (bytes : List ℕ) (e : Entry) : Type 0 where
+  pub inside : e.start + e.length ≤ length bytes
+  pub some : 1 ≤ e.length
+  pub parts : range_of bytes e ≡ text_of bytes e ++ 0x1E ∷ []
+  pub before : list_all (λ b. not (b == 0x1E)) (text_of bytes e) ≡ true
+
+at_most : (m n : ℕ) → nat_le m n ≡ true → m ≤ n
+at_most m n h = grind (arith, nat_tests)
+
+pub tile-parts : (bytes : List ℕ) (e : Entry) → is_tile bytes e ≡ true → IsTile bytes e
+tile-parts bytes e is =
+    let both = and_parts (nat_le (e.start + e.length) (length bytes)) (ends_in_only 0x1E (range_of bytes e)) is in
+    let inside = at_most (e.start + e.length) (length bytes) both.0 in
+    let range = ends-parts 0x1E (range_of bytes e) both.1 in
+    let size : length (range_of bytes e) ≡ e.length = omega (arith, length-take e.length (drop e.start bytes), length-drop e.start bytes, inside) in
+    let some : 1 ≤ e.length = omega (arith, size, range.some) in
+    let text : take (length (range_of bytes e) - 1) (range_of bytes e) ≡ text_of bytes e
+    = ap (λ n. take (n - 1) (range_of bytes e)) size ∙ take-take (e.length - 1) e.length (drop e.start bytes) (omega arith) in
+    record {
+      inside = inside;
+      some = some;
+      parts = range.parts ∙ ap (λ t. t ++ 0x1E ∷ []) text;
+      before = sym (ap (list_all (λ b. not (b == 0x1E))) text) ∙ range.before;
+    }
+
+-- what all bytes pass, those of a part pass
+all_take : (p : ℕ → Bool) (n : ℕ) (xs : List ℕ) → list_all p xs ≡ true → list_all p (take n xs) ≡ true
+all_take p n xs all =
+    (and_parts (list_all p (take n xs)) (list_all p (drop n xs)) (sym (list_all-append p (take n xs) (drop n xs)) ∙ (ap (list_all p) (take-append-drop n xs) ∙ all))).0
+
+pub all_drop : (p : ℕ → Bool) (n : ℕ) (xs : List ℕ) → list_all p xs ≡ true → list_all p (drop n xs) ≡ true
+all_drop p n xs all =
+    (and_parts (list_all p (take n xs)) (list_all p (drop n xs)) (sym (list_all-append p (take n xs) (drop n xs)) ∙ (ap (list_all p) (take-append-drop n xs) ∙ all))).1
+
+inner_from : (t : List ℕ) → list_all (λ b. not (b == 0x1D)) t ≡ true → list_all (λ b. not (b == 0x1E)) t ≡ true → are_inner t ≡ true
+inner_from [] d e = refl
+inner_from (b ∷ t) d e =
+    let r = and_parts (not (b == 0x1D)) (list_all (λ b. not (b == 0x1D)) t) d in
+    let f = and_parts (not (b == 0x1E)) (list_all (λ b. not (b == 0x1E)) t) e in
+    and_from (is_inner b) (are_inner t) (and_from (not (b == 0x1D)) (not (b == 0x1E)) r.0 f.0) (inner_from t r.1 f.1)
+
+-- the text of a field of the data has no terminator
+pub tile-inner : (bytes : List ℕ) (e : Entry) → is_tile bytes e ≡ true → ends_no_record bytes ≡ true → are_inner (text_of bytes e) ≡ true
+tile-inner bytes e is none =
+    inner_from (text_of bytes e) (all_take (λ b. not (b == 0x1D)) (e.length - 1) (drop e.start bytes) (all_drop (λ b. not (b == 0x1D)) e.start bytes none))
+    (tile-parts bytes e is).before
+
+-- which of the two shapes is wrong
+shape_wrong : (control c d : Bool) → (if control then c else d) ≡ false → (not control || c) ≡ true → (control || d) ≡ false
+shape_wrong true c d wrong fit = cc
+shape_wrong false c d wrong fit = wrong
+
+shape_right : (control c d : Bool) → (if control then c else d) ≡ true → (control || d) ≡ true
+shape_right true c d right = refl
+shape_right false c d right = right
+
+pub data-wrong : (bytes : List ℕ) (e : Entry) → has_shape e.tag (text_of bytes e) ≡ false → is_control_shaped bytes e ≡ true → is_data_shaped bytes e ≡ false
+data-wrong bytes e wrong fit = shape_wrong (is_control_tag e.tag) (has_control_shape (text_of bytes e)) (has_data_shape (text_of bytes e)) wrong fit
+
+pub data-right : (bytes : List ℕ) (e : Entry) → has_shape e.tag (text_of bytes e) ≡ true → is_data_shaped bytes e ≡ true
+data-right bytes e right = shape_right (is_control_tag e.tag) (has_control_shape (text_of bytes e)) (has_data_shape (text_of bytes e)) right
+
+-- a field that was read lies at its entry
+pub field-IsEntryOf : (bytes text : List ℕ) (e : Entry) (f : Field) → is_tile bytes e ≡ true → is_formed e ≡ true → text ≡ text_of bytes e
+    → IsFieldOf e.tag text f → IsEntryOf bytes e f
+field-IsEntryOf bytes text e f is formed same of =
+    let tile = tile-parts bytes e is in
+    record {
+      tag = sym of.tagged;
+      short = at_most e.length 9999 (and_parts (is_tag e.tag) (nat_le e.length 9999) formed).1;
+      inside = tile.inside;
+      there = tile.parts ∙ ap (λ t. t ++ 0x1E ∷ []) (sym same ∙ sym of.spelled);
+    }
+
+-- one more field at its entry
+pub AreEntriesOf-push : (bytes : List ℕ) (entries : List Entry) (fields : List Field) (e : Entry) (f : Field) → AreEntriesOf bytes entries fields
+    → IsEntryOf bytes e f → AreEntriesOf bytes (entries ++ e ∷ []) (fields ++ f ∷ [])
+AreEntriesOf-push bytes [] [] e f are is = (is, tt)
+AreEntriesOf-push bytes [] (g ∷ fields) e f are is = absurd are
+AreEntriesOf-push bytes (d ∷ entries) [] e f are is = absurd are
+AreEntriesOf-push bytes (d ∷ entries) (g ∷ fields) e f are is = (are.0, AreEntriesOf-push bytes entries fields e f are.1 is)
+
+-- the rules on shapes, one after the other
+pub shape_failure-control : (bytes : List ℕ) (entries : List Entry) (place : ℕ) → least_where_not (is_control_shaped bytes) 1 entries ≡ Some place
+    → shape_failure bytes entries ≡ Some (record { rule = ControlShape; place = place })
+unfolding shape_failure
+shape_failure-control bytes entries place is = rw is refl
+
+pub shape_failure-data : (bytes : List ℕ) (entries : List Entry) → least_where_not (is_control_shaped bytes) 1 entries ≡ None
+    → shape_failure bytes entries ≡ fails DataShape (least_where_not (is_data_shaped bytes) 1 entries)
+unfolding shape_failure
+shape_failure-data bytes entries none = rw none refl

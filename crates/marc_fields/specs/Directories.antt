@@ -1,0 +1,25 @@
+-- What is known of a directory whose entries were read.
+use Rattle.std.specs.Prelude.{◌≡◌, ℕ, Bool, true, ◌&&◌, nat_le, List, map, None}
+use Rattle.std.specs.List.{list_all, flat_map}
+use Rattle.marc_leader.specs.declared.entry.Entry.{Entry}
+use Rattle.union_base.specs.Fields.{is_tag}
+use Rattle.union_base.specs.declared.field.Field.{Field}
+use Rattle.marc_fields.specs.Rules.{entry_in, entry_texts, tiling_failure}
+use Rattle.marc_fields.specs.Spelling.{entry_bytes, longest_field, AreEntriesOf}
+
+-- the entry has a tag, and a length of four digits
+abbrev pub is_formed : Entry → Bool
+is_formed e = is_tag e.tag && nat_le e.length longest_field
+
+-- the directory spells the entries, which stand in its texts
+pub record AreRead (directory : List ℕ) (count : ℕ) (entries : List Entry) : Type 0 where
+  pub spelled : directory ≡ flat_map entry_bytes entries
+  pub are : entries ≡ map entry_in (entry_texts count directory)
+  pub formed : list_all is_formed entries ≡ true
+
+-- the directory spells entries at which the fields lie, and the entries' ranges partition the data
+pub record AreDecoded (directory bytes : List ℕ) (count : ℕ) (fields : List Field) : Type 0 where
+  pub entries : List Entry
+  pub read : AreRead directory count entries
+  pub tiled : tiling_failure bytes entries ≡ None
+  pub lie : AreEntriesOf bytes entries fields

@@ -1,0 +1,97 @@
+//! The fields of a frame whose entries partition the data, looked at rule by rule.
+ghost use Rattle.std.specs.Prelude.{◌≡◌, ◌≤◌, ℕ, true, List, IsTrue, length, None};
+ghost use Rattle.std.specs.List.{list_all};
+ghost use Rattle.marc_leader.specs.declared.entry.Entry.{Entry};
+ghost use Rattle.marc_fields.specs.Directories.{is_formed};
+ghost use Rattle.marc_fields.specs.Rows.{Answers, fails, least_where_not};
+ghost use Rattle.marc_fields.specs.Rules.{is_tile, text_of, is_control_shaped, is_data_shaped, shape_failure};
+ghost use Rattle.marc_fields.specs.Shapes.{ends_no_record};
+ghost use Rattle.marc_fields.specs.Spelling.{AreEntriesOf};
+ghost use Rattle.marc_fields.specs.declared.rules.Rule.TheVariants.{DataShape};
+
+use crate::decoding::DecodeRefusal;
+use crate::rules::Rule;
+use crate::shape::{are_undelimited, read_field};
+use marc_leader::entry::Entry;
+use std::alloc::Global;
+use union_base::body::is_control_tag;
+use union_base::field::Field;
+
+/// The bytes of the entry's field, without the terminator.
+fn text_in<'a>(entry: &Entry, bytes: &'a [u8]) -> &'a [u8]
+    requires { is_tile bytes.now entry.now ≡ true }
+    ensures { result.now ≡ text_of bytes.now entry.now }
+{
+    let (_, behind) = bytes.split_at(entry.start as usize);
+    let (text, _) = behind.split_at(entry.length as usize - 1);
+    text
+}
+
+/// Whether the entry's field is no control field, or has no delimiter.
+fn is_control_fit(entry: &Entry, bytes: &[u8]) -> bool
+    requires { is_tile bytes.now entry.now ≡ true }
+    ensures { result ≡ is_control_shaped bytes.now entry.now }
+{
+    !is_control_tag(&entry.tag) || are_undelimited(text_in(entry, bytes))
+}
+
+/// The number of the first entry of a control field that has a delimiter.
+fn first_delimited(entries: &[Entry], bytes: &[u8]) -> Option<u32>
+    requires few { length entries.now ≤ 9999 }
+    requires tiles { list_all (is_tile bytes.now) entries.now ≡ true }
+    ensures { result ≡ least_where_not (is_control_shaped bytes.now) 1 entries.now }
+{
+    for (i, entry) in entries.iter().enumerate() {
+        if !is_control_fit(entry, bytes) {
+            return Some(i as u32 + 1);
+        }
+    }
+    None
+}
+
+/// The fields, where no control field has a delimiter; refused at the first data field that has not the shape of one.
+fn read_fields(alloc: Global, entries: &[Entry], bytes: &[u8]) -> Result<Vec<Field>, DecodeRefusal>
+    requires few { length entries.now ≤ 9999 }
+    requires tiles { list_all (is_tile bytes.now) entries.now ≡ true }
+    requires formed { list_all is_formed entries.now ≡ true }
+    requires inner { ends_no_record bytes.now ≡ true }
+    requires undelimited { least_where_not (is_control_shaped bytes.now) 1 entries.now ≡ None }
+    ensures { Answers result (fails DataShape (least_where_not (is_data_shaped bytes.now) 1 entries.now))
+        (λ fields. AreEntriesOf bytes.now entries.now fields.items) }
+{
+    let mut fields = Vec::with_capacity(alloc, entries.len())?;
+    for (i, entry) in entries.iter().enumerate() {
+        let text = text_in(entry, bytes);
+        match read_field(alloc, entry.tag, text)? {
+            Some(field) => fields.push(field)?,
+            None => {
+                return Err(DecodeRefusal::Rule {
+                    rule: Rule::DataShape,
+                    place: i as u32 + 1,
+                });
+            }
+        }
+    }
+    Ok(fields)
+}
+
+/// The fields that lie at the entries (MARC 21, 'Variable fields'), or the first rule on their shape that fails.
+pub fn check_fields(
+    alloc: Global,
+    entries: &[Entry],
+    bytes: &[u8],
+) -> Result<Vec<Field>, DecodeRefusal>
+    requires few { length entries.now ≤ 9999 }
+    requires tiles { list_all (is_tile bytes.now) entries.now ≡ true }
+    requires formed { list_all is_formed entries.now ≡ true }
+    requires inner { ends_no_record bytes.now ≡ true }
+    ensures { Answers result (shape_failure bytes.now entries.now) (λ fields. AreEntriesOf bytes.now entries.now fields.items) }
+{
+    match first_delimited(entries, bytes) {
+        Some(place) => Err(DecodeRefusal::Rule {
+            rule: Rule::ControlShape,
+            place,
+        }),
+        None => read_fields(alloc, entries, bytes),
+    }
+}

@@ -1,0 +1,104 @@
+//! The rule that the entries' ranges partition the data, each a field with its terminator. Each byte of the data is
+//! marked as it finds its entry, and the first entry that meets a mark is refused, so the work is linear in the data.
+ghost use Rattle.std.specs.Prelude.{⊤, ◌≡◌, ◌+◌, ◌≤◌, ℕ, ◌||◌, ◌&&◌, [], not, false, nat_le, nat_lt, List, length, take, drop, Some, None, slice_index_or};
+ghost use Rattle.std.specs.List.{list_any, list_all};
+ghost use Rattle.marc_fields.specs.Rows.{Answers};
+ghost use Rattle.marc_fields.specs.Rules.{is_tile, is_owned, tiling_from, tiling_failure, covering};
+ghost use Rattle.marc_fields.specs.Tilings.{AreOwners, is_marked};
+
+use crate::decoding::DecodeRefusal;
+use crate::ending::ends_in_only;
+use crate::rules::Rule;
+use marc_leader::entry::Entry;
+use std::alloc::Global;
+use union_base::body::FIELD_TERMINATOR;
+
+/// Whether a byte has its entry.
+fn has_mark(marks: &[bool]) -> bool
+    ensures { result ≡ list_any is_marked marks.now }
+{
+    marks.iter().any(|mark| *mark)
+}
+
+/// Whether each byte has its entry.
+fn are_marked(marks: &[bool]) -> bool
+    ensures { result ≡ list_all is_marked marks.now }
+{
+    marks.iter().all(|mark| *mark)
+}
+
+/// Whether the entry's range is a field of the data, and none of its bytes has an entry.
+fn is_free_tile(entry: &Entry, marks: &[bool], bytes: &[u8]) -> bool
+    requires { length marks.now ≡ length bytes.now }
+    ensures { result ≡ (is_tile bytes.now entry.now && not (list_any is_marked (take entry.now.length (drop entry.now.start marks.now)))) }
+{
+    let start = entry.start as usize;
+    let size = entry.length as usize;
+    if start + size > bytes.len() {
+        return false;
+    }
+    let (_, behind) = bytes.split_at(start);
+    let (range, _) = behind.split_at(size);
+    let (_, later) = marks.split_at(start);
+    let (owned, _) = later.split_at(size);
+    ends_in_only(FIELD_TERMINATOR, range) && !has_mark(owned)
+}
+
+/// Marks so many bytes from that one on.
+fn mark(marks: &mut [bool], start: usize, size: usize)
+    requires { start + size ≤ length marks.old }
+    ensures { (k : ℕ) → slice_index_or marks.new k false ≡ (slice_index_or marks.old k false || (nat_le start k && nat_lt k (start + size))) }
+{
+    for at in start..start + size {
+        marks[at] = true;
+    }
+}
+
+/// The number of the first entry whose range is no field of the data, or shares a byte with an earlier one.
+fn first_untiled(marks: &mut [bool], entries: &[Entry], bytes: &[u8]) -> Option<u32>
+    requires size { length marks.old ≡ length bytes.now }
+    requires few { length entries.now ≤ 9999 }
+    requires unmarked { AreOwners [] marks.old }
+    ensures row { result ≡ tiling_from bytes.now [] 1 entries.now }
+    ensures marked { result ≡ None → AreOwners entries.now marks.new }
+{
+    for (i, entry) in entries.iter().enumerate() {
+        if !is_free_tile(entry, marks, bytes) {
+            return Some(i as u32 + 1);
+        }
+        mark(marks, entry.start as usize, entry.length as usize);
+    }
+    None
+}
+
+/// Refuses entries whose ranges do not partition the data, which have no marks yet.
+fn check_marks(marks: &mut [bool], entries: &[Entry], bytes: &[u8]) -> Result<(), DecodeRefusal>
+    requires size { length marks.old ≡ length bytes.now }
+    requires few { length entries.now ≤ 9999 }
+    requires unmarked { AreOwners [] marks.old }
+    ensures { Answers result (tiling_failure bytes.now entries.now) (λ _. ⊤) }
+{
+    if let Some(place) = first_untiled(marks, entries, bytes) {
+        return Err(DecodeRefusal::Rule {
+            rule: Rule::Tiling,
+            place,
+        });
+    }
+    if !are_marked(marks) {
+        return Err(DecodeRefusal::Rule {
+            rule: Rule::Tiling,
+            place: entries.len() as u32 + 1,
+        });
+    }
+    Ok(())
+}
+
+/// Refuses entries whose ranges do not partition the data into fields, each with its terminator (ISO 2709, 'Directory').
+/// Takes a byte of memory for each byte of the data.
+pub fn check_tiling(alloc: Global, entries: &[Entry], bytes: &[u8]) -> Result<(), DecodeRefusal>
+    requires { length entries.now ≤ 9999 }
+    ensures { Answers result (tiling_failure bytes.now entries.now) (λ _. ⊤) }
+{
+    let mut marks = vec![in alloc; false; bytes.len()]?;
+    check_marks(&mut marks, entries, bytes)
+}
