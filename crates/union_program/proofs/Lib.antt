@@ -4,3 +4,4 @@ pub mod CutLaws
 pub mod ReadingLaws
 pub mod NoteLaws
 pub mod RunLaws
+pub mod FrameLaws
