@@ -1,12 +1,11 @@
 -- The cuts of a stream that is fed whole.
-use Rattle.std.proofs.Common.{◌≡◌, ℕ, Bool, true, false, List, [], ◌∷◌, ◌++◌, length, drop, append-nil, refl, sym, ap, subst, ◌∙◌, arith}
-use Rattle.std.specs.Prelude.{Option, Some, None, is_some}
+use Rattle.std.proofs.Common.{◌≡◌, ℕ, false, List, [], ◌∷◌, ◌++◌, length, drop, append-nil, sym, ap, subst, ◌∙◌, arith}
+use Rattle.std.specs.Prelude.{Option}
 use Rattle.std.specs.List.{list_any}
 use Rattle.std.proofs.lemmas.List.{drop_all}
 use Rattle.iso2709_frame.specs.Frames.{frames, first_piece, is_terminator}
 use Rattle.iso2709_frame.specs.Cutting.{told}
 use Rattle.iso2709_frame.specs.declared.cut.Cut.{Cut}
-use Rattle.iso2709_frame.specs.declared.cut.Cut.TheVariants.{Whole}
 use Rattle.marc_fields.specs.Spelling.{spelling, Spells}
 use Rattle.marc_fields.proofs.RecordLaws.{Spells-one}
 use Rattle.marc_fields.specs.declared.marc_record.Record.{Record}

@@ -1,18 +1,16 @@
 -- What the catalogue's own fields are.
-use Rattle.std.proofs.Common.{◌≡◌, ℕ, Bool, true, false, ◌&&◌, IsTrue, List, [], ◌∷◌, ◌++◌, refl, sym, ap, ◌∙◌}
+use Rattle.std.proofs.Common.{◌≡◌, ℕ, Bool, true, false, List, [], ◌∷◌, refl, sym, ◌∙◌}
 use Rattle.std.proofs.Math.Bool.{Bool-set}
 use Rattle.std.proofs.Common.{arith}
 use Rattle.std.proofs.lemmas.Bool.Decides.{nat_tests}
 use Rattle.union_base.specs.Fields.{is_field}
 use Rattle.union_base.specs.declared.body.Body.{Body}
 use Rattle.union_base.specs.declared.field.Field.{Field}
-use Rattle.std.specs.Prelude.{codes}
 use Rattle.std.specs.List.{list_all}
 use Rattle.std.proofs.lemmas.List.Folds.{list_all-append}
 use Rattle.union_base.specs.Both.{both_true, true_both}
 use Rattle.union_base.specs.Fields.{is_text_byte, is_text}
 use Rattle.union_base.specs.LibraryCodes.{may_stand, is_library_code}
-use Rattle.union_base.specs.declared.body.Body.TheVariants.{Control}
 use Rattle.union_program.specs.Exported.{field_of, joined_id}
 
 field_of-cases : (tag : List ℕ) (body : Body) (b : Bool) (found : is_field tag body ≡ b) (fits : is_field tag body ≡ true)

@@ -1,16 +1,14 @@
 -- The export of a plain record is no longer than a frame may be.
-use Rattle.std.proofs.Common.{◌≡◌, ℕ, ◌+◌, ◌*◌, ◌≤◌, Bool, true, false, ◌&&◌, cond, nat_le, List, [], ◌∷◌, ◌++◌, length, refl, sym, ap, ◌∙◌, arith, length-append}
+use Rattle.std.proofs.Common.{◌≡◌, ℕ, ◌+◌, ◌*◌, ◌≤◌, Bool, true, false, ◌&&◌, cond, nat_le, List, [], ◌∷◌, ◌++◌, length, refl, ap, ◌∙◌, arith, length-append}
 use Rattle.std.proofs.lemmas.Bool.{le-leb, leb-true}
-use Rattle.std.proofs.lemmas.Bool.Decides.{nat_tests}
-use Rattle.std.specs.declared.cmp.Ordering.{Ordering}
 use Rattle.std.specs.declared.cmp.Ordering.TheVariants.{Less, Equal, Greater}
 use Rattle.std.specs.Ordering.{match_ordering}
-use Rattle.std.specs.Prelude.{codes, ◌-◌, ◌==◌, not, slice_index, filter, Some, None, if◌then◌else◌}
+use Rattle.std.specs.Prelude.{codes, ◌-◌, ◌==◌, not, slice_index, filter, Some, None}
 use Rattle.std.specs.List.{list_all, flat_map}
 use Rattle.union_base.specs.Both.{both_true, true_both}
 use Rattle.union_base.specs.Fields.{is_field, spelled}
 use Rattle.union_base.specs.FieldOrder.{field_cmp}
-use Rattle.union_base.specs.SortedLists.{put, union, set_of}
+use Rattle.union_base.specs.SortedLists.{put, union}
 use Rattle.union_base.specs.LibraryCodes.{is_library_code, longest-is_library_code}
 use Rattle.union_base.specs.declared.body.Body.{Body}
 use Rattle.union_base.specs.declared.body.Body.TheVariants.{Control}
@@ -22,6 +20,7 @@ use Rattle.marc_fields.specs.declared.encoding.EncodeRefusal.TheVariants.{FieldT
 use Rattle.marc_fields.specs.Appending.{too_long}
 use Rattle.union_program.specs.Plain.{text_under, is_plain_record, are_plain_codes, are_plain_fields, is_printing, is_printing_field, is_control_number}
 use Rattle.marc_fields.specs.declared.marc_record.Record.{Record}
+use Rattle.union_program.proofs.FrameLaws.{chosen}
 use Rattle.union_program.specs.Exported.{field_of, own_fields, is_kept, contributor, joined_id, exported}
 
 longest_number : (text : List ℕ) → is_control_number text ≡ true → length text ≤ 64
@@ -108,14 +107,9 @@ unfolding total
 are_short [] h = refl
 are_short (f ∷ fs) h = true_both (is_short f) (list_all is_short fs) (le-leb (length (stored f)) 9999 (omega arith)) (are_short fs (omega arith))
 
-nothing_wrong : {X : Type 0} (a b : Bool) (x y z : X) → a ≡ true → b ≡ true → (if a then (if b then x else y) else z) ≡ x
-nothing_wrong true true x y z p q = refl
-nothing_wrong true false x y z p q = cc
-nothing_wrong false b x y z p q = cc
-
 not_too_long : (r : Record) → total r.fields ≤ 9300 → too_long r ≡ None
 not_too_long r h =
-    nothing_wrong (list_all is_short r.fields) (nat_le (frame_size r) longest_frame) None (Some RecordTooLong) (Some FieldTooLong)
+    chosen (list_all is_short r.fields) (nat_le (frame_size r) longest_frame) None (Some RecordTooLong) (Some FieldTooLong)
     (are_short r.fields (omega arith)) (le-leb (frame_size r) 99999 (omega (arith, frame_size-total r.fields)))
 
 -- the export of a plain record can be written

@@ -1,6 +1,6 @@
 -- Whole frames, and the records that they spell.
-use Rattle.std.proofs.Common.{◌≡◌, ℕ, ◌≤◌, Bool, true, false, not, ◌&&◌, ◌||◌, List, [], ◌∷◌, ◌++◌, length, nat_le, refl, sym, ap, ◌∙◌, arith, subst}
-use Rattle.std.specs.Prelude.{IsTrue, Option, Some, None, ◌==◌, if◌then◌else◌}
+use Rattle.std.proofs.Common.{◌≡◌, ℕ, Bool, true, false, not, ◌&&◌, ◌||◌, List, [], ◌∷◌, ◌++◌, length, nat_le, refl, sym, ap, ◌∙◌, arith}
+use Rattle.std.specs.Prelude.{IsTrue, Some, None, if◌then◌else◌}
 use Rattle.std.specs.List.{list_any, list_all}
 use Rattle.std.proofs.lemmas.Bool.{le-leb}
 use Rattle.iso2709_frame.specs.Frames.{IsWhole, is_terminator}
@@ -35,7 +35,8 @@ IsFrame-whole frame whole = record {
   ends = ap (ends_in_only 0x1D) whole.ended ∙ ends-open whole.front whole.open_front;
 }
 
-chosen : {X : Type 0} (a b : Bool) (x y z : X) → a ≡ true → b ≡ true → (if a then (if b then x else y) else z) ≡ x
+-- the first of two tests in a row, where both hold
+pub chosen : {X : Type 0} (a b : Bool) (x y z : X) → a ≡ true → b ≡ true → (if a then (if b then x else y) else z) ≡ x
 chosen true true x y z p q = refl
 chosen true false x y z p q = cc
 chosen false b x y z p q = cc

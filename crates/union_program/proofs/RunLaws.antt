@@ -1,5 +1,5 @@
 -- Inputs that are told, and the job that the words name.
-use Rattle.std.proofs.Common.{◌≡◌, ℕ, List, sym, subst}
+use Rattle.std.proofs.Common.{◌≡◌, ℕ, List, subst}
 use Rattle.std.specs.Prelude.{Option, Some, None, IfSome}
 use Rattle.union_program.specs.Exported.{IsExport}
 

@@ -1,4 +1,4 @@
-use Rattle.std.proofs.Common.{◌≡◌, refl, sym, ◌∙◌, arith}
+use Rattle.std.proofs.Common.{refl, ◌∙◌, arith}
 use Rattle.union_program.proofs.ReadingLaws.{same_error, Consumes-nothing, piece_read, whole_read, more_than}
 use Rattle.union_program.proofs.reading.read_pieces.Goals as goal
 

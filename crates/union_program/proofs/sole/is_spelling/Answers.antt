@@ -1,4 +1,3 @@
-use Rattle.std.proofs.Common.{◌≡◌, sym, ◌∙◌}
 use Rattle.union_program.proofs.FrameLaws.{not_spelled}
 use Rattle.union_program.proofs.sole.is_spelling.Goals as goal
 

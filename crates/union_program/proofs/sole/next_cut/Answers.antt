@@ -1,5 +1,5 @@
-use Rattle.std.proofs.Common.{◌≡◌, false, List, ◌++◌, sym, ap, ◌∙◌}
-use Rattle.std.specs.Prelude.{is_some, None}
+use Rattle.std.proofs.Common.{◌≡◌, false, sym, ap, ◌∙◌}
+use Rattle.std.specs.Prelude.{is_some}
 use Rattle.std.specs.List.{list_any}
 use Rattle.iso2709_frame.specs.Frames.{is_terminator}
 use Rattle.union_program.proofs.CutLaws.{fed, finished, nothing_left}
