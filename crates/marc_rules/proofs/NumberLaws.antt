@@ -1,5 +1,5 @@
 -- What counting fields shows.
-use Rattle.std.proofs.Common.{◌≡◌, ◌≢◌, ℕ, zero, suc, ◌+◌, ◌<◌, Bool, true, false, not, ◌&&◌, ◌||◌, List, [], ◌∷◌, ◌++◌, length, get_or, take, drop, refl, sym, ◌∙◌, ap, arith, add-one, inl, inr, get_or-set_same, get_or-set_other, Option, None, Some}
+use Rattle.std.proofs.Common.{◌≡◌, ℕ, zero, suc, ◌+◌, ◌<◌, Bool, true, false, not, ◌&&◌, ◌||◌, List, [], ◌∷◌, ◌++◌, length, get_or, take, drop, refl, sym, ◌∙◌, ap, arith, add-one, inl, inr, get_or-set_same, get_or-set_other, None, Some}
 use Rattle.std.proofs.Math.ListN.{set}
 use Rattle.std.proofs.Math.Seq.{drop-cons}
 use Rattle.std.proofs.lemmas.Bool.{cases_eq}
@@ -9,7 +9,6 @@ use Rattle.std.specs.Prelude.{◌==◌}
 use Rattle.marc_leader.specs.declared.entry.Entry.{Entry}
 use Rattle.marc_fields.proofs.AppendingLaws.{take_one_more}
 use Rattle.marc_fields.specs.Rows.{unless, fails, or_then}
-use Rattle.marc_fields.specs.declared.rules.Failure.{Failure}
 use Rattle.marc_fields.specs.declared.rules.Rule.TheVariants.{ControlNumber, Status}
 use Rattle.marc_rules.specs.Contents.{is_status, coding_failure, content_failure}
 use Rattle.marc_rules.specs.Numbers.{class_of, has_class, repeated_from, control_number_place, load_failure, number_failure}

@@ -9,7 +9,7 @@
 -- 11 Status        12 Coding        13 NotUtf8                      content_failure
 -- 14 ControlShape  15 DataShape                                     shape_failure
 -- 16 ControlNumber 17 Repeated      18 Fixed008      19 Title245    number_failure
-use Rattle.std.specs.Prelude.{ℕ, List, map, slice_index, Option, None, Some}
+use Rattle.std.specs.Prelude.{ℕ, List, map, slice_index, Option, Some}
 use Rattle.iso2709_frame.specs.declared.cut.Cut.{Cut}
 use Rattle.iso2709_frame.specs.declared.cut.Cut.TheVariants.{Whole, TooLong, Truncated}
 use Rattle.marc_leader.specs.declared.entry.Entry.{Entry}

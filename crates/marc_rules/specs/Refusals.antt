@@ -1,5 +1,5 @@
 -- What an answer on a frame says.
-use Rattle.std.specs.Prelude.{◌≡◌, ℕ, Option, None, Some, Result, MatchResult}
+use Rattle.std.specs.Prelude.{◌≡◌, Option, None, Some, Result, MatchResult}
 use Rattle.marc_fields.specs.declared.rules.Failure.{Failure}
 use Rattle.marc_rules.specs.declared.check.Refusal.{Refusal}
 use Rattle.marc_rules.specs.declared.check.Refusal.TheVariants.{Rule as RuleRefusal, Memory}

@@ -1,5 +1,5 @@
 -- Texts without the blanks at their ends.
-use Rattle.std.specs.Prelude.{ℕ, Bool, ◌==◌, List, [], ◌∷◌, if◌then◌else◌}
+use Rattle.std.specs.Prelude.{ℕ, ◌==◌, List, [], ◌∷◌, if◌then◌else◌}
 
 abbrev pub blank : ℕ
 blank = 0x20

@@ -1,5 +1,5 @@
 //! The first rule that a frame breaks, or its record.
-ghost use Rattle.std.specs.Prelude.{⊤, ◌≡◌, ◌*◌, ◌≤◌, true, length, None};
+ghost use Rattle.std.specs.Prelude.{⊤, ◌≡◌, ◌*◌, ◌≤◌, true, length, None, IfOk};
 ghost use Rattle.std.specs.List.{list_all};
 ghost use Rattle.iso2709_frame.specs.Frames.{IsWhole};
 ghost use Rattle.marc_fields.specs.Directories.{is_formed, AreDecoded};
@@ -8,6 +8,7 @@ ghost use Rattle.marc_fields.specs.Rows.{Answers, or_then};
 ghost use Rattle.marc_fields.specs.Rules.{IsFrame, is_tile, entry_texts, texts_of, data_in, leader_of_frame, tiling_failure, shape_failure};
 ghost use Rattle.marc_fields.specs.Shapes.{ends_no_record};
 ghost use Rattle.marc_fields.specs.Spelling.{AreEntriesOf, Spells};
+ghost use Rattle.marc_rules.specs.Accepted.{IsAccepted};
 ghost use Rattle.marc_rules.specs.Contents.{content_failure};
 ghost use Rattle.marc_rules.specs.NineteenRules.{status_of, coding_of, fields_failure, record_failure, whole_failure, first_rule};
 ghost use Rattle.marc_rules.specs.Numbers.{number_failure};
@@ -171,7 +172,8 @@ fn check_whole(alloc: Global, frame: &[u8]) -> Result<Record, DecodeRefusal>
 /// looked at.
 pub fn check_frame(alloc: Global, cut: Cut, bytes: &[u8]) -> Result<Record, Refusal>
     requires { cut ≡ Cut.Whole → IsWhole bytes.now }
-    ensures { AnswersFrame result (first_rule cut bytes.now) (λ found. Spells bytes.now found) }
+    ensures first { AnswersFrame result (first_rule cut bytes.now) (λ found. Spells bytes.now found) }
+    ensures accepted { IfOk result (λ found. IsAccepted found) }
 {
     match cut {
         Cut::Truncated => Err(Refusal::Rule {

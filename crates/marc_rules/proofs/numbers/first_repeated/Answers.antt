@@ -1,4 +1,4 @@
-use Rattle.std.proofs.Common.{◌≡◌, ◌<◌, ◌∙◌, false, true, length-set, sym, ap, arith, take, get_or, [], length}
+use Rattle.std.proofs.Common.{◌≡◌, ◌<◌, ◌∙◌, false, true, length-set, sym, ap, arith, take, get_or, length}
 use Rattle.std.proofs.lemmas.List.{get_or_default}
 use Rattle.marc_leader.specs.declared.entry.Entry.{Entry}
 use Rattle.marc_rules.specs.Numbers.{class_of, has_class, no_entry}

@@ -1,4 +1,4 @@
-use Rattle.std.proofs.Common.{◌≡◌, ◌+◌, ◌≤◌, ◌++◌, drop, length}
+use Rattle.std.proofs.Common.{◌≡◌, ◌+◌, ◌≤◌, ◌++◌, drop}
 use Rattle.marc_rules.specs.Numbers.{places}
 use Rattle.marc_rules.proofs.NumberLaws.{found_one}
 use Rattle.marc_rules.proofs.numbers.only_entry.Given as goal
