@@ -1,0 +1,58 @@
+-- What checking a frame shows.
+use Rattle.std.proofs.Common.{◌≡◌, ℕ, ◌-◌, ◌/◌, Bool, true, false, not, ◌||◌, List, [], ◌∷◌, length, take, drop, refl, sym, ◌∙◌, ap, subst}
+use Rattle.std.proofs.lemmas.Bool.{and_from, and_parts}
+use Rattle.std.specs.List.{list_all, list_any}
+use Rattle.std.specs.Prelude.{◌==◌}
+use Rattle.iso2709_frame.specs.Frames.{IsWhole, is_terminator}
+use Rattle.marc_fields.specs.Rows.{ends_in_only}
+use Rattle.marc_fields.specs.Rules.{IsFrame, base_of, entry_texts, texts_of, data_in}
+use Rattle.marc_fields.proofs.RowLaws.{ends-from, ends-parts}
+use Rattle.marc_rules.specs.NineteenRules.{record_failure}
+
+-- bytes none of which ends a record
+open_bytes : (t : List ℕ) → list_any is_terminator t ≡ false → list_all (λ b. not (b == 0x1D)) t ≡ true
+open_bytes [] none = refl
+open_bytes (b ∷ t) none =
+    let both = or_parts (b == 0x1D) (list_any is_terminator t) none in
+    and_from _ _ (ap not both.0) (open_bytes t both.1)
+  where
+    or_parts : (a b : Bool) → (a || b) ≡ false → (a ≡ false) × (b ≡ false)
+    or_parts true b h = cc
+    or_parts false b h = (refl, h)
+
+-- a frame that was cut whole is one that may be decoded
+pub whole-IsFrame : (frame : List ℕ) → IsWhole frame → IsFrame frame
+whole-IsFrame frame whole = record {
+  size = whole.size;
+  ends = subst (λ t. ends_in_only 0x1D t ≡ true) (sym whole.ended) (ends-from 0x1D whole.front (open_bytes whole.front whole.open_front));
+}
+
+-- the parts that were split off are those that the rules speak of
+pub record-same : (status coding : ℕ) (frame directory bytes : List ℕ) (base : ℕ) → base ≡ base_of frame → directory ≡ take (base - 25) (drop 24 frame)
+    → bytes ≡ take (length frame - 1 - base) (drop base frame)
+    → record_failure status coding (entry_texts ((base - 25) / 12) directory) bytes ≡ record_failure status coding (texts_of frame) (data_in frame)
+record-same status coding frame directory bytes base is d b =
+    ap (λ t. record_failure status coding (entry_texts ((base - 25) / 12) t) bytes) d
+    ∙ (ap (λ t. record_failure status coding (entry_texts ((base - 25) / 12) (take (base - 25) (drop 24 frame))) t) b
+    ∙ ap (λ n. record_failure status coding (entry_texts ((n - 25) / 12) (take (n - 25) (drop 24 frame))) (take (length frame - 1 - n) (drop n frame))) is)
+
+closed_bytes : (t : List ℕ) → list_all (λ b. not (b == 0x1D)) t ≡ true → list_any is_terminator t ≡ false
+closed_bytes [] all = refl
+closed_bytes (b ∷ t) all =
+    let both = and_parts (not (b == 0x1D)) (list_all (λ x. not (x == 0x1D)) t) all in
+    rw (not_true (b == 0x1D) both.0, closed_bytes t both.1) refl
+  where
+    not_true : (test : Bool) → not test ≡ true → test ≡ false
+    not_true true h = sym h
+    not_true false h = refl
+
+-- and one that may be decoded may have been cut whole
+pub frame-IsWhole : (frame : List ℕ) → IsFrame frame → IsWhole frame
+frame-IsWhole frame is =
+    let ended = ends-parts 0x1D frame is.ends in
+    record {
+      size = is.size;
+      front = take (length frame - 1) frame;
+      open_front = closed_bytes (take (length frame - 1) frame) ended.before;
+      ended = ended.parts;
+    }

@@ -1,0 +1,11 @@
+use Rattle.std.proofs.Common.{◌≡◌, ◌+◌, ◌≤◌, ◌++◌, drop}
+use Rattle.marc_rules.specs.Numbers.{places}
+use Rattle.marc_rules.proofs.NumberLaws.{found_one}
+use Rattle.marc_rules.proofs.numbers.only_entry.Given as goal
+
+-- the one that was found so far and the others are all
+abbrev pub invariant-loop-i : goal.invariant-loop-i
+invariant-loop-i l = record {
+  places : places l.tag 1 l.entries ≡ found_one l.found ++ places l.tag (l.i + 1) (drop l.i l.entries);
+  few : l.found ≤ l.i;
+}

@@ -1,0 +1,92 @@
+-- The rules on which fields stand, and how often (MARC 21, 001, 008, 245 and 'Repeatability'; the places are this project's
+-- own).
+use Rattle.std.specs.Prelude.{ℕ, suc, ◌-◌, Bool, true, not, ◌&&◌, ◌||◌, ◌==◌, nat_eq, nat_le, List, [], ◌∷◌, ◌++◌, length, slice_index_or, Option, None, Some, if◌then◌else◌}
+use Rattle.std.specs.List.{list_all, list_any}
+use Rattle.std.specs.Cmp.Lexicographic.{pointwise}
+use Rattle.marc_leader.specs.Codes.{is_printable}
+use Rattle.marc_leader.specs.declared.entry.Entry.{Entry}
+use Rattle.marc_fields.specs.Rows.{fails, or_then}
+use Rattle.marc_fields.specs.Rules.{text_of}
+use Rattle.marc_fields.specs.declared.rules.Failure.{Failure}
+use Rattle.marc_fields.specs.declared.rules.Rule.TheVariants.{ControlNumber, Repeated, Fixed008, Title245}
+use Rattle.marc_rules.specs.Trimmed.{trimmed}
+
+-- the two tags are one
+abbrev pub is_same : List ℕ → List ℕ → Bool
+is_same tag other = pointwise nat_eq tag other
+
+-- the numbers of the entries with that tag, counted from that one
+abbrev pub places : List ℕ → ℕ → List Entry → List ℕ
+places tag i [] = []
+places tag i (e ∷ entries) = (if is_same e.tag tag then i ∷ places tag (suc i) entries else places tag (suc i) entries)
+
+-- one that stands once passes or is refused at its number; none is refused at 0, and more at the second
+abbrev pub once : (ℕ → Bool) → List ℕ → Option ℕ
+once passes [] = Some 0
+once passes (i ∷ []) = (if passes i then None else Some i)
+once passes (i ∷ j ∷ rest) = Some j
+
+-- the entry with that number, and its field's bytes
+abbrev pub no_entry : Entry
+no_entry = record { tag = []; length = 0; start = 0 }
+
+abbrev pub text_at : List ℕ → List Entry → ℕ → List ℕ
+text_at bytes entries i = text_of bytes (slice_index_or entries (i - 1) no_entry)
+
+-- a control number has 1 to 64 printable bytes
+abbrev pub has_number_shape : List ℕ → Bool
+has_number_shape number = (nat_le 1 (length number) && nat_le (length number) 64) && list_all is_printable number
+
+-- blanks may stand in front of it and behind it
+abbrev pub is_control_number : List ℕ → Bool
+is_control_number text = has_number_shape (trimmed text)
+
+abbrev pub tag_001 : List ℕ
+tag_001 = 0x30 ∷ 0x30 ∷ 0x31 ∷ []
+
+abbrev pub tag_008 : List ℕ
+tag_008 = 0x30 ∷ 0x30 ∷ 0x38 ∷ []
+
+abbrev pub tag_245 : List ℕ
+tag_245 = 0x32 ∷ 0x34 ∷ 0x35 ∷ []
+
+abbrev pub control_number_place : List ℕ → List Entry → Option ℕ
+control_number_place bytes entries = once (λ i. is_control_number (text_at bytes entries i)) (places tag_001 1 entries)
+
+abbrev pub fixed_008_place : List ℕ → List Entry → Option ℕ
+fixed_008_place bytes entries = once (λ i. length (text_at bytes entries i) == 40) (places tag_008 1 entries)
+
+abbrev pub title_245_place : List Entry → Option ℕ
+title_245_place entries = once (λ i. true) (places tag_245 1 entries)
+
+-- fields of one of these classes stand once: 003, 005, 010, 040, 240 each, and the main entries 100, 110, 111, 130 together
+abbrev pub class_of : List ℕ → ℕ
+class_of tag =
+    (if is_same tag (0x30 ∷ 0x30 ∷ 0x33 ∷ []) then 1
+    else (if is_same tag (0x30 ∷ 0x30 ∷ 0x35 ∷ []) then 2
+    else (if is_same tag (0x30 ∷ 0x31 ∷ 0x30 ∷ []) then 3
+    else (if is_same tag (0x30 ∷ 0x34 ∷ 0x30 ∷ []) then 4
+    else (if is_same tag (0x32 ∷ 0x34 ∷ 0x30 ∷ []) then 5
+    else (if ((is_same tag (0x31 ∷ 0x30 ∷ 0x30 ∷ []) || is_same tag (0x31 ∷ 0x31 ∷ 0x30 ∷ [])) || is_same tag (0x31 ∷ 0x31 ∷ 0x31 ∷ []))
+    || is_same tag (0x31 ∷ 0x33 ∷ 0x30 ∷ []) then 6 else 0))))))
+
+-- an earlier field is of that class
+abbrev pub has_class : ℕ → List Entry → Bool
+has_class class entries = list_any (λ e. class_of e.tag == class) entries
+
+-- the least number of an entry of a class of which an earlier one is
+abbrev pub repeated_from : List Entry → ℕ → List Entry → Option ℕ
+repeated_from earlier i [] = None
+repeated_from earlier i (e ∷ entries) =
+    (if not (class_of e.tag == 0) && has_class (class_of e.tag) earlier then Some i else repeated_from (earlier ++ e ∷ []) (suc i) entries)
+
+-- the rules on a record that is loaded
+abbrev pub load_failure : List ℕ → List Entry → Option Failure
+load_failure bytes entries =
+    or_then (fails Repeated (repeated_from [] 1 entries))
+    (or_then (fails Fixed008 (fixed_008_place bytes entries)) (fails Title245 (title_245_place entries)))
+
+-- status `d` withdraws a record, and asks for its control number alone
+unfoldable pub number_failure : ℕ → List ℕ → List Entry → Option Failure
+number_failure status bytes entries =
+    or_then (fails ControlNumber (control_number_place bytes entries)) (if status == 0x64 then None else load_failure bytes entries)

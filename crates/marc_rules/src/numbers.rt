@@ -1,0 +1,232 @@
+//! The rules on which fields stand, and how often.
+ghost use Rattle.std.specs.Prelude.{⊤, ◌≡◌, ◌+◌, ◌<◌, ◌≤◌, ◌∷◌, [], ℕ, Bool, nat_eq, true, length, List, MatchResult, Some};
+ghost use Rattle.std.specs.List.{list_all};
+ghost use Rattle.marc_leader.specs.Codes.{is_printable};
+ghost use Rattle.marc_fields.specs.Rows.{Answers};
+ghost use Rattle.marc_fields.specs.Rules.{is_tile};
+ghost use Rattle.marc_rules.specs.Trimmed.{trim_start, trim_end, trimmed};
+ghost use Rattle.marc_rules.specs.Numbers.{is_same, places, once, has_number_shape, is_control_number, class_of, repeated_from, control_number_place, fixed_008_place, title_245_place, load_failure, number_failure};
+
+use crate::parts::text_in;
+use marc_fields::decoding::DecodeRefusal;
+use marc_fields::rules::Rule;
+use marc_leader::entry::Entry;
+
+/// The status of a record that is withdrawn (MARC 21, leader/05, 'deleted').
+pub const DELETED: u8 = b'd';
+
+/// The longest control number, in bytes (this project's own).
+const LONGEST_NUMBER: usize = 64;
+
+/// How many bytes field 008 has (MARC 21, 008).
+const FIXED_008_SIZE: usize = 40;
+
+/// Whether the two tags are one.
+fn are_same(tag: &[u8], other: &[u8]) -> bool
+    ensures { result ≡ is_same tag.now other.now }
+{
+    tag == other
+}
+
+/// The text without the blanks in front.
+fn trimmed_start(text: &[u8]) -> &[u8]
+    ensures { result.now ≡ trim_start text.now }
+{
+    let mut rest = text;
+    while let Some((first, behind)) = rest.split_first() {
+        if *first != b' ' {
+            return rest;
+        }
+        rest = behind;
+    }
+    rest
+}
+
+/// The text without the blanks at the end.
+fn trimmed_end(text: &[u8]) -> &[u8]
+    ensures { result.now ≡ trim_end text.now }
+{
+    let mut rest = text;
+    while let Some((last, before)) = rest.split_last() {
+        if *last != b' ' {
+            return rest;
+        }
+        rest = before;
+    }
+    rest
+}
+
+fn are_printable_bytes(text: &[u8]) -> bool
+    ensures { result ≡ list_all is_printable text.now }
+{
+    text.iter().all(|b| 0x20 <= *b && *b <= 0x7E)
+}
+
+/// Whether the text is 1 to 64 printable bytes.
+fn is_number(text: &[u8]) -> bool
+    ensures { result ≡ has_number_shape text.now }
+{
+    1 <= text.len() && text.len() <= LONGEST_NUMBER && are_printable_bytes(text)
+}
+
+/// Whether the field's bytes are a control number between blanks: 1 to 64 printable bytes (MARC 21, 001).
+fn are_control_number(text: &[u8]) -> bool
+    ensures { result ≡ is_control_number text.now }
+{
+    is_number(trimmed_end(trimmed_start(text)))
+}
+
+/// The number of the one entry with that tag; else 0 where there is none, and the second one's number where there are more.
+fn only_entry(entries: &[Entry], tag: &[u8]) -> Result<u32, u32>
+    requires { length entries.now ≤ 9999 }
+    ensures { MatchResult result (λ i. (places tag.now 1 entries.now ≡ i ∷ []) × ((1 ≤ i) × (i ≤ length entries.now)))
+        (λ place. (passes : ℕ → Bool) → once passes (places tag.now 1 entries.now) ≡ Some place) }
+{
+    let mut found = 0;
+    for (i, entry) in entries.iter().enumerate() {
+        if are_same(&entry.tag, tag) {
+            if found > 0 {
+                return Err(i as u32 + 1);
+            }
+            found = i as u32 + 1;
+        }
+    }
+    if found == 0 { Err(0) } else { Ok(found) }
+}
+
+/// The class of fields of which one may stand (MARC 21, 'Repeatability'); 0 where the tag has none.
+fn class_of_tag(tag: &[u8; 3]) -> usize
+    ensures value { result ≡ class_of tag.now }
+    ensures few { result < 7 }
+{
+    if are_same(tag, b"003") {
+        1
+    } else if are_same(tag, b"005") {
+        2
+    } else if are_same(tag, b"010") {
+        3
+    } else if are_same(tag, b"040") {
+        4
+    } else if are_same(tag, b"240") {
+        5
+    } else if are_same(tag, b"100")
+        || are_same(tag, b"110")
+        || are_same(tag, b"111")
+        || are_same(tag, b"130")
+    {
+        6
+    } else {
+        0
+    }
+}
+
+/// The number of the first entry that repeats a field which may stand once.
+fn first_repeated(entries: &[Entry]) -> Option<u32>
+    requires { length entries.now ≤ 9999 }
+    ensures { result ≡ repeated_from [] 1 entries.now }
+{
+    let mut seen = [false; 7];
+    for (i, entry) in entries.iter().enumerate() {
+        let class = class_of_tag(&entry.tag);
+        if class > 0 {
+            if seen[class] {
+                return Some(i as u32 + 1);
+            }
+            seen[class] = true;
+        }
+    }
+    None
+}
+
+/// The place at which the control number is refused.
+fn bad_control_number(entries: &[Entry], bytes: &[u8]) -> Option<u32>
+    requires few { length entries.now ≤ 9999 }
+    requires tiles { list_all (is_tile bytes.now) entries.now ≡ true }
+    ensures { result ≡ control_number_place bytes.now entries.now }
+{
+    match only_entry(entries, b"001") {
+        Ok(number) => {
+            if are_control_number(text_in(&entries[number as usize - 1], bytes)) {
+                None
+            } else {
+                Some(number)
+            }
+        }
+        Err(place) => Some(place),
+    }
+}
+
+/// The place at which field 008 is refused.
+fn bad_fixed_008(entries: &[Entry], bytes: &[u8]) -> Option<u32>
+    requires few { length entries.now ≤ 9999 }
+    requires tiles { list_all (is_tile bytes.now) entries.now ≡ true }
+    ensures { result ≡ fixed_008_place bytes.now entries.now }
+{
+    match only_entry(entries, b"008") {
+        Ok(number) => {
+            if text_in(&entries[number as usize - 1], bytes).len() == FIXED_008_SIZE {
+                None
+            } else {
+                Some(number)
+            }
+        }
+        Err(place) => Some(place),
+    }
+}
+
+/// The place at which field 245 is refused.
+fn bad_title_245(entries: &[Entry]) -> Option<u32>
+    requires { length entries.now ≤ 9999 }
+    ensures { result ≡ title_245_place entries.now }
+{
+    match only_entry(entries, b"245") {
+        Ok(_) => None,
+        Err(place) => Some(place),
+    }
+}
+
+/// Refuses a field that stands twice and may stand once, and a record without one 008 of 40 bytes and one 245.
+fn check_load(entries: &[Entry], bytes: &[u8]) -> Result<(), DecodeRefusal>
+    requires few { length entries.now ≤ 9999 }
+    requires tiles { list_all (is_tile bytes.now) entries.now ≡ true }
+    ensures { Answers result (load_failure bytes.now entries.now) (λ _. ⊤) }
+{
+    if let Some(place) = first_repeated(entries) {
+        return Err(DecodeRefusal::Rule {
+            rule: Rule::Repeated,
+            place,
+        });
+    }
+    if let Some(place) = bad_fixed_008(entries, bytes) {
+        return Err(DecodeRefusal::Rule {
+            rule: Rule::Fixed008,
+            place,
+        });
+    }
+    if let Some(place) = bad_title_245(entries) {
+        return Err(DecodeRefusal::Rule {
+            rule: Rule::Title245,
+            place,
+        });
+    }
+    Ok(())
+}
+
+/// Refuses a record without one control number, and one that is loaded and has not the fields that it has to have, or has
+/// one twice that may stand once (MARC 21, 001, 008, 245 and 'Repeatability'). Takes no memory.
+pub fn check_numbers(status: u8, entries: &[Entry], bytes: &[u8]) -> Result<(), DecodeRefusal>
+    requires few { length entries.now ≤ 9999 }
+    requires tiles { list_all (is_tile bytes.now) entries.now ≡ true }
+    ensures { Answers result (number_failure status bytes.now entries.now) (λ _. ⊤) }
+{
+    if let Some(place) = bad_control_number(entries, bytes) {
+        return Err(DecodeRefusal::Rule {
+            rule: Rule::ControlNumber,
+            place,
+        });
+    }
+    if status == DELETED {
+        return Ok(());
+    }
+    check_load(entries, bytes)
+}
