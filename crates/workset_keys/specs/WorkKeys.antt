@@ -1,5 +1,5 @@
 -- The key of the work that a record belongs to, in this project's own profile of the OCLC work-set algorithm.
-use Rattle.std.specs.Prelude.{ℕ, Bool, not, if◌then◌else◌, Option, Some, None, List, [], ◌++◌, codes, map, fold, bytes_eq}
+use Rattle.std.specs.Prelude.{ℕ, Bool, if◌then◌else◌, Option, Some, None, List, [], ◌++◌, codes, map, fold, bytes_eq}
 use Rattle.std.specs.declared.cmp.Ordering.{Ordering}
 use Rattle.std.specs.Ordering.{nat_cmp, is_lt}
 use Rattle.std.specs.Cmp.Lexicographic.{slice_cmp}
@@ -42,19 +42,28 @@ least_name fields = fold lesser [] (map name_of fields)
 abbrev pub or_else : List ℕ → List ℕ → List ℕ
 or_else text other = if is_empty text then other else text
 
--- the key that names and titles make: by the name of the 1XX and a title; else by the title of the 1XX; else by the
--- title of the 245 and the least name of the 7XX; else by that title and the record itself
+-- the key where the 1XX has no name and no title: by the title of the 245 and the least name of the 7XX, or else by that
+-- title and the record itself
+abbrev pub key_by_title : List ℕ → List ℕ → List ℕ → List ℕ
+key_by_title title245 least own = if is_empty least then title245 ++ codes "///" ++ own else title245 ++ codes "//" ++ least
+
+-- the key where the 1XX has no name: by its title, where it has one
+abbrev pub key_without_name : List ℕ → List ℕ → List ℕ → List ℕ → List ℕ
+key_without_name main_title title245 least own = if is_empty main_title then key_by_title title245 least own else codes "/" ++ main_title
+
+-- the key that names and titles make: by the name in the 1XX and a title, where there is a name
 abbrev pub key_of : List ℕ → List ℕ → List ℕ → List ℕ → List ℕ → List ℕ → List ℕ
-key_of name title main_title title245 added own =
-    if not (is_empty name) then name ++ codes "/" ++ title else
-    (if not (is_empty main_title) then codes "/" ++ main_title else
-    (if not (is_empty added) then title245 ++ codes "//" ++ added else title245 ++ codes "///" ++ own))
+key_of name title main_title title245 least own = if is_empty name then key_without_name main_title title245 least own else name ++ codes "/" ++ title
 
 -- LIB.CTL
 abbrev pub own_name : RecordId → List ℕ
 own_name id = id.library ++ codes "." ++ id.control
 
+-- the key with these names, of the 1XX and the least of the 7XX
+abbrev pub key_of_names : List ℕ → List ℕ → Option Field → Option Field → Field → RecordId → List ℕ
+key_of_names name least main uniform title id =
+    key_of name (or_else (uniform_title uniform) (title245_of title)) (main_title main) (title245_of title) least (own_name id)
+
 -- the work key of a record, or of an edition under its least contributor
 abbrev pub work_key : Option Field → Option Field → Field → List Field → RecordId → List ℕ
-work_key main uniform title added id =
-    key_of (main_name main) (or_else (uniform_title uniform) (title245_of title)) (main_title main) (title245_of title) (least_name added) (own_name id)
+work_key main uniform title added id = key_of_names (main_name main) (least_name added) main uniform title id

@@ -1,11 +1,13 @@
 //! The key by which records and editions are grouped into works, as `work_key` in `specs/WorkKeys.antt` has it, which is
 //! this project's own profile of the OCLC work-set algorithm.
-ghost use Rattle.std.specs.Prelude.{◌≡◌, [], ◌++◌, All, IfOk};
+ghost use Rattle.std.specs.Prelude.{◌≡◌, All, IfOk};
 ghost use Rattle.std.specs.Option.{ForSome, option_copied};
 ghost use Rattle.workset_keys.specs.Names.{HasTexts, title245_of};
-ghost use Rattle.workset_keys.specs.WorkKeys.{is_uniform_title, main_name, main_title, uniform_title, lesser, least_name, or_else, own_name, work_key};
+ghost use Rattle.workset_keys.specs.WorkKeys.{main_title, uniform_title, or_else, own_name, key_by_title, key_without_name, key_of_names, work_key};
 
-use crate::fields::{name_of, title130_of, title240_of, title245_of};
+use crate::fields::{title130_of, title240_of, title245_of};
+use crate::names::{is_uniform_title, least_name, main_name};
+use crate::texts::{empty, is_empty, joined};
 use std::alloc::Global;
 use union_base::bytes::Bytes;
 use union_base::field::Field;
@@ -36,37 +38,69 @@ pub fn work_key(
     ensures { IfOk result (λ key. key ≡ work_key (option_copied main.entry) (option_copied uniform.entry) title.now added.now id.now) }
 {
     let name = main_name(alloc, main)?;
-    if !name.bytes().is_empty() {
-        let title = work_title(alloc, uniform, title)?;
-        return joined(alloc, name.bytes(), b"/", title.bytes());
-    }
-    let whole = main_title(alloc, main)?;
-    if !whole.bytes().is_empty() {
-        return joined(alloc, b"", b"/", whole.bytes());
-    }
-    let title = title245_of(alloc, title)?;
-    let least = least_name(alloc, added)?;
-    if !least.bytes().is_empty() {
-        return joined(alloc, title.bytes(), b"//", least.bytes());
-    }
-    let own = own_name(alloc, id)?;
-    joined(alloc, title.bytes(), b"///", own.bytes())
+    // The added names are read only where the key needs them.
+    let least = if is_empty(&name) {
+        least_name(alloc, added)?
+    } else {
+        empty(alloc)
+    };
+    key_of_names(alloc, &name, &least, main, uniform, title, id)
 }
 
-/// The name in the main entry, empty where it is a uniform title or not there.
-fn main_name(alloc: Global, main: Option<&Field>) -> Result<Bytes, Memory>
-    requires { ForSome (option_copied main) HasTexts }
-    ensures { IfOk result (λ b. b ≡ main_name (option_copied main.entry)) }
+/// The key with these names, of the main entry and the least of the added entries, where an empty one is none.
+fn key_of_names(
+    alloc: Global,
+    name: &Bytes,
+    least: &Bytes,
+    main: Option<&Field>,
+    uniform: Option<&Field>,
+    title: &Field,
+    id: &RecordId,
+) -> Result<Bytes, Memory>
+    requires main { ForSome (option_copied main) HasTexts }
+    requires uniform { ForSome (option_copied uniform) HasTexts }
+    requires title { HasTexts title.now }
+    ensures { IfOk result (λ key. key ≡ key_of_names name.now least.now (option_copied main.entry) (option_copied uniform.entry) title.now id.now) }
 {
-    match main {
-        Some(field) => {
-            if is_uniform_title(&field.tag) {
-                Ok(empty(alloc))
-            } else {
-                name_of(alloc, field)
-            }
-        }
-        None => Ok(empty(alloc)),
+    if is_empty(name) {
+        key_without_name(alloc, least, main, title, id)
+    } else {
+        let title = work_title(alloc, uniform, title)?;
+        joined(alloc, name.bytes(), b"/", title.bytes())
+    }
+}
+
+/// The key where the main entry has no name: its title, where it has one.
+fn key_without_name(
+    alloc: Global,
+    least: &Bytes,
+    main: Option<&Field>,
+    title: &Field,
+    id: &RecordId,
+) -> Result<Bytes, Memory>
+    requires main { ForSome (option_copied main) HasTexts }
+    requires title { HasTexts title.now }
+    ensures { IfOk result (λ key. key ≡ key_without_name (main_title (option_copied main.entry)) (title245_of title.now) least.now (own_name id.now)) }
+{
+    let whole = main_title(alloc, main)?;
+    if is_empty(&whole) {
+        key_by_title(alloc, least, title, id)
+    } else {
+        joined(alloc, b"", b"/", whole.bytes())
+    }
+}
+
+/// The key where the main entry has no name and no title.
+fn key_by_title(alloc: Global, least: &Bytes, title: &Field, id: &RecordId) -> Result<Bytes, Memory>
+    requires { HasTexts title.now }
+    ensures { IfOk result (λ key. key ≡ key_by_title (title245_of title.now) least.now (own_name id.now)) }
+{
+    let title = title245_of(alloc, title)?;
+    if is_empty(least) {
+        let own = own_name(alloc, id)?;
+        joined(alloc, title.bytes(), b"///", own.bytes())
+    } else {
+        joined(alloc, title.bytes(), b"//", least.bytes())
     }
 }
 
@@ -94,7 +128,7 @@ fn work_title(alloc: Global, uniform: Option<&Field>, title: &Field) -> Result<B
     ensures { IfOk result (λ b. b ≡ or_else (uniform_title (option_copied uniform.entry)) (title245_of title.now)) }
 {
     let own = uniform_title(alloc, uniform)?;
-    if own.bytes().is_empty() {
+    if is_empty(&own) {
         title245_of(alloc, title)
     } else {
         Ok(own)
@@ -112,64 +146,9 @@ fn uniform_title(alloc: Global, uniform: Option<&Field>) -> Result<Bytes, Memory
     }
 }
 
-/// The byte-least name in the fields, of those that aren't empty.
-fn least_name(alloc: Global, added: &[Field]) -> Result<Bytes, Memory>
-    requires { All HasTexts added.now }
-    ensures { IfOk result (λ b. b ≡ least_name added.now) }
-{
-    let mut least = empty(alloc);
-    for field in added {
-        least = lesser(least, name_of(alloc, field)?);
-    }
-    Ok(least)
-}
-
-/// The byte-lesser of two texts, where an empty one counts for nothing.
-fn lesser(least: Bytes, text: Bytes) -> Bytes
-    ensures { result ≡ lesser least text }
-{
-    if least.bytes().is_empty() {
-        return text;
-    }
-    if text.bytes().is_empty() {
-        return least;
-    }
-    if text.cmp(&least).is_lt() {
-        text
-    } else {
-        least
-    }
-}
-
-/// Whether the tag is that of a uniform title in the main entry.
-fn is_uniform_title(tag: &[u8; 3]) -> bool
-    ensures { result ≡ is_uniform_title tag.now }
-{
-    tag.as_slice() == b"130".as_slice()
-}
-
 /// The record's library and control number, joined by a point.
 fn own_name(alloc: Global, id: &RecordId) -> Result<Bytes, Memory>
     ensures { IfOk result (λ b. b ≡ own_name id.now) }
 {
     joined(alloc, id.library.bytes(), b".", id.control.bytes())
-}
-
-/// The first text, the mark and the second text.
-fn joined(alloc: Global, first: &[u8], mark: &[u8], second: &[u8]) -> Result<Bytes, Memory>
-    ensures { IfOk result (λ b. b ≡ first.now ++ mark.now ++ second.now) }
-{
-    let room = first.len().saturating_add(mark.len());
-    let mut text = Vec::with_capacity(alloc, room.saturating_add(second.len()))?;
-    text.extend_from_slice(first)?;
-    text.extend_from_slice(mark)?;
-    text.extend_from_slice(second)?;
-    Ok(Bytes::from(text))
-}
-
-/// An empty text. Takes no memory.
-fn empty(alloc: Global) -> Bytes
-    ensures { result ≡ [] }
-{
-    Bytes::from(Vec::new(alloc))
 }
