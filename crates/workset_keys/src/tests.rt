@@ -33,38 +33,53 @@ fn work_keys(rt: HostRuntime) -> Result<(), Fail> {
     let alloc = rt.alloc();
     let mut count: u32 = 0;
     for case in cases::WORK_KEYS.split(CASE_END) {
-        if let Some((library, cells)) = case.split_once(CELL_END) {
-            let (control, cells) = cells.split_once(CELL_END).ok_or("a control number")?;
-            let (key, cells) = cells.split_once(CELL_END).ok_or("a key")?;
-            let fields = fields_of(alloc, cells, false)?;
-            let added = fields_of(alloc, cells, true)?;
-            let title = field_with(&fields, b"245").ok_or("a title")?;
-            let main = field_with(&fields, b"100")
-                .or(field_with(&fields, b"110"))
-                .or(field_with(&fields, b"111"))
-                .or(field_with(&fields, b"130"));
-            let id = RecordId {
-                library: LibraryCode::read(library.as_bytes()).ok_or("a library")?,
-                control: bytes_of(alloc, control)?,
-            };
-            let uniform = field_with(&fields, b"240");
-            let made = work_key(alloc, main, uniform, title, &added, &id);
-            let made = made.ok().ok_or("memory")?;
-            assert_eq!(rt; made.bytes(), key.as_bytes(), "{cells}");
+        if let Some((key, record)) = case.split_once(CELL_END) {
+            let made = key_of_record(alloc, record)?;
+            assert_eq!(rt; made.bytes(), key.as_bytes(), "{record}");
             count = count.saturating_add(1);
         }
     }
-    assert_eq!(rt; count, 83);
+    assert_eq!(rt; count, 87);
     Ok(())
 }
 
-/// The first field with the tag.
-fn field_with<'a>(fields: &'a [Field], tag: &[u8; 3]) -> Option<&'a Field>
+/// The key of a record in cells: its library, its control number and its fields.
+fn key_of_record(alloc: Global, record: &str) -> Result<Bytes, Fail> {
+    let (library, cells) = record.split_once(CELL_END).ok_or("a library")?;
+    let (control, cells) = cells.split_once(CELL_END).ok_or("a control number")?;
+    let id = RecordId {
+        library: LibraryCode::read(library.as_bytes()).ok_or("a library code")?,
+        control: bytes_of(alloc, control)?,
+    };
+    let fields = fields_of(alloc, cells, false)?;
+    let added = fields_of(alloc, cells, true)?;
+    key_of_fields(alloc, &fields, &added, &id)
+}
+
+/// The key by a record's fields, of which `added` are the added entries.
+fn key_of_fields(
+    alloc: Global,
+    fields: &[Field],
+    added: &[Field],
+    id: &RecordId,
+) -> Result<Bytes, Fail>
+    requires fields { All HasTexts fields.now }
+    requires added { All HasTexts added.now }
+{
+    let main = field_with(fields, b"1");
+    let uniform = field_with(fields, b"240");
+    let title = field_with(fields, b"245").ok_or("a title")?;
+    let made = work_key(alloc, main, uniform, title, added, id);
+    Ok(made.ok().ok_or("memory")?)
+}
+
+/// The first field whose tag begins so.
+fn field_with<'a>(fields: &'a [Field], front: &[u8]) -> Option<&'a Field>
     requires { All HasTexts fields.now }
     ensures { ForSome (option_copied result) HasTexts }
 {
     for field in fields {
-        if field.tag == *tag {
+        if field.tag.starts_with(front) {
             return Some(field);
         }
     }
