@@ -1,6 +1,5 @@
 -- The key of the work that a record belongs to, in this project's own profile of the OCLC work-set algorithm.
 use Rattle.std.specs.Prelude.{ℕ, Bool, if◌then◌else◌, Option, Some, None, List, [], ◌++◌, codes, map, fold, bytes_eq}
-use Rattle.std.specs.declared.cmp.Ordering.{Ordering}
 use Rattle.std.specs.Ordering.{nat_cmp, is_lt}
 use Rattle.std.specs.Cmp.Lexicographic.{slice_cmp}
 use Rattle.union_base.specs.declared.field.Field.{Field}
