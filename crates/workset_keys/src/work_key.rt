@@ -38,7 +38,7 @@ pub fn work_key(
     ensures { IfOk result (λ key. key ≡ work_key (option_copied main.entry) (option_copied uniform.entry) title.now added.now id.now) }
 {
     let name = main_name(alloc, main)?;
-    // The added names are read only where the key needs them.
+    // A key by the name in the main entry needs no added name.
     let least = if is_empty(&name) {
         least_name(alloc, added)?
     } else {
