@@ -1,0 +1,166 @@
+//! Work keys whose expected values another program made.
+ghost use Rattle.std.specs.Prelude.{◌≡◌, All, IsUtf8, IfOk, OnOk};
+ghost use Rattle.std.specs.Option.{ForSome, option_copied};
+ghost use Rattle.workset_keys.specs.Names.{HasTexts};
+
+use crate::work_key::work_key;
+use std::alloc::Global;
+use std::test::Fail;
+use union_base::body::Body;
+use union_base::bytes::Bytes;
+use union_base::field::Field;
+use union_base::library_code::LibraryCode;
+use union_base::record_id::RecordId;
+use union_base::sequence::Sequence;
+use union_base::subfield::Subfield;
+
+mod cases;
+
+/// Parts the cells of a case.
+const CELL_END: char = '¦';
+
+/// Ends a case.
+const CASE_END: char = '‡';
+
+/// Begins a subfield.
+const DELIMITER: char = '$';
+
+/// What the tags of added entries begin with.
+const ADDED: u8 = b'7';
+
+#[test]
+fn work_keys(rt: HostRuntime) -> Result<(), Fail> {
+    let alloc = rt.alloc();
+    let mut count: u32 = 0;
+    for case in cases::WORK_KEYS.split(CASE_END) {
+        if let Some((key, record)) = case.split_once(CELL_END) {
+            let made = key_of_record(alloc, record)?;
+            assert_eq!(rt; made.bytes(), key.as_bytes(), "{record}");
+            count = count.saturating_add(1);
+        }
+    }
+    assert_eq!(rt; count, 87);
+    Ok(())
+}
+
+/// The key of a record in cells: its library, its control number and its fields.
+fn key_of_record(alloc: Global, record: &str) -> Result<Bytes, Fail> {
+    let (library, cells) = record.split_once(CELL_END).ok_or("a library")?;
+    let (control, cells) = cells.split_once(CELL_END).ok_or("a control number")?;
+    let id = RecordId {
+        library: LibraryCode::read(library.as_bytes()).ok_or("a library code")?,
+        control: bytes_of(alloc, control)?,
+    };
+    let fields = fields_of(alloc, cells, false)?;
+    let added = fields_of(alloc, cells, true)?;
+    key_of_fields(alloc, &fields, &added, &id)
+}
+
+/// The key by a record's fields, of which `added` are the added entries.
+fn key_of_fields(
+    alloc: Global,
+    fields: &[Field],
+    added: &[Field],
+    id: &RecordId,
+) -> Result<Bytes, Fail>
+    requires fields { All HasTexts fields.now }
+    requires added { All HasTexts added.now }
+{
+    let main = field_with(fields, b"1");
+    let uniform = field_with(fields, b"240");
+    let title = field_with(fields, b"245").ok_or("a title")?;
+    let made = work_key(alloc, main, uniform, title, added, id);
+    Ok(made.ok().ok_or("memory")?)
+}
+
+/// The first field whose tag begins so.
+fn field_with<'a>(fields: &'a [Field], front: &[u8]) -> Option<&'a Field>
+    requires { All HasTexts fields.now }
+    ensures { ForSome (option_copied result) HasTexts }
+{
+    for field in fields {
+        if field.tag.starts_with(front) {
+            return Some(field);
+        }
+    }
+    None
+}
+
+/// The added entries, or the other fields, of cells such as `24500$aCat`.
+fn fields_of(alloc: Global, cells: &str, added: bool) -> Result<Vec<Field>, Fail>
+    ensures { IfOk result (λ v. All HasTexts v.items) }
+{
+    let mut fields = Vec::new(alloc);
+    for cell in cells.split(CELL_END) {
+        if (cell.as_bytes().first() == Some(&ADDED)) == added {
+            push_field(alloc, &mut fields, cell)?;
+        }
+    }
+    Ok(fields)
+}
+
+fn push_field(alloc: Global, fields: &mut Vec<Field>, cell: &str) -> Result<(), Fail>
+    requires { All HasTexts fields.old.items }
+    ensures { OnOk result (All HasTexts fields.new.items) }
+{
+    let field = field_of(alloc, cell)?;
+    fields.push(field)?;
+    Ok(())
+}
+
+fn field_of(alloc: Global, cell: &str) -> Result<Field, Fail>
+    ensures { IfOk result HasTexts }
+{
+    let (head, rest) = cell.split_once(DELIMITER).ok_or("subfields")?;
+    let subfields = subfields_of(alloc, rest)?;
+    let [first, second, third, ind1, ind2] = head.as_bytes() else {
+        return no_field();
+    };
+    let tag = [*first, *second, *third];
+    let body = Body::Data {
+        ind1: *ind1,
+        ind2: *ind2,
+        subfields: Sequence::from(subfields),
+    };
+    if body.is_field(&tag) {
+        Ok(Field { tag, body })
+    } else {
+        no_field()
+    }
+}
+
+fn no_field() -> Result<Field, Fail>
+    ensures { IfOk result HasTexts }
+{
+    let refused: Result<Field, &str> = Err("no field");
+    Ok(refused?)
+}
+
+/// Subfields from a text such as `aHill$d1900`.
+fn subfields_of(alloc: Global, cells: &str) -> Result<Vec<Subfield>, Fail>
+    ensures { IfOk result (λ v. All (λ s. IsUtf8 s.text) v.items) }
+{
+    let mut subfields = Vec::new(alloc);
+    for cell in cells.split(DELIMITER) {
+        push_subfield(alloc, &mut subfields, cell)?;
+    }
+    Ok(subfields)
+}
+
+fn push_subfield(alloc: Global, subfields: &mut Vec<Subfield>, cell: &str) -> Result<(), Fail>
+    requires { All (λ s. IsUtf8 s.text) subfields.old.items }
+    ensures { OnOk result (All (λ s. IsUtf8 s.text) subfields.new.items) }
+{
+    let code = *cell.as_bytes().first().ok_or("a code")?;
+    let mut rest = cell.chars();
+    let _code = rest.next();
+    let text = bytes_of(alloc, rest.as_str())?;
+    subfields.push(Subfield { code, text })?;
+    Ok(())
+}
+
+fn bytes_of(alloc: Global, text: &str) -> Result<Bytes, Fail>
+    ensures { IfOk result (λ b. IsUtf8 b) }
+{
+    Ok(Bytes::of(alloc, text.as_bytes()).ok().ok_or("memory")?)
+}
