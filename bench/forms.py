@@ -7,15 +7,9 @@ import sys
 from unicodedata import category, normalize
 
 DELETED = {"Mn", "Me", "Lm"}
+LETTERS_AND_NUMBERS = {"Lu", "Ll", "Lt", "Lm", "Lo", "Nd", "Nl", "No"}
+KEPT = LETTERS_AND_NUMBERS | {"Mc"}
 PLAIN = str.maketrans({"æ": "ae", "œ": "oe", "ø": "o", "đ": "d", "ð": "d", "þ": "th", "ł": "l", "ı": "i"})
-
-
-def is_letter_or_number(c):
-    return category(c)[0] in "LN"
-
-
-def is_kept(c):
-    return is_letter_or_number(c) or category(c) == "Mc" or c in "&+@#♭♯"
 
 
 def normal(text, keeps_first):
@@ -24,9 +18,9 @@ def normal(text, keeps_first):
     text = "".join(c for c in text if category(c) not in DELETED and c not in "'[]")
     text = text.translate(PLAIN)
     comma = text.find(",") if keeps_first else -1
-    if comma >= 0 and not any(map(is_letter_or_number, text[comma + 1:])):
+    if comma >= 0 and not any(category(c) in LETTERS_AND_NUMBERS for c in text[comma + 1:]):
         comma = -1
-    text = "".join(c if is_kept(c) or at == comma else " " for at, c in enumerate(text))
+    text = "".join(c if category(c) in KEPT or c in "&+@#♭♯" or at == comma else " " for at, c in enumerate(text))
     return " ".join(text.split())
 
 
