@@ -1,0 +1,50 @@
+//! Makes the normal form of each text of a file and prints how many there are and how many bytes their forms have, for
+//! measurements: `bench/forms.sh` times it.
+//!
+//! Its word is the path of a file in UTF-8 with a text on each line, behind a mark: `1` stands before a name, of which
+//! the first comma is kept, and any other character before a title.
+#![tactic(auto)]
+
+use naco_normal::form::{Comma, normal};
+use std::alloc::Global;
+use std::{env, fs, io};
+use union_base::memory::Memory;
+
+/// How many texts a file has, and how many bytes their forms.
+#[derive(Clone, Copy, Default)]
+struct Totals {
+    texts: u64,
+    bytes: u64,
+}
+
+/// The text of a line, and what becomes of its commas.
+fn marked(line: &str) -> (&str, Comma) {
+    let mut rest = line.chars();
+    match rest.next() {
+        Some('1') => (rest.as_str(), Comma::First),
+        _ => (rest.as_str(), Comma::None),
+    }
+}
+
+/// The totals of the lines.
+fn count_forms(alloc: Global, lines: &str) -> Result<Totals, Memory> {
+    let mut totals = Totals::default();
+    for line in lines.lines() {
+        let (text, comma) = marked(line);
+        let form = normal(alloc, text, comma)?;
+        totals.texts = totals.texts.saturating_add(1);
+        totals.bytes = totals.bytes.saturating_add(form.bytes().len() as u64);
+    }
+    Ok(totals)
+}
+
+fn main(rt: HostRuntime) -> io::Result<()> {
+    for path in env::args(&rt)?.skip(1) {
+        let lines = fs::read_to_string(&rt, path.as_str())?;
+        let Ok(totals) = count_forms(rt.alloc(), lines.as_str()) else {
+            return eprintln!(rt; "no memory");
+        };
+        println!(rt; "texts {} bytes {}", totals.texts, totals.bytes)?;
+    }
+    Ok(())
+}
