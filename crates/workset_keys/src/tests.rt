@@ -43,6 +43,21 @@ fn work_keys(rt: HostRuntime) -> Result<(), Fail> {
     Ok(())
 }
 
+/// A title as long as a field has room for.
+#[test]
+fn long_title(rt: HostRuntime) -> Result<(), Fail> {
+    let alloc = rt.alloc();
+    let mut record = String::new(alloc);
+    record.push_str("LIBA¦w1¦24500$a")?;
+    record.push_str("é".repeat(alloc, 4_990)?.as_str())?;
+    let mut key = String::new(alloc);
+    key.push_str("e".repeat(alloc, 4_990)?.as_str())?;
+    key.push_str("///LIBA.w1")?;
+    let made = key_of_record(alloc, record.as_str())?;
+    assert_eq!(rt; made.bytes(), key.as_bytes());
+    Ok(())
+}
+
 /// The key of a record in cells: its library, its control number and its fields.
 fn key_of_record(alloc: Global, record: &str) -> Result<Bytes, Fail> {
     let (library, cells) = record.split_once(CELL_END).ok_or("a library")?;
