@@ -7,4 +7,6 @@
 
 pub mod loads;
 pub mod parts;
+#[cfg(test)]
+mod tests;
 pub mod trimming;
