@@ -4,9 +4,8 @@ use Rattle.std.specs.Prelude.{Option, Some, None, IfSome}
 use Rattle.iso2709_frame.specs.declared.cut.Cut.{Cut}
 use Rattle.library_stream.specs.declared.answer.Next.{Next}
 use Rattle.library_stream.specs.declared.answer.Next.TheVariants.{Frame, End, TooLong, Failed}
-use Rattle.library_stream.specs.declared.course.Course.TheVariants.{Ended}
 use Rattle.library_stream.specs.Streaming.{Streaming, opened, passes, frames_on, frames_ahead, is_too_long}
-use Rattle.library_stream.specs.Answering.{Takes, Answers, StopsAtLimit, AllHanded, FrontHanded, Fewer}
+use Rattle.library_stream.specs.Answering.{Takes, Answers, AllHanded, FrontHanded, Fewer}
 use Rattle.iso2709_frame.specs.Frames.{frames}
 use Rattle.iso2709_frame.specs.Cutting.{told}
 use Rattle.std.proofs.lemmas.Bool.{ltb-false, ltb-true}

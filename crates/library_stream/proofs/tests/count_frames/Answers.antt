@@ -17,7 +17,7 @@ loop-count-preserved g c =
       faults = c.in-Frame.ensures.faults ∙ so_far.faults;
       handed = so_far.handed ++ frame;
       takes = Takes-more (opened c.args.limit) c.loop-count.reader c.next.new.self (left c.args.source.now) (left c.loop-count.source)
-        (left c.next.new.source) so_far.handed frame so_far.takes c.in-Frame.ensures.answers;
+          (left c.next.new.source) so_far.handed frame so_far.takes c.in-Frame.ensures.answers;
       count = length-append so_far.handed frame ∙ ap (λ n. n + 1) so_far.count;
       bound = omega (arith, so_far.bound, c.in-Frame.ensures.fewer);
     }
@@ -33,5 +33,5 @@ returns-in-End-clause-all g c =
     let left = g.S.Source.left in
     λ _. IfSome_then (left c.args.source.now)
     (handed_all c.args.limit c.loop-count.reader c.next.new.self (left c.args.source.now) (left c.loop-count.source) (left c.next.new.source)
-      so_far.handed so_far.takes c.in-End.ensures.answers)
+    so_far.handed so_far.takes c.in-End.ensures.answers)
     (λ bytes all. counted c.args.limit c.loop-count.count bytes so_far.handed so_far.count all)
