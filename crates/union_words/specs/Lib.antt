@@ -1,0 +1,4 @@
+pub mod Meanings
+pub mod Statuses
+pub mod Texts
+pub mod Words
