@@ -1,0 +1,21 @@
+-- Texts without the blanks at their ends. A blank is the byte 0x20 and no other.
+use Rattle.std.specs.Prelude.{ℕ, ◌==◌, List, [], ◌∷◌, if◌then◌else◌}
+
+abbrev pub blank : ℕ
+blank = 0x20
+
+abbrev pub trim_start : List ℕ → List ℕ
+trim_start [] = []
+trim_start (b ∷ rest) = (if b == blank then trim_start rest else b ∷ rest)
+
+-- a byte in front of a trimmed rest: a blank in front of nothing goes
+abbrev pub before_trimmed : ℕ → List ℕ → List ℕ
+before_trimmed b [] = (if b == blank then [] else b ∷ [])
+before_trimmed b (c ∷ rest) = b ∷ c ∷ rest
+
+abbrev pub trim_end : List ℕ → List ℕ
+trim_end [] = []
+trim_end (b ∷ rest) = before_trimmed b (trim_end rest)
+
+abbrev pub trimmed : List ℕ → List ℕ
+trimmed text = trim_end (trim_start text)
