@@ -1,5 +1,5 @@
 -- The features of a record.
-use Rattle.std.specs.Prelude.{ℕ, Bool, ◌==◌, ◌&&◌, ◌||◌, if◌then◌else◌, Option, Some, None, List, [], ◌∷◌, ◌++◌, codes, length, slice_range}
+use Rattle.std.specs.Prelude.{ℕ, Bool, ◌==◌, ◌&&◌, ◌||◌, if◌then◌else◌, Option, Some, None, List, [], ◌∷◌, ◌++◌, codes, length, slice_range, refl}
 use Rattle.std.specs.Char.{is_ascii_digit}
 use Rattle.std.specs.List.{list_all, flat_map}
 use Rattle.std.specs.Option.{option_to_list}
@@ -17,12 +17,13 @@ use Rattle.match_features.specs.declared.features.Features.{Features}
 use Rattle.match_features.specs.Kept.{texts_cmp, pairs_cmp}
 use Rattle.match_features.specs.KeptLaws.{kept_sets}
 
--- what the subfields $a of a field give, where the field has that tag
-abbrev pub from_a : {K : Type 0} → (List ℕ → List K) → Subfield → List K
-from_a key s = if s.code == 0x61 then key s.text else []
+-- the subfields $a, in which the numbers stand
+abbrev pub is_a : Subfield → Bool
+is_a s = s.code == 0x61
 
-abbrev pub from_each_a : {K : Type 0} → List ℕ → (List ℕ → List K) → Field → List K
-from_each_a tag key f = if has_tag tag f then flat_map (from_a key) (subfields_of f.body) else []
+-- what the subfields of a field give, where it has that tag
+abbrev pub from_field : {K : Type 0} → List ℕ → (Subfield → List K) → Field → List K
+from_field tag given f = if has_tag tag f then flat_map given (subfields_of f.body) else []
 
 -- a library's own number: under the source `=LIB`
 abbrev pub own_pair : List ℕ → Record → List ℕ × List ℕ
@@ -37,11 +38,16 @@ abbrev pub congress_pair : Option (List ℕ) → List (List ℕ × List ℕ)
 congress_pair None = []
 congress_pair (Some number) = (codes "DLC", number) ∷ []
 
+abbrev pub lccn_in : Subfield → List (List ℕ × List ℕ)
+lccn_in s = if is_a s then congress_pair (lccn_key s.text) else []
+
+-- a system number: under the source in its parentheses
+abbrev pub system_number_in : Subfield → List (List ℕ × List ℕ)
+system_number_in s = if is_a s then option_to_list (system_key s.text) else []
+
 -- the LCCN of each 010 $a, and the system number of each 035 $a
 abbrev pub numbers_in : Field → List (List ℕ × List ℕ)
-numbers_in f =
-    from_each_a (codes "010") (λ text. congress_pair (lccn_key text)) f
-    ++ from_each_a (codes "035") (λ text. option_to_list (system_key text)) f
+numbers_in f = from_field (codes "010") lccn_in f ++ from_field (codes "035") system_number_in f
 
 abbrev pub control_of : List ℕ → Record → List (List ℕ × List ℕ)
 control_of library r = own_pair library r ∷ assigned_pair r ++ flat_map numbers_in r.fields
@@ -51,8 +57,11 @@ abbrev pub types_of : Record → List (List ℕ)
 types_of r = (r.leader.kind ∷ r.leader.level ∷ []) ∷ []
 
 -- each 020 $a that is an ISBN
+abbrev pub isbn_in : Subfield → List (List ℕ)
+isbn_in s = if is_a s then option_to_list (isbn_key s.text) else []
+
 abbrev pub isbns_in : Field → List (List ℕ)
-isbns_in f = from_each_a (codes "020") (λ text. option_to_list (isbn_key text)) f
+isbns_in f = from_field (codes "020") isbn_in f
 
 abbrev pub where_not_empty : List ℕ → List (List ℕ)
 where_not_empty text = if is_empty text then [] else text ∷ []
@@ -83,6 +92,6 @@ features library r = record {
   titles = set_of texts_cmp (flat_map title_in r.fields);
   dates = set_of texts_cmp (date_in (text_under (codes "008") r.fields));
   names = set_of texts_cmp (flat_map name_in r.fields);
-  kept = kept_sets (own_pair library r) (assigned_pair r ++ flat_map numbers_in r.fields) (types_of r) (flat_map isbns_in r.fields)
-    (flat_map title_in r.fields) (date_in (text_under (codes "008") r.fields)) (flat_map name_in r.fields);
+  kept = kept_sets (control_of library r) (types_of r) (flat_map isbns_in r.fields) (flat_map title_in r.fields)
+    (date_in (text_under (codes "008") r.fields)) (flat_map name_in r.fields) refl;
 }

@@ -55,12 +55,16 @@ module _ {K : Type 0} (R : K → K → Ordering) where
   has_some-union xs [] h = h
   has_some-union xs (y ∷ ys) h = has_some-put y (union R xs ys)
 
-pub kept_sets : (pair : List ℕ × List ℕ) (control : List (List ℕ × List ℕ)) (types isbns titles dates names : List (List ℕ))
-    → IsTrue (are_features (set_of pairs_cmp (pair ∷ control)) (set_of texts_cmp types) (set_of texts_cmp isbns) (set_of texts_cmp titles) (set_of texts_cmp dates) (set_of texts_cmp names))
-kept_sets pair control types isbns titles dates names =
-    kept_whole (set_of pairs_cmp (pair ∷ control)) (set_of texts_cmp types) (set_of texts_cmp isbns) (set_of texts_cmp titles) (set_of texts_cmp dates) (set_of texts_cmp names) (record {
-      some = has_some-put pairs_cmp pair (set_of pairs_cmp control);
-      control = is_ascending-union pairs_total [] (pair ∷ control) refl;
+  has_some-set : (xs : List K) → has_some xs ≡ true → has_some (set_of R xs) ≡ true
+  has_some-set [] h = h
+  has_some-set (x ∷ xs) h = has_some-put x (set_of R xs)
+
+pub kept_sets : (control : List (List ℕ × List ℕ)) (types isbns titles dates names : List (List ℕ)) → has_some control ≡ true
+    → IsTrue (are_features (set_of pairs_cmp control) (set_of texts_cmp types) (set_of texts_cmp isbns) (set_of texts_cmp titles) (set_of texts_cmp dates) (set_of texts_cmp names))
+kept_sets control types isbns titles dates names some =
+    kept_whole (set_of pairs_cmp control) (set_of texts_cmp types) (set_of texts_cmp isbns) (set_of texts_cmp titles) (set_of texts_cmp dates) (set_of texts_cmp names) (record {
+      some = has_some-set pairs_cmp control some;
+      control = is_ascending-union pairs_total [] control refl;
       types = is_ascending-union nat_list_cmp_total [] types refl;
       isbns = is_ascending-union nat_list_cmp_total [] isbns refl;
       titles = is_ascending-union nat_list_cmp_total [] titles refl;

@@ -1,13 +1,8 @@
 //! What the fields of a record give to its features, as `specs/Gathering.antt` has it, gathered in one pass.
 ghost use Rattle.std.specs.Prelude.{◌≡◌, ◌++◌, All, IfOk, OnOk};
 ghost use Rattle.std.specs.List.{flat_map};
-ghost use Rattle.std.specs.Option.{option_to_list};
-ghost use Rattle.naco_normal.specs.Words.{is_empty};
-ghost use Rattle.isbn_keys.specs.Isbn.{isbn_key};
-ghost use Rattle.isbn_keys.specs.Lccn.{lccn_key};
-ghost use Rattle.isbn_keys.specs.Control.{system_key};
 ghost use Rattle.workset_keys.specs.Names.{HasTexts};
-ghost use Rattle.match_features.specs.Gathering.{from_a, congress_pair, where_not_empty, numbers_in, isbns_in, title_in, name_in, is_name};
+ghost use Rattle.match_features.specs.Gathering.{lccn_in, system_number_in, isbn_in, where_not_empty, numbers_in, isbns_in, title_in, name_in, is_name};
 
 use isbn_keys::control::system_number;
 use isbn_keys::isbn::isbn;
@@ -97,20 +92,25 @@ fn push_lccns(
     control: &mut Vec<(Bytes, Bytes)>,
     subfields: &[Subfield],
 ) -> Result<(), Memory>
-    ensures { OnOk result (control.new.items ≡ control.old.items ++ flat_map (from_a (λ text. congress_pair (lccn_key text))) subfields.now) }
+    ensures { OnOk result (control.new.items ≡ control.old.items ++ flat_map lccn_in subfields.now) }
 {
     for subfield in subfields {
-        if subfield.code == NUMBER {
-            push_lccn(alloc, control, subfield.text.bytes())?;
-        }
+        push_lccn(alloc, control, subfield)?;
     }
     Ok(())
 }
 
-fn push_lccn(alloc: Global, control: &mut Vec<(Bytes, Bytes)>, text: &[u8]) -> Result<(), Memory>
-    ensures { OnOk result (control.new.items ≡ control.old.items ++ congress_pair (lccn_key text.now)) }
+fn push_lccn(
+    alloc: Global,
+    control: &mut Vec<(Bytes, Bytes)>,
+    subfield: &Subfield,
+) -> Result<(), Memory>
+    ensures { OnOk result (control.new.items ≡ control.old.items ++ lccn_in subfield.now) }
 {
-    if let Some(number) = lccn(alloc, text)? {
+    if subfield.code != NUMBER {
+        return Ok(());
+    }
+    if let Some(number) = lccn(alloc, subfield.text.bytes())? {
         let source = Bytes::of(alloc, &CONGRESS)?;
         control.push((source, number))?;
     }
@@ -122,22 +122,26 @@ fn push_system_numbers(
     control: &mut Vec<(Bytes, Bytes)>,
     subfields: &[Subfield],
 ) -> Result<(), Memory>
-    ensures { OnOk result (control.new.items ≡ control.old.items ++ flat_map (from_a (λ text. option_to_list (system_key text))) subfields.now) }
+    ensures { OnOk result (control.new.items ≡ control.old.items ++ flat_map system_number_in subfields.now) }
 {
     for subfield in subfields {
-        if subfield.code == NUMBER {
-            push_some(control, system_number(alloc, subfield.text.bytes())?)?;
-        }
+        push_system_number(alloc, control, subfield)?;
     }
     Ok(())
 }
 
-/// Pushes the value, where there is one.
-fn push_some<T: Drop>(list: &mut Vec<T>, value: Option<T>) -> Result<(), Memory>
-    ensures { OnOk result (list.new.items ≡ list.old.items ++ option_to_list value) }
+fn push_system_number(
+    alloc: Global,
+    control: &mut Vec<(Bytes, Bytes)>,
+    subfield: &Subfield,
+) -> Result<(), Memory>
+    ensures { OnOk result (control.new.items ≡ control.old.items ++ system_number_in subfield.now) }
 {
-    if let Some(value) = value {
-        list.push(value)?;
+    if subfield.code != NUMBER {
+        return Ok(());
+    }
+    if let Some(pair) = system_number(alloc, subfield.text.bytes())? {
+        control.push(pair)?;
     }
     Ok(())
 }
@@ -153,12 +157,22 @@ fn push_isbns(isbns: &mut Vec<[u8; 13]>, field: &Field) -> Result<(), Memory>
 }
 
 fn push_isbns_of(isbns: &mut Vec<[u8; 13]>, subfields: &[Subfield]) -> Result<(), Memory>
-    ensures { OnOk result (isbns.new.items ≡ isbns.old.items ++ flat_map (from_a (λ text. option_to_list (isbn_key text))) subfields.now) }
+    ensures { OnOk result (isbns.new.items ≡ isbns.old.items ++ flat_map isbn_in subfields.now) }
 {
     for subfield in subfields {
-        if subfield.code == NUMBER {
-            push_some(isbns, isbn(subfield.text.bytes()))?;
-        }
+        push_isbn(isbns, subfield)?;
+    }
+    Ok(())
+}
+
+fn push_isbn(isbns: &mut Vec<[u8; 13]>, subfield: &Subfield) -> Result<(), Memory>
+    ensures { OnOk result (isbns.new.items ≡ isbns.old.items ++ isbn_in subfield.now) }
+{
+    if subfield.code != NUMBER {
+        return Ok(());
+    }
+    if let Some(digits) = isbn(subfield.text.bytes()) {
+        isbns.push(digits)?;
     }
     Ok(())
 }

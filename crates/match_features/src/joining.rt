@@ -12,13 +12,19 @@ impl Join for Features {
     ghost join = { join };
 
     fn joined(&self, alloc: Global, other: &Features) -> Result<Features, Memory> {
+        let control = self.control.union(alloc, &other.control)?;
+        let types = self.types.union(alloc, &other.types)?;
+        let isbns = self.isbns.union(alloc, &other.isbns)?;
+        let titles = self.titles.union(alloc, &other.titles)?;
+        let dates = self.dates.union(alloc, &other.dates)?;
+        let names = self.names.union(alloc, &other.names)?;
         Ok(Features {
-            control: self.control.union(alloc, &other.control)?,
-            types: self.types.union(alloc, &other.types)?,
-            isbns: self.isbns.union(alloc, &other.isbns)?,
-            titles: self.titles.union(alloc, &other.titles)?,
-            dates: self.dates.union(alloc, &other.dates)?,
-            names: self.names.union(alloc, &other.names)?,
+            control,
+            types,
+            isbns,
+            titles,
+            dates,
+            names,
         })
     }
 

@@ -5,10 +5,12 @@ ghost use Rattle.std.specs.Char.{is_ascii_digit};
 ghost use Rattle.std.specs.List.{list_all};
 ghost use Rattle.marc_parts.specs.Loads.{is_loadable, is_utf8_field};
 ghost use Rattle.workset_keys.specs.Names.{HasTexts};
+ghost use Rattle.union_base.specs.SortedLists.{set_of};
+ghost use Rattle.match_features.specs.Kept.{has_some, pairs_cmp, texts_cmp};
 ghost use Rattle.match_features.specs.Gathering.{own_pair, assigned_pair, types_of, date_in, features};
 
 use crate::features::Features;
-use crate::gathering::gathered;
+use crate::gathering::{Findings, gathered};
 use isbn_keys::control::pair;
 use marc_fields::marc_record::Record;
 use marc_parts::parts::{control_number, text_under};
@@ -32,13 +34,38 @@ pub fn features_of(alloc: Global, library: &LibraryCode, rec: &Record) -> Result
 {
     let fields = rec.fields.as_slice();
     let found = gathered(alloc, first_pairs(alloc, library, rec)?, fields)?;
+    let types = types_of(alloc, rec)?;
+    let dates = date_in(alloc, text_under(b"008", fields))?;
+    of_lists(found, types, dates)
+}
+
+/// The features with these lists, sorted and rid of repeats.
+fn of_lists(
+    found: Findings,
+    types: Vec<[u8; 2]>,
+    dates: Vec<[u8; 4]>,
+) -> Result<Features, Memory>
+    requires { IsTrue (has_some found.control.items) }
+    ensures control { IfOk result (λ made. made.control ≡ set_of pairs_cmp found.control.items) }
+    ensures types { IfOk result (λ made. made.types ≡ set_of texts_cmp types.items) }
+    ensures isbns { IfOk result (λ made. made.isbns ≡ set_of texts_cmp found.isbns.items) }
+    ensures titles { IfOk result (λ made. made.titles ≡ set_of texts_cmp found.titles.items) }
+    ensures dates { IfOk result (λ made. made.dates ≡ set_of texts_cmp dates.items) }
+    ensures names { IfOk result (λ made. made.names ≡ set_of texts_cmp found.names.items) }
+{
+    let control = SortedList::of(found.control)?;
+    let types = SortedList::of(types)?;
+    let isbns = SortedList::of(found.isbns)?;
+    let titles = SortedList::of(found.titles)?;
+    let dates = SortedList::of(dates)?;
+    let names = SortedList::of(found.names)?;
     Ok(Features {
-        control: SortedList::of(found.control)?,
-        types: SortedList::of(types_of(alloc, rec)?)?,
-        isbns: SortedList::of(found.isbns)?,
-        titles: SortedList::of(found.titles)?,
-        dates: SortedList::of(date_in(alloc, text_under(b"008", fields))?)?,
-        names: SortedList::of(found.names)?,
+        control,
+        types,
+        isbns,
+        titles,
+        dates,
+        names,
     })
 }
 

@@ -5,7 +5,7 @@ use Rattle.match_features.proofs.gathering.gathered.Given as goal
 
 abbrev pub invariant-loop-field : goal.invariant-loop-field
 invariant-loop-field l =
-    (l.found.control.items ≡ l.initial.found.control.items ++ flat_map numbers_in (take l.field-index l.fields))
+    (l.found.control.items ≡ l.fn.control.items ++ flat_map numbers_in (take l.field-index l.fields))
     × (l.found.isbns.items ≡ flat_map isbns_in (take l.field-index l.fields))
     × (l.found.titles.items ≡ flat_map title_in (take l.field-index l.fields))
     × (l.found.names.items ≡ flat_map name_in (take l.field-index l.fields))
