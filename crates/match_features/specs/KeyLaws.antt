@@ -1,6 +1,6 @@
 -- Features that meet have a key in common, and a union has the keys of its two sides.
-use Rattle.std.proofs.Common.{◌≡◌, ◌≢◌, ◌↔◌, ◌⊎◌, inl, inr, ℕ, Bool, true, false, ◌&&◌, ◌||◌, IsTrue, List, ◌++◌, map, All, AllPairs, Contains, refl, sym, ap, subst, ◌∙◌}
-use Rattle.std.specs.Cmp.Lexicographic.{nat_list_cmp_total}
+use Rattle.std.proofs.Common.{nat_eq, ◌≡◌, ◌≢◌, ◌↔◌, ◌⊎◌, inl, inr, ℕ, Bool, true, false, ◌&&◌, ◌||◌, IsTrue, List, ◌++◌, map, All, AllPairs, Contains, refl, sym, ap, subst, ◌∙◌}
+use Rattle.std.specs.Cmp.Lexicographic.{nat_list_cmp_total, pointwise, same_text}
 use Rattle.std.proofs.lemmas.List.Elements.{Contains-append_left, Contains-append_right, Contains-append_cases, All-append}
 use Rattle.union_base.specs.Both.{both_true}
 use Rattle.union_base.specs.Ties.{texts_apart}
@@ -16,7 +16,7 @@ use Rattle.match_features.specs.JoinLaws.{parts}
 use Rattle.match_features.specs.Meeting.{meet_by_control, meet_by_isbn, meet_by_title, meet}
 use Rattle.match_features.specs.MeetLaws.{or_more}
 use Rattle.match_features.specs.MemberLaws.{or_cases, or_left, or_right, member-from_common, common-from_member, member-from_union, union-from_member, member-map, member-from_map, once-from_ascending, once-append, apart_maps}
-use Rattle.match_features.specs.Keys.{control_key, keys, HasKey, share_key}
+use Rattle.match_features.specs.Keys.{control_key, keys, HasKey, share_key, key_eq}
 
 -- those that meet share a key: a control pair, an ISBN or a title
 share-from_meet : (x y : Features) → IsTrue (meet x y) → IsTrue (share_key x y)
@@ -115,3 +115,20 @@ features_keys_once x =
     (once-from_ascending nat_list_cmp_total texts_apart Title (λ p q e. cc) x.titles kept.titles)
     (All-append (λ j. All (λ k. j ≢ k) (map Title x.titles)) (map control_key x.control) (map Isbn x.isbns)
     (apart_maps control_key Title (λ p q e. cc) x.control x.titles) (apart_maps Isbn Title (λ p q e. cc) x.isbns x.titles))
+
+same_texts : (a b : List ℕ) → pointwise nat_eq a b ≡ true → a ≡ b
+same_texts a b h = same_text a b (sym h)
+
+-- keys that compare as equal are one
+pub features_keys_exact : (j k : FeatureKey) → key_eq j k ≡ true → j ≡ k
+features_keys_exact (Control a b) (Control c d) h =
+    let both = both_true (pointwise nat_eq a c) (pointwise nat_eq b d) h in
+    λ i. Control (same_texts a c both.0 i) (same_texts b d both.1 i)
+features_keys_exact (Isbn a) (Isbn b) h = ap Isbn (same_texts a b h)
+features_keys_exact (Title a) (Title b) h = ap Title (same_texts a b h)
+features_keys_exact (Control a b) (Isbn c) h = cc
+features_keys_exact (Control a b) (Title c) h = cc
+features_keys_exact (Isbn a) (Control b c) h = cc
+features_keys_exact (Isbn a) (Title b) h = cc
+features_keys_exact (Title a) (Control b c) h = cc
+features_keys_exact (Title a) (Isbn b) h = cc

@@ -1,6 +1,6 @@
 //! The keys that features are looked up by, as `specs/Keys.antt` has them.
-ghost use Rattle.std.specs.Prelude.{◌≡◌, ◌++◌, IfOk, OnOk, map};
-ghost use Rattle.match_features.specs.Keys.{control_key, keys};
+ghost use Rattle.std.specs.Prelude.{◌≡◌, ◌≢◌, ◌↔◌, ◌++◌, IfOk, OnOk, Contains, AllPairs, map};
+ghost use Rattle.match_features.specs.Keys.{control_key, keys, HasKey};
 
 use crate::features::Features;
 use std::alloc::Global;
@@ -36,7 +36,9 @@ impl Copied for FeatureKey {
 ///
 /// Answers `Memory` where memory ran out.
 pub fn feature_keys(alloc: Global, features: &Features) -> Result<Vec<FeatureKey>, Memory>
-    ensures { IfOk result (λ found. found.items ≡ keys features.now) }
+    ensures value { IfOk result (λ found. found.items ≡ keys features.now) }
+    ensures had { IfOk result (λ found. (k : FeatureKey) → Contains found.items k ↔ HasKey features.now k) }
+    ensures once { IfOk result (λ found. AllPairs (λ j k. j ≢ k) found.items) }
 {
     let control = features.control.as_slice();
     let isbns = features.isbns.as_slice();

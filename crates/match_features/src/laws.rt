@@ -2,14 +2,14 @@
 //! common.
 //!
 //! Each function here does nothing when it runs: its contract is the law. The same laws stand as the lemmas
-//! `features_join_laws`, `features_match_laws`, `features_key_laws`, `features_keys` and
-//! `features_keys_once` in `specs/`.
+//! `features_join_laws`, `features_match_laws`, `features_key_laws`, `features_keys`,
+//! `features_keys_once` and `features_keys_exact` in `specs/`.
 ghost use Rattle.std.specs.Prelude.{◌≡◌, ◌≢◌, ◌↔◌, ◌⊎◌, IsTrue, Contains, AllPairs};
 ghost use Rattle.match_features.specs.declared.features.Features.{Features};
 ghost use Rattle.match_features.specs.declared.keys.FeatureKey.{FeatureKey};
 ghost use Rattle.match_features.specs.Joining.{join};
 ghost use Rattle.match_features.specs.Meeting.{meet};
-ghost use Rattle.match_features.specs.Keys.{keys, HasKey, share_key};
+ghost use Rattle.match_features.specs.Keys.{keys, HasKey, share_key, key_eq};
 
 /// Merging is idempotent, commutative and associative.
 pub fn merging_is_a_union()
@@ -56,4 +56,9 @@ pub fn keys_are_had()
 /// None of them stands twice.
 pub fn keys_stand_once()
     ensures { (x : Features) → AllPairs (λ j k. j ≢ k) (keys x) }
+{}
+
+/// Keys that compare as equal are one key.
+pub fn keys_are_exact()
+    ensures { (j k : FeatureKey) → IsTrue (key_eq j k) → j ≡ k }
 {}
