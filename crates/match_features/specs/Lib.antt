@@ -1,0 +1,10 @@
+pub mod Kept
+pub mod KeptLaws
+pub mod Gathering
+pub mod Joining
+pub mod JoinLaws
+pub mod Meeting
+pub mod MemberLaws
+pub mod MeetLaws
+pub mod Keys
+pub mod KeyLaws
