@@ -14,22 +14,26 @@ set -eu
 [ $# -eq 2 ] || { sed -n '5p' "$0" >&2; exit 2; }
 [ -x "$1" ] || { echo "not a program: $1" >&2; exit 2; }
 command -v yaz-marcdump >/dev/null || { echo "no yaz-marcdump" >&2; exit 2; }
+[ -x /usr/bin/time ] || { echo "no /usr/bin/time" >&2; exit 2; }
 
 python3 - "$1" "$2" <<'P'
-import os, statistics, subprocess, sys
+import os, statistics, subprocess, sys, tempfile
 program, path = sys.argv[1:]
 RUNS = 3
 DONE = {0, 1}
 
 
 def run(command):
-    """The processor time in seconds, and the largest memory in megabytes."""
-    with open(os.devnull, "wb") as nowhere:
-        child = subprocess.Popen(command, stdout=nowhere, stderr=nowhere)
-        _, status, spent = os.wait4(child.pid, 0)
-    child.returncode = os.waitstatus_to_exitcode(status)
-    assert child.returncode in DONE, (command, child.returncode)
-    return spent.ru_utime + spent.ru_stime, spent.ru_maxrss / 1024
+    """The processor time in seconds, and the largest memory in megabytes, as GNU time tells them."""
+    with tempfile.NamedTemporaryFile("r") as told:
+        status = subprocess.call(
+            ["/usr/bin/time", "-q", "-f", "%U %S %M", "-o", told.name, *command],
+            stdout=subprocess.DEVNULL,
+            stderr=subprocess.DEVNULL,
+        )
+        assert status in DONE, (command, status)
+        user, system, kilobytes = told.read().split()
+    return float(user) + float(system), int(kilobytes) / 1024
 
 
 size = os.path.getsize(path)
@@ -47,7 +51,7 @@ for name, command, peer in (
             most[which] = max(most[which], memory)
     ours, theirs = map(statistics.median, spent)
     print(
-        f"{name}: {ours:.2f} s, {most[0]:.0f} MB; {' '.join(peer[:-1])}: {theirs:.2f} s, {most[1]:.0f} MB; "
+        f"{name}: {ours:.2f} s, {most[0]:.1f} MB; {' '.join(peer[:-1])}: {theirs:.2f} s, {most[1]:.1f} MB; "
         f"ratio {theirs / ours:.2f}"
     )
 P
