@@ -1,7 +1,6 @@
+pub mod Streams
+pub mod Reports
 pub mod Exported
-pub mod Plain
-pub mod Readings
+pub mod Currents
+pub mod Exports
 pub mod Runs
-pub mod Statuses
-pub mod Texts
-pub mod Words
