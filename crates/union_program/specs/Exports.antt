@@ -27,8 +27,8 @@ abbrev pub export_text : List ℕ → List Record → List ℕ
 export_text library records = flat_map (λ pair. exported_text library pair.1) (current library records)
 
 -- `LIB frames F added A replaced R removed D absent X refused N`
-unfoldable pub counts_line : List ℕ → ℕ → ℕ → ℕ → ℕ → ℕ → ℕ → List ℕ
-counts_line library frames added replaced removed absent refused =
+unfoldable pub report_line : List ℕ → ℕ → ℕ → ℕ → ℕ → ℕ → ℕ → List ℕ
+report_line library frames added replaced removed absent refused =
     library
     ++ (counted (codes "frames") frames
     ++ (counted (codes "added") added
@@ -41,7 +41,7 @@ counts_line library frames added replaced removed absent refused =
 abbrev pub report_text : List ℕ → List Frame → List Record → List ℕ
 report_text library all records =
     refused_lines library (refused all)
-    ++ counts_line library (length all) (added library records) (replaced library records) 0 0 (length (refused all))
+    ++ report_line library (length all) (added library records) (replaced library records) 0 0 (length (refused all))
 
 -- the text is the export of the library's stream
 abbrev pub IsExport : List ℕ → List ℕ → List ℕ → Type 0

@@ -1,6 +1,9 @@
 pub mod Streams
 pub mod Reports
+pub mod Tallies
 pub mod Exported
 pub mod Currents
 pub mod Exports
+pub mod Stops
+pub mod Readings
 pub mod Runs

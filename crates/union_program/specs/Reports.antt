@@ -68,14 +68,14 @@ abbrev pub refused_lines : List ℕ → List RefusedFrame → List ℕ
 refused_lines library all = flat_map (refused_line library) all
 
 -- `LIB frames F load L withdraw W refused N`
-unfoldable pub check_line : List ℕ → List Frame → List ℕ
-check_line library all =
+unfoldable pub check_line : List ℕ → ℕ → ℕ → ℕ → ℕ → List ℕ
+check_line library frames load withdraw refused =
     library
-    ++ (counted (codes "frames") (length all)
-    ++ (counted (codes "load") (loads all)
-    ++ (counted (codes "withdraw") (withdrawals all)
-    ++ (counted (codes "refused") (length (refused all)) ++ 0x0A ∷ []))))
+    ++ (counted (codes "frames") frames
+    ++ (counted (codes "load") load
+    ++ (counted (codes "withdraw") withdraw ++ (counted (codes "refused") refused ++ 0x0A ∷ []))))
 
--- the text that `check` writes of a library's frames
+-- the text that `check` writes of a library whose frames these are
 abbrev pub check_text : List ℕ → List Frame → List ℕ
-check_text library all = refused_lines library (refused all) ++ check_line library all
+check_text library all =
+    refused_lines library (refused all) ++ check_line library (length all) (loads all) (withdrawals all) (length (refused all))

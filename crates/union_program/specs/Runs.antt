@@ -13,14 +13,9 @@ use Rattle.union_words.specs.declared.status.Status.TheVariants.{Done, DoneWithR
 use Rattle.union_program.specs.Streams.{Frame}
 use Rattle.union_program.specs.Reports.{refused, check_text}
 use Rattle.union_program.specs.Exports.{is_taken, IsExport, IsReport}
+use Rattle.union_program.specs.Readings.{Inflow, HasFailed, IsOverfull}
 use Rattle.union_program.specs.declared.limits.TheConstants.{LARGEST_SOURCE}
 use Rattle.union_program.specs.declared.refused.RefusedFrame.{RefusedFrame}
-
--- an input: its bytes, where they are told, and how often it failed before the run and after it
-pub record Inflow : Type 0 where
-  pub told : Option (List ℕ)
-  pub before : ℕ
-  pub after : ℕ
 
 -- an output: what was written on it before the run and after it, where that is told, and how often it failed
 pub record Outflow : Type 0 where
@@ -30,9 +25,6 @@ pub record Outflow : Type 0 where
   pub after : ℕ
 
 -- something failed there in the run
-abbrev pub HasFailed : Inflow → Type 0
-HasFailed input = Rose input.before input.after
-
 abbrev pub HasFailedAt : Outflow → Type 0
 HasFailedAt output = Rose output.before output.after
 
@@ -76,7 +68,7 @@ IsNoted output text = Appends output.old output.new text ⊎ (AppendsFront outpu
 pub record EndsAtInput (input : Input) (flow : Inflow) (status : Status) : Type 0 where
   pub open_fault : (i : Input) → status ≡ OpenFault i → (i ≡ input) × HasFailed flow
   pub read_fault : (i : Input) → status ≡ ReadFault i → (i ≡ input) × HasFailed flow
-  pub too_long : (i : Input) → status ≡ TooLong i → (i ≡ input) × IfSome flow.told (λ bytes. LARGEST_SOURCE < length bytes)
+  pub too_long : (i : Input) → status ≡ TooLong i → (i ≡ input) × IsOverfull flow
   pub too_long_where : (bytes : List ℕ) → flow.told ≡ Some bytes → LARGEST_SOURCE < length bytes → ¬ HasFailed flow
       → (status ≡ TooLong input) ⊎ (status ≡ Memory)
 
@@ -107,7 +99,8 @@ pub record IsExportRun (library : List ℕ) (file : Inflow) (out notes : Outflow
       × ((text : List ℕ) × IsExport library bytes text × Appends out.old out.new text)
       × ((text : List ℕ) × IsReport library bytes text × Appends notes.old notes.new text))
   pub untouched : IsTrue (is_early status) → Keeps out.old out.new
-  pub part : status ≡ WriteFault → IfSome file.told (λ bytes. (text : List ℕ) × IsExport library bytes text × AppendsFront out.old out.new text)
+  pub part : status ≡ WriteFault → IfSome file.told (λ bytes. ((text : List ℕ) × IsExport library bytes text × AppendsFront out.old out.new text)
+      × ((text : List ℕ) × IsReport library bytes text × AppendsFront notes.old notes.new text))
 
   -- what this stage takes
   pub not_built : status ≡ NotBuilt → IfSome file.told (λ bytes. (length bytes ≤ LARGEST_SOURCE) × (is_taken (frames bytes) ≡ false))

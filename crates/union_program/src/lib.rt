@@ -1,6 +1,9 @@
 //! The union catalogue as one call: from the words of a command line to the texts on its two outputs.
 #![tactic(auto)]
 
+pub mod counting;
 pub mod limits;
 pub mod lines;
 pub mod refused;
+pub mod stop;
+pub mod tally;
