@@ -1,8 +1,7 @@
 //! The counting of a stream's frames.
 ghost use Rattle.std.specs.Prelude.{◌≡◌, ◌<◌, ◌≤◌, ◌+◌, ◌++◌, ◌∷◌, [], List, None, Some, OnOk};
 ghost use Rattle.iso2709_frame.specs.Frames.{IsWhole};
-ghost use Rattle.marc_rules.specs.NineteenRules.{first_rule, status_of};
-ghost use Rattle.marc_rules.specs.Refusals.{AnswersFrame};
+ghost use Rattle.marc_rules.specs.NineteenRules.{status_of};
 ghost use Rattle.union_program.specs.Streams.{Frame, failure_of};
 ghost use Rattle.union_program.specs.Tallies.{IsTally};
 
@@ -11,12 +10,9 @@ use crate::tally::Tally;
 use iso2709_frame::cut::Cut;
 use marc_fields::rules::Rule;
 use marc_parts::loads::is_deleted;
-use marc_rules::check::{Refusal, check_frame};
+use marc_rules::check::{Refusal, accepted_status};
 use std::alloc::{AllocError, Global};
 use union_base::memory::Memory;
-
-/// Where a leader has the record's status (MARC 21, 'Leader').
-const STATUS: usize = 5;
 
 impl Tally {
     /// The count of no frames.
@@ -63,27 +59,6 @@ impl Tally {
     }
 }
 
-/// The status of a frame that breaks no rule, or the first rule that it breaks.
-fn frame_status(alloc: Global, cut: Cut, frame: &[u8]) -> Result<u8, Refusal>
-    requires { cut ≡ Cut.Whole → IsWhole frame.now }
-    ensures { AnswersFrame result (first_rule cut frame.now) (λ status. status ≡ status_of frame.now) }
-{
-    match check_frame(alloc, cut, frame) {
-        Ok(_) => Ok(status_of(frame)),
-        Err(refusal) => Err(refusal),
-    }
-}
-
-/// The byte of the leader that has the record's status, 0 where the frame is shorter. Takes no memory.
-pub fn status_of(frame: &[u8]) -> u8
-    ensures { result ≡ status_of frame.now }
-{
-    match frame.get(STATUS) {
-        Some(status) => *status,
-        None => 0,
-    }
-}
-
 /// Counts a frame by the first rule that it breaks, or by its status.
 pub fn count_frame(
     alloc: Global,
@@ -96,7 +71,7 @@ pub fn count_frame(
     ensures counted { OnOk result ((all : List Frame) → IsTally all tally.old → IsTally (all ++ (cut, frame.now) ∷ []) tally.new) }
     ensures frames { OnOk result (tally.new.frames ≡ tally.old.frames + 1) }
 {
-    match frame_status(alloc, cut, frame) {
+    match accepted_status(alloc, cut, frame) {
         Ok(status) => {
             tally.accept(status);
             Ok(())
