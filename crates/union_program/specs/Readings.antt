@@ -3,7 +3,7 @@ use Rattle.std.specs.Prelude.{◌≡◌, ℕ, ◌<◌, ◌≤◌, List, length, 
 use Rattle.std.specs.declared.option.Option.{Option}
 use Rattle.std.specs.declared.result.Result.{Result}
 use Rattle.union_io.specs.Causes.{Rose}
-use Rattle.union_program.specs.declared.limits.TheConstants.{LARGEST_SOURCE}
+use Rattle.library_stream.specs.declared.frame_reader.TheConstants.{LARGEST_SOURCE}
 use Rattle.union_program.specs.declared.stop.Stop.{Stop}
 use Rattle.union_program.specs.declared.stop.Stop.TheVariants.{TooLong, Failed, Memory}
 

@@ -14,7 +14,7 @@ use Rattle.union_program.specs.Streams.{Frame}
 use Rattle.union_program.specs.Reports.{refused, check_text}
 use Rattle.union_program.specs.Exports.{is_taken, IsExport, IsReport}
 use Rattle.union_program.specs.Readings.{Inflow, HasFailed, IsOverfull}
-use Rattle.union_program.specs.declared.limits.TheConstants.{LARGEST_SOURCE}
+use Rattle.library_stream.specs.declared.frame_reader.TheConstants.{LARGEST_SOURCE}
 use Rattle.union_program.specs.declared.refused.RefusedFrame.{RefusedFrame}
 
 -- an output: what was written on it before the run and after it, where that is told, and how often it failed

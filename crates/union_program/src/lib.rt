@@ -1,6 +1,7 @@
 //! The union catalogue as one call: from the words of a command line to the texts on its two outputs.
 #![tactic(auto)]
 
+pub mod check;
 pub mod counting;
 pub mod limits;
 pub mod lines;
