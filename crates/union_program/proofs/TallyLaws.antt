@@ -12,10 +12,10 @@ use Rattle.union_program.specs.declared.refused.RefusedFrame.{RefusedFrame}
 use Rattle.union_program.specs.Streams.{Frame, failure_of, is_accepted, accepted}
 use Rattle.union_program.specs.Reports.{refusal_of, refused_from, refused, is_withdrawing, loads, withdrawals}
 
-passed_one : {A : Type 0} (p : A → Bool) (x : A) → p x ≡ true → filter p (x ∷ []) ≡ x ∷ []
+pub passed_one : {A : Type 0} (p : A → Bool) (x : A) → p x ≡ true → filter p (x ∷ []) ≡ x ∷ []
 passed_one p x h = rw h refl
 
-failed_one : {A : Type 0} (p : A → Bool) (x : A) → p x ≡ false → filter p (x ∷ []) ≡ []
+pub failed_one : {A : Type 0} (p : A → Bool) (x : A) → p x ≡ false → filter p (x ∷ []) ≡ []
 failed_one p x h = rw h refl
 
 -- an accepted frame more
@@ -52,7 +52,7 @@ refused-one_more all frame failure number is_next fails =
     ∙ (ap (λ o. refused_from 1 all ++ refusal_of (1 + length all) o) fails
     ∙ ap (λ k. refused_from 1 all ++ refusal_of k (Some failure)) place)
 
-count_by-one_more : {A : Type 0} (p : A → Bool) (xs : List A) (x : A) → count_by p (xs ++ x ∷ []) ≡ count_by p xs + cond (p x) 1 0
+pub count_by-one_more : {A : Type 0} (p : A → Bool) (xs : List A) (x : A) → count_by p (xs ++ x ∷ []) ≡ count_by p xs + cond (p x) 1 0
 count_by-one_more p xs x = fold-append (λ (a : ℕ) x. a + cond (p x) 1 0) 0 xs (x ∷ [])
 
 pub withdrawals-one_more : (all : List Frame) (frame : Frame) (status : ℕ) → failure_of frame ≡ None → status_of frame.1 ≡ status

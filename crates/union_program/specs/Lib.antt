@@ -4,6 +4,8 @@ pub mod Tallies
 pub mod Exported
 pub mod Currents
 pub mod Exports
+pub mod Loadings
 pub mod Stops
 pub mod Readings
 pub mod Runs
+pub mod Prepared

@@ -3,8 +3,14 @@
 
 pub mod check;
 pub mod counting;
+pub mod currents;
+pub mod export;
+pub mod exporting;
 pub mod limits;
 pub mod lines;
+pub mod loading;
+pub mod loads;
+pub mod prepared;
 pub mod refused;
 pub mod stop;
 pub mod tally;
