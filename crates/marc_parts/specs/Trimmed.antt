@@ -1,4 +1,4 @@
--- Texts without the blanks at their ends.
+-- Texts without the blanks at their ends. A blank is the byte 0x20 and no other.
 use Rattle.std.specs.Prelude.{ℕ, ◌==◌, List, [], ◌∷◌, if◌then◌else◌}
 
 abbrev pub blank : ℕ

@@ -1,0 +1,12 @@
+//! The parts of a MARC 21 record by their tags: the fields under a tag, the control number, and whether the record has what
+//! a load or a withdrawal asks for.
+//!
+//! Guarantee: each answer is the one that specs/Parts.antt and specs/Loads.antt define. Cost: a walk over the fields; no
+//! memory.
+#![tactic(auto)]
+
+pub mod loads;
+pub mod parts;
+#[cfg(test)]
+mod tests;
+pub mod trimming;
