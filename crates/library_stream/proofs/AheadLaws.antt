@@ -1,12 +1,11 @@
 -- How the frames ahead follow one answer after another.
-use Rattle.std.proofs.Common.{◌≡◌, ℕ, ◌≤◌, List, [], ◌++◌, length, refl, sym, ap, ◌∙◌, arith, append_assoc, append-nil}
+use Rattle.std.proofs.Common.{◌≡◌, false, ℕ, ◌≤◌, List, [], ◌++◌, length, refl, sym, ap, ◌∙◌, arith, append_assoc, append-nil}
 use Rattle.std.specs.Prelude.{Option, Some, None, IfSome}
 use Rattle.iso2709_frame.specs.declared.cut.Cut.{Cut}
 use Rattle.library_stream.specs.declared.answer.Next.{Next}
 use Rattle.library_stream.specs.declared.answer.Next.TheVariants.{Frame, End, TooLong, Failed}
-use Rattle.library_stream.specs.declared.course.Course.TheVariants.{Ended}
 use Rattle.library_stream.specs.Streaming.{Streaming, opened, passes, frames_on, frames_ahead, is_too_long}
-use Rattle.library_stream.specs.Answering.{Takes, Answers, StopsAtLimit, AllHanded, FrontHanded, Fewer}
+use Rattle.library_stream.specs.Answering.{Takes, Answers, AllHanded, FrontHanded, Fewer}
 use Rattle.iso2709_frame.specs.Frames.{frames}
 use Rattle.iso2709_frame.specs.Cutting.{told}
 use Rattle.std.proofs.lemmas.Bool.{ltb-false, ltb-true}
@@ -46,22 +45,24 @@ Fewer-behind End a b c bound fewer = omega arith
 Fewer-behind TooLong a b c bound fewer = omega arith
 Fewer-behind Failed a b c bound fewer = omega arith
 
--- behind the end of the source, what was handed out are all its frames
-pub handed_all : (limit : ℕ) (b : Streaming) (one two : Option (List ℕ)) (handed : List (Cut × List ℕ)) → Takes (opened limit) one b two handed
-    → b.course ≡ Ended → IfSome one (λ bytes. AllHanded limit bytes handed)
-handed_all limit b None two handed takes ended = tt
-handed_all limit b (Some bytes) None handed takes ended = absurd takes
-handed_all limit b (Some bytes) (Some rest) handed takes ended =
-    let fits : length bytes ≤ limit = ltb-false limit (length bytes) (takes.1 ∙ ap (λ course. passes course rest) ended) in
+-- at the end of the source, what was handed out are all its frames
+pub handed_all : (limit : ℕ) (b c : Streaming) (one two three : Option (List ℕ)) (handed : List (Cut × List ℕ))
+    → Takes (opened limit) one b two handed → Answers End b two c three → IfSome one (λ bytes. AllHanded limit bytes handed)
+handed_all limit b c None two three handed takes ends = tt
+handed_all limit b c (Some bytes) None three handed takes ends = absurd takes
+handed_all limit b c (Some bytes) (Some rest) None handed takes ends = absurd ends.0
+handed_all limit b c (Some bytes) (Some rest) (Some more) handed takes ends =
+    let over : is_too_long (opened limit) bytes ≡ false = takes.1 ∙ ends.0.1 ∙ ap (λ course. passes course more) ends.1 in
+    let fits : length bytes ≤ limit = ltb-false limit (length bytes) over in
+    let none : frames_ahead b rest ≡ [] = ends.0.0 ∙ ap (λ course. frames_on course c.pending c.unread more) ends.1 in
     record {
       fits = fits;
-      all = ap frames (sym (take_all limit bytes fits)) ∙ takes.0 ∙ ap (λ course. handed ++ frames_on course b.pending b.unread rest) ended
-          ∙ append-nil handed;
+      all = ap frames (sym (take_all limit bytes fits)) ∙ takes.0 ∙ ap (λ later. handed ++ later) none ∙ append-nil handed;
     }
 
 -- where the source is too long, what was handed out are the frames that end within the limit
 pub handed_front : (limit : ℕ) (b c : Streaming) (one two three : Option (List ℕ)) (handed : List (Cut × List ℕ))
-    → Takes (opened limit) one b two handed → StopsAtLimit b two c three → IfSome one (λ bytes. FrontHanded limit bytes handed)
+    → Takes (opened limit) one b two handed → Answers TooLong b two c three → IfSome one (λ bytes. FrontHanded limit bytes handed)
 handed_front limit b c None two three handed takes stops = tt
 handed_front limit b c (Some bytes) None three handed takes stops = absurd takes
 handed_front limit b c (Some bytes) (Some rest) None handed takes stops = absurd stops.takes

@@ -19,7 +19,7 @@ use union_base::memory::Memory;
 use union_io::failed::Failed;
 use union_io::source::Source;
 
-/// The most bytes that a library's source may be allowed.
+/// The most bytes that a library's source may be allowed, 2^40. A reader itself takes any limit.
 pub const LARGEST_SOURCE: u64 = 1_099_511_627_776;
 
 /// Reads a source piece by piece, and hands out its frames one after the other. Contracts see what waits for the end of its

@@ -11,3 +11,7 @@ pub mod answer;
 pub mod course;
 pub mod frame_reader;
 mod piece;
+#[cfg(test)]
+mod streams;
+#[cfg(test)]
+mod tests;
