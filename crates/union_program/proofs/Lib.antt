@@ -7,3 +7,4 @@ pub mod ExportedSizes
 pub mod CurrentLaws
 pub mod LoadingLaws
 pub mod PreparedLaws
+pub mod NoteLaws

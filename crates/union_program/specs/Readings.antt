@@ -5,7 +5,7 @@ use Rattle.std.specs.declared.result.Result.{Result}
 use Rattle.union_io.specs.Causes.{Rose}
 use Rattle.library_stream.specs.declared.frame_reader.TheConstants.{LARGEST_SOURCE}
 use Rattle.union_program.specs.declared.stop.Stop.{Stop}
-use Rattle.union_program.specs.declared.stop.Stop.TheVariants.{TooLong, Failed, Memory}
+use Rattle.union_program.specs.declared.stop.Stop.TheVariants.{NotOpened, TooLong, Failed, Memory}
 
 -- an input: its bytes, where they are told, and how often it failed before it was read and after
 pub record Inflow : Type 0 where
@@ -21,8 +21,9 @@ HasFailed input = Rose input.before input.after
 abbrev pub IsOverfull : Inflow → Type 0
 IsOverfull input = IfSome input.told (λ bytes. LARGEST_SOURCE < length bytes)
 
--- a failed read raises the count, and nothing else does
+-- a failure raises the count, and nothing else does
 abbrev pub IsStop : Stop → Inflow → Type 0
+IsStop NotOpened input = HasFailed input
 IsStop TooLong input = IsOverfull input × (input.after ≡ input.before)
 IsStop Failed input = HasFailed input
 IsStop Memory input = input.after ≡ input.before

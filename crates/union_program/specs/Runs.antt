@@ -117,3 +117,10 @@ pub record IsTold (text : List ℕ) (out : Outflow) (status : Status) : Type 0 w
   pub done : status ≡ Done → Appends out.old out.new text
   pub part : status ≡ WriteFault → AppendsFront out.old out.new text
   pub write_fault : status ≡ WriteFault → HasFailedAt out
+
+-- two texts, one on each output: all of both, or a front of each and then a write failed
+pub record Written (out_text notes_text : List ℕ) (end : Status) (out notes : Outflow) (status : Status) : Type 0 where
+  pub kinds : (status ≡ end) ⊎ (status ≡ WriteFault)
+  pub done : status ≢ WriteFault → Appends out.old out.new out_text × Appends notes.old notes.new notes_text
+  pub part : status ≡ WriteFault → AppendsFront out.old out.new out_text × AppendsFront notes.old notes.new notes_text
+  pub write_fault : status ≡ WriteFault → HasFailedAt out ⊎ HasFailedAt notes

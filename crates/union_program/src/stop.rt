@@ -1,4 +1,4 @@
-//! Why the reading of a source stopped before its end.
+//! Why an input was not read to its end.
 ghost use Rattle.std.specs.Prelude.{◌≡◌};
 ghost use Rattle.union_program.specs.Stops.{stopped_with};
 
@@ -7,9 +7,11 @@ use union_base::memory::Memory;
 use union_words::input::Input;
 use union_words::status::Status;
 
-/// Why the reading of a source stopped before its end.
+/// Why an input was not read to its end.
 #[derive(Clone, Copy, Debug, PartialEq, Eq)]
 pub enum Stop {
+    /// It could not be opened.
+    NotOpened,
     /// It has more bytes than are read.
     TooLong,
     /// A read failed.
@@ -24,6 +26,7 @@ impl Stop {
         ensures { result ≡ stopped_with self input }
     {
         match self {
+            Stop::NotOpened => Status::OpenFault(input),
             Stop::TooLong => Status::TooLong(input),
             Stop::Failed => Status::ReadFault(input),
             Stop::Memory => Status::Memory,

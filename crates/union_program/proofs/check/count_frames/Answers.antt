@@ -1,9 +1,9 @@
-use Rattle.std.proofs.Common.{◌++◌, ◌∷◌, [], sym, subst, ◌∙◌, arith, append-nil}
+use Rattle.std.proofs.Common.{◌++◌, ◌∷◌, [], sym, subst, ◌∙◌, arith}
 use Rattle.library_stream.proofs.AheadLaws.{Takes-more, handed_all}
 use Rattle.library_stream.specs.Streaming.{opened}
 use Rattle.library_stream.specs.declared.frame_reader.TheConstants.{LARGEST_SOURCE}
 use Rattle.union_program.specs.Tallies.{IsTally}
-use Rattle.union_program.proofs.StreamLaws.{on_told, read_too_long}
+use Rattle.union_program.proofs.StreamLaws.{on_told}
 use Rattle.union_program.proofs.check.count_frames.Goals as goal
 
 pub loop-cut-preserved : goal.loop-cut-preserved
@@ -23,14 +23,10 @@ loop-cut-preserved g c =
 pub returns-in-End-clause-reads : goal.returns-in-End-clause-reads
 returns-in-End-clause-reads g c =
     let before = c.loop-cut.invariant in
-    let end = c.in-End.ensures.answers in
     let told = g.S.Source.left c.args.source.now in
-    let left = g.S.Source.left c.next.new.source in
-    let taken
-    = Takes-more (opened LARGEST_SOURCE) c.loop-cut.reader c.next.new.self told (g.S.Source.left c.loop-cut.source) left before.all [] before.taken end.0 in
-    let all_taken = rw (append-nil before.all) at taken in
     (
       c.in-End.ensures.faults ∙ before.faults,
       on_told told (λ bytes handed. (handed.fits, subst (λ fs. IsTally fs c.loop-cut.tally) (sym handed.all) before.counted))
-      (handed_all LARGEST_SOURCE c.next.new.self told left before.all all_taken end.1),
+      (handed_all LARGEST_SOURCE c.loop-cut.reader c.next.new.self told (g.S.Source.left c.loop-cut.source) (g.S.Source.left c.next.new.source) before.all
+      before.taken c.in-End.ensures.answers),
     )

@@ -1,4 +1,4 @@
-use Rattle.std.proofs.Common.{◌++◌, ◌∷◌, [], refl, sym, ap, subst, ◌∙◌, arith, append-nil}
+use Rattle.std.proofs.Common.{◌++◌, ◌∷◌, [], refl, sym, ap, subst, ◌∙◌, arith}
 use Rattle.library_stream.proofs.AheadLaws.{Takes-none, Takes-more, handed_all}
 use Rattle.library_stream.specs.Streaming.{opened, most_ahead}
 use Rattle.library_stream.specs.Answering.{Takes}
@@ -37,14 +37,10 @@ loop-cut-preserved g c =
 pub returns-in-End-clause-reads : goal.returns-in-End-clause-reads
 returns-in-End-clause-reads g c =
     let before = c.loop-cut.invariant in
-    let end = c.in-End.ensures.answers in
     let told = g.S.Source.left c.args.source.now in
-    let left = g.S.Source.left c.next.new.source in
-    let taken
-    = Takes-more (opened LARGEST_SOURCE) c.loop-cut.reader c.next.new.self told (g.S.Source.left c.loop-cut.source) left before.all [] before.taken end.0 in
-    let all_taken = rw (append-nil before.all) at taken in
     (
       c.in-End.ensures.faults ∙ before.faults,
       on_told told (λ bytes handed. (handed.fits, subst (λ fs. IsLoaded c.args.library.now fs c.loop-cut.loading) (sym handed.all) before.loaded))
-      (handed_all LARGEST_SOURCE c.next.new.self told left before.all all_taken end.1),
+      (handed_all LARGEST_SOURCE c.loop-cut.reader c.next.new.self told (g.S.Source.left c.loop-cut.source) (g.S.Source.left c.next.new.source) before.all
+      before.taken c.in-End.ensures.answers),
     )

@@ -1,0 +1,210 @@
+//! The top call.
+//!
+//! It does all that the program does, over whatever shelf of files and outputs it is handed. Each answer other than
+//! `Done` and `DoneWithRefusals` has its cause in a clause, and those two have the whole result.
+ghost use Rattle.std.specs.Prelude.{◌≡◌, ◌≢◌, ◌↔◌, ◌∷◌, [], ℕ, List, IsTrue, IfOk, IfSome, Some, None, MatchOption, slice_get, true, false};
+ghost use Rattle.std.specs.Io.KnownBytes.{Keeps};
+ghost use Rattle.iso2709_frame.specs.Frames.{frames};
+ghost use Rattle.union_io.specs.Counts.{SameElsewhere};
+ghost use Rattle.union_io.specs.Files.{told_of};
+ghost use Rattle.union_words.specs.Meanings.{file_meaning, libraries_meaning};
+ghost use Rattle.union_words.specs.Texts.{early_text};
+ghost use Rattle.union_words.specs.Words;
+ghost use Rattle.union_program.specs.Prepared.{IsPrepared};
+ghost use Rattle.union_program.specs.Runs.{is_early, is_done, IsNoted, IsCheck, IsExportRun, IsTold, Written};
+
+use crate::notes::put_early;
+use crate::prepared::Prepared;
+use crate::shelved::{check_file, export_file};
+use std::alloc::Global;
+use union_base::bytes::Bytes;
+use union_base::memory::Memory;
+use union_io::failed::Failed;
+use union_io::gate::Gate;
+use union_io::shelf::Shelf;
+use union_io::sink::{Sink, put_all};
+use union_words::input::Input;
+use union_words::job::{Job, MOST_LIBRARIES};
+use union_words::libraries::Libraries;
+use union_words::library_file::LibraryFile;
+use union_words::status::Status;
+use union_words::texts::{HELP, VERSION, help_text, version_text};
+
+/// Whether a run that ends so ended before it wrote to its output. Takes no memory.
+fn is_early(status: &Status) -> bool
+    ensures { result ≡ is_early status.now }
+{
+    match status {
+        Status::Done | Status::DoneWithRefusals | Status::WriteFault => false,
+        Status::Usage
+        | Status::OpenFault(_)
+        | Status::ReadFault(_)
+        | Status::TooLong(_)
+        | Status::Memory
+        | Status::NotBuilt => true,
+    }
+}
+
+/// Ends a run with this status: one that ended early has one line on the second output.
+fn end<N: Sink>(notes: &mut N, status: Status) -> Status
+    ensures same { result ≡ status }
+    ensures noted { IsTrue (is_early status)
+        → IsNoted (record { old = N.written notes.old; new = N.written notes.new; before = N.faults notes.old; after = N.faults notes.new })
+        (early_text status) }
+    ensures quiet { is_early status ≡ false → Keeps (N.written notes.old) (N.written notes.new) }
+{
+    if is_early(&status) {
+        put_early(notes, &status);
+    }
+    status
+}
+
+/// Writes a text of the program's own.
+fn tell<O: Sink>(out: &mut O, text: &[u8]) -> Status
+    ensures { IsTold text.now
+        (record { old = O.written out.old; new = O.written out.new; before = O.faults out.old; after = O.faults out.new }) result }
+{
+    match put_all(out, text) {
+        Ok(()) => Status::Done,
+        Err(Failed) => Status::WriteFault,
+    }
+}
+
+/// Checks the file of a library.
+fn run_check<F: Shelf, O: Sink>(
+    alloc: Global,
+    file: &LibraryFile<'_>,
+    shelf: &mut F,
+    out: &mut O,
+) -> Status
+    ensures run { IsCheck file.now.library (record {
+        told = told_of (F.files shelf.old) file.now.path.now;
+        before = F.faults shelf.old file.now.path.now;
+        after = F.faults shelf.new file.now.path.now })
+        (record { old = O.written out.old; new = O.written out.new; before = O.faults out.old; after = O.faults out.new })
+        result }
+    ensures others { SameElsewhere (F.faults shelf.old) (F.faults shelf.new) file.now.path.now }
+{
+    match Bytes::of(alloc, file.path) {
+        Ok(path) => check_file(alloc, &file.library, &path, shelf, out),
+        Err(Memory) => Status::Memory,
+    }
+}
+
+/// Writes the export and the report.
+fn write_export<O: Sink, N: Sink>(prepared: &Prepared, out: &mut O, notes: &mut N) -> Status
+    requires { IsTrue (is_done prepared.now.end) }
+    ensures { Written prepared.now.out.items prepared.now.report.items prepared.now.end
+        (record { old = O.written out.old; new = O.written out.new; before = O.faults out.old; after = O.faults out.new })
+        (record { old = N.written notes.old; new = N.written notes.new; before = N.faults notes.old; after = N.faults notes.new })
+        result }
+{
+    match put_all(out, prepared.out.as_slice()) {
+        Ok(()) => match put_all(notes, prepared.report.as_slice()) {
+            Ok(()) => prepared.end,
+            Err(Failed) => Status::WriteFault,
+        },
+        Err(Failed) => Status::WriteFault,
+    }
+}
+
+/// Exports the file of a library.
+fn run_export<F: Shelf, O: Sink, N: Sink>(
+    alloc: Global,
+    file: &LibraryFile<'_>,
+    shelf: &mut F,
+    out: &mut O,
+    notes: &mut N,
+) -> Status
+    ensures run { IsExportRun file.now.library (record {
+        told = told_of (F.files shelf.old) file.now.path.now;
+        before = F.faults shelf.old file.now.path.now;
+        after = F.faults shelf.new file.now.path.now })
+        (record { old = O.written out.old; new = O.written out.new; before = O.faults out.old; after = O.faults out.new })
+        (record { old = N.written notes.old; new = N.written notes.new; before = N.faults notes.old; after = N.faults notes.new })
+        result }
+    ensures noted { IsTrue (is_early result)
+        → IsNoted (record { old = N.written notes.old; new = N.written notes.new; before = N.faults notes.old; after = N.faults notes.new })
+        (early_text result) }
+    ensures others { SameElsewhere (F.faults shelf.old) (F.faults shelf.new) file.now.path.now }
+{
+    let path = match Bytes::of(alloc, file.path) {
+        Ok(path) => path,
+        Err(Memory) => return end(notes, Status::Memory),
+    };
+    match export_file(alloc, &file.library, &path, shelf) {
+        Ok(Some(prepared)) => write_export(&prepared, out, notes),
+        Ok(None) => end(notes, Status::NotBuilt),
+        Err(stop) => end(notes, stop.status(Input::Library(file.library))),
+    }
+}
+
+/// The one library that the words name.
+fn sole_library<'a>(libraries: &Libraries<'a>) -> LibraryFile<'a>
+    ensures { slice_get (libraries_meaning libraries.now) 0 ≡ Some (file_meaning result) }
+{
+    // There is at least one, as the count says.
+    let _count = libraries.len();
+    libraries.at(0)
+}
+
+/// Does what the words behind the program's name say.
+///
+/// `check LIB=PATH` tells which frames of a library's file are refused; `export LIB=PATH` exports the library's current
+/// records on `out` and reports on `notes`; `--help` and `--version` write a text of the program's own on `out`. The runtime
+/// and the gate are not used yet.
+pub fn union_run<R, F: Shelf, O: Sink, N: Sink, G: Gate>(
+    _rt: &R,
+    alloc: Global,
+    words: &[Bytes],
+    shelf: &mut F,
+    out: &mut O,
+    notes: &mut N,
+    _gate: &G,
+) -> Status
+    ensures usage { (result ≡ Status.Usage) ↔ (Words.job_of MOST_LIBRARIES words.now ≡ None) }
+
+    // what each form of words does
+    ensures check { (file : Words.LibraryFile) → Words.job_of MOST_LIBRARIES words.now ≡ Some (Words.Check file)
+        → IsCheck file.library (record {
+            told = told_of (F.files shelf.old) file.path; before = F.faults shelf.old file.path; after = F.faults shelf.new file.path })
+        (record { old = O.written out.old; new = O.written out.new; before = O.faults out.old; after = O.faults out.new })
+        result }
+    ensures export { (file : Words.LibraryFile) → Words.job_of MOST_LIBRARIES words.now ≡ Some (Words.Export (file ∷ []))
+        → IsExportRun file.library (record {
+            told = told_of (F.files shelf.old) file.path; before = F.faults shelf.old file.path; after = F.faults shelf.new file.path })
+        (record { old = O.written out.old; new = O.written out.new; before = O.faults out.old; after = O.faults out.new })
+        (record { old = N.written notes.old; new = N.written notes.new; before = N.faults notes.old; after = N.faults notes.new })
+        result }
+    ensures help { Words.job_of MOST_LIBRARIES words.now ≡ Some Words.Help → IsTold HELP.now
+        (record { old = O.written out.old; new = O.written out.new; before = O.faults out.old; after = O.faults out.new }) result }
+    ensures version { Words.job_of MOST_LIBRARIES words.now ≡ Some Words.Version → IsTold VERSION.now
+        (record { old = O.written out.old; new = O.written out.new; before = O.faults out.old; after = O.faults out.new }) result }
+
+    // the second output, where that is no report
+    ensures noted { IsTrue (is_early result)
+        → IsNoted (record { old = N.written notes.old; new = N.written notes.new; before = N.faults notes.old; after = N.faults notes.new })
+        (early_text result) }
+    ensures quiet { is_early result ≡ false → ((libraries : List Words.LibraryFile)
+        → Words.job_of MOST_LIBRARIES words.now ≢ Some (Words.Export libraries)) → Keeps (N.written notes.old) (N.written notes.new) }
+
+    // A run of words in no form writes nothing else, and of files only the one that the words name can be at fault.
+    ensures unused { Words.job_of MOST_LIBRARIES words.now ≡ None → Keeps (O.written out.old) (O.written out.new) }
+    ensures check_others { (file : Words.LibraryFile) → Words.job_of MOST_LIBRARIES words.now ≡ Some (Words.Check file)
+        → SameElsewhere (F.faults shelf.old) (F.faults shelf.new) file.path }
+    ensures export_others { (file : Words.LibraryFile) → Words.job_of MOST_LIBRARIES words.now ≡ Some (Words.Export (file ∷ []))
+        → SameElsewhere (F.faults shelf.old) (F.faults shelf.new) file.path }
+{
+    match Job::read(words, MOST_LIBRARIES) {
+        None => end(notes, Status::Usage),
+        Some(Job::Check(file)) => {
+            let status = run_check(alloc, &file, shelf, out);
+            end(notes, status)
+        }
+        Some(Job::Export(libraries)) => {
+            run_export(alloc, &sole_library(&libraries), shelf, out, notes)
+        }
+        Some(Job::Help) => tell(out, help_text()),
+        Some(Job::Version) => tell(out, version_text()),
+    }
+}
