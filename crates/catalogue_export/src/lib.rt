@@ -1,0 +1,4 @@
+//! What the catalogue writes of its editions.
+#![tactic(auto)]
+
+pub mod fields;
