@@ -1,5 +1,5 @@
 -- What reading the fields at entries shows.
-use Rattle.std.proofs.Common.{◌≡◌, ℕ, suc, ◌+◌, ◌-◌, ◌<◌, ◌≤◌, Bool, true, false, not, ◌||◌, List, [], ◌∷◌, ◌++◌, length, get_or, take, drop, refl, sym, ◌∙◌, ap, arith, add-one, length-drop, None, Some}
+use Rattle.std.proofs.Common.{◌≡◌, ℕ, suc, ◌+◌, ◌-◌, ◌<◌, ◌≤◌, Bool, true, false, not, ◌||◌, List, [], ◌∷◌, ◌++◌, length, get_or, take, drop, refl, sym, ◌∙◌, ap, arith, add-one, length-drop, Option, None, Some}
 use Rattle.std.proofs.Math.Seq.{drop-cons}
 use Rattle.std.proofs.lemmas.Bool.{and_parts, and_from}
 use Rattle.std.proofs.lemmas.Bool.Decides.{nat_tests}
@@ -11,10 +11,11 @@ use Rattle.marc_leader.specs.declared.entry.Entry.{Entry}
 use Rattle.union_base.specs.Fields.{is_tag, is_control_tag}
 use Rattle.union_base.specs.declared.field.Field.{Field}
 use Rattle.marc_fields.specs.Directories.{is_formed}
-use Rattle.marc_fields.specs.Rows.{least_where_not, ends_in_only, fails}
+use Rattle.marc_fields.specs.Rows.{least_where_not, ends_in_only, fails, or_then}
 use Rattle.marc_fields.specs.Rules.{is_tile, range_of, text_of, is_control_shaped, is_data_shaped, shape_failure}
 use Rattle.marc_fields.specs.Shapes.{are_inner, is_inner, ends_no_record, has_shape, has_control_shape, has_data_shape, IsFieldOf}
 use Rattle.marc_fields.specs.Spelling.{IsEntryOf, AreEntriesOf}
+use Rattle.marc_fields.specs.declared.rules.Rule.{Rule}
 use Rattle.marc_fields.specs.declared.rules.Rule.TheVariants.{ControlShape, DataShape}
 use Rattle.marc_fields.proofs.DirectoryLaws.{least-here, least-later, least-none}
 use Rattle.marc_fields.proofs.RowLaws.{ends-parts}
@@ -133,3 +134,27 @@ pub shape_failure-data : (bytes : List ℕ) (entries : List Entry) → least_whe
     → shape_failure bytes entries ≡ fails DataShape (least_where_not (is_data_shaped bytes) 1 entries)
 unfolding shape_failure
 shape_failure-data bytes entries none = rw none refl
+
+-- where neither rule on shapes fails, each field passes both tests
+least_all : {A : Type 0} (passes : A → Bool) (i : ℕ) (xs : List A) → least_where_not passes i xs ≡ None → list_all passes xs ≡ true
+least_all passes i [] none = refl
+least_all passes i (x ∷ xs) none =
+    let good = least-none passes i x xs none in
+    and_from _ _ good (least_all passes (suc i) xs (sym (least-later passes i x xs good) ∙ none))
+
+none_both : (r s : Rule) (o p : Option ℕ) → or_then (fails r o) (fails s p) ≡ None → (o ≡ None) × (p ≡ None)
+none_both r s None None none = (refl, refl)
+none_both r s None (Some place) none = cc
+none_both r s (Some place) p none = cc
+
+pub shapes-all : (bytes : List ℕ) (entries : List Entry) → shape_failure bytes entries ≡ None
+    → (list_all (is_control_shaped bytes) entries ≡ true) × (list_all (is_data_shaped bytes) entries ≡ true)
+unfolding shape_failure
+shapes-all bytes entries none =
+    let both = none_both ControlShape DataShape (least_where_not (is_control_shaped bytes) 1 entries) (least_where_not (is_data_shaped bytes) 1 entries) none in
+    (least_all (is_control_shaped bytes) 1 entries both.0, least_all (is_data_shaped bytes) 1 entries both.1)
+
+pub shape_failure-none : (bytes : List ℕ) (entries : List Entry) → least_where_not (is_control_shaped bytes) 1 entries ≡ None
+    → least_where_not (is_data_shaped bytes) 1 entries ≡ None → shape_failure bytes entries ≡ None
+unfolding shape_failure
+shape_failure-none bytes entries control data_shaped = rw (control, data_shaped) refl

@@ -1,19 +1,19 @@
 -- What marking the bytes of entries shows.
-use Rattle.std.proofs.Common.{◌≡◌, ℕ, zero, suc, ◌+◌, ◌<◌, ◌≤◌, Bool, true, false, not, ◌&&◌, ◌||◌, List, [], ◌∷◌, ◌++◌, length, get_or, take, drop, refl, sym, ◌∙◌, ap, subst, arith, add-one, append_assoc, inl, inr, Option, None, Some}
+use Rattle.std.proofs.Common.{◌≡◌, ℕ, zero, suc, ◌+◌, ◌<◌, ◌≤◌, Bool, true, false, not, ◌&&◌, ◌||◌, List, [], ◌∷◌, ◌++◌, length, get_or, take, drop, refl, sym, ◌∙◌, ap, subst, arith, add-one, append_assoc, drop-drop, length-drop, inl, inr, Option, None, Some}
 use Rattle.std.specs.Prelude.{replicate}
 use Rattle.std.proofs.Math.Seq.{drop-cons, take-length}
-use Rattle.std.proofs.lemmas.Bool.{and_parts, and_from, cases_eq}
+use Rattle.std.proofs.lemmas.Bool.{and_parts, and_from, cases_eq, eqb-true}
 use Rattle.std.proofs.lemmas.List.{append-nil}
 use Rattle.std.proofs.lemmas.Bool.Decides.{nat_tests}
 use Rattle.std.proofs.lemmas.List.Folds.{list_any-append}
 use Rattle.std.specs.List.{list_all, list_any}
-use Rattle.std.specs.Prelude.{nat_le, nat_lt, if◌then◌else◌}
+use Rattle.std.specs.Prelude.{◌==◌, nat_le, nat_lt, if◌then◌else◌}
 use Rattle.marc_leader.specs.declared.entry.Entry.{Entry}
 use Rattle.marc_fields.specs.Rows.{any_from, all_from, ends_in_only, fails, or_then}
 use Rattle.marc_fields.specs.Rules.{is_tile, is_owned, shares, range_of, tiling_from, tiling_failure, covering}
 use Rattle.marc_fields.specs.declared.rules.Rule.TheVariants.{Tiling}
 use Rattle.marc_fields.specs.Spelling.{is_in, owners}
-use Rattle.marc_fields.specs.Tilings.{AreOwners, is_marked}
+use Rattle.marc_fields.specs.Tilings.{AreOwners, is_marked, lie_in_order}
 use Rattle.marc_fields.proofs.AppendingLaws.{take_one_more}
 use Rattle.marc_fields.proofs.RowLaws.{any_from-marks, all_from-marks}
 
@@ -217,3 +217,68 @@ tiled-once bytes entries none = λ at below.
     let one = once-from bytes at [] 1 entries both.0 (omega arith) in
     let some = owned at entries (all_from-each (is_owned entries) 0 (length bytes) at both.1 (omega arith) (omega arith)) in
     omega arith
+
+-- a test that no number passes, and one that each passes, number by number
+any_from-false : (p : ℕ → Bool) (start n : ℕ) → ((k : ℕ) → start ≤ k → p k ≡ false) → any_from p start n ≡ false
+any_from-false p start zero none = refl
+any_from-false p start (suc n) none = rw (none start (omega arith), any_from-false p (suc start) n (λ k low. none k (omega arith))) refl
+
+all_from-true : (p : ℕ → Bool) (start n : ℕ) → ((k : ℕ) → k < start + n → p k ≡ true) → all_from p start n ≡ true
+all_from-true p start zero all = refl
+all_from-true p start (suc n) all = and_from _ _ (all start (omega arith)) (all_from-true p (suc start) n (λ k below. all k (omega arith)))
+
+not_below : (k start : ℕ) → start ≤ k → nat_lt k start ≡ false
+not_below k start low = grind (arith, nat_tests)
+
+is_below : (k n : ℕ) → k < n → nat_lt k n ≡ true
+is_below k n low = grind (arith, nat_tests)
+
+is_most : (m n : ℕ) → m ≤ n → nat_le m n ≡ true
+is_most m n low = grind (arith, nat_tests)
+
+most : (m n : ℕ) → nat_le m n ≡ true → m ≤ n
+most m n h = grind (arith, nat_tests)
+
+-- the bytes below a place and a range from there on are those below the range's end
+below_more : (at start size : ℕ) → (nat_lt at start || (nat_le start at && nat_lt at (start + size))) ≡ nat_lt at (start + size)
+below_more at start size = grind (arith, nat_tests)
+
+-- ranges that lie one behind the other: no entry is refused, and each byte has one
+in_order : (bytes : List ℕ) (start : ℕ) (rest : List ℕ) (earlier : List Entry) (i : ℕ) (entries : List Entry) → rest ≡ drop start bytes
+    → start + length rest ≡ length bytes → ((at : ℕ) → is_owned earlier at ≡ nat_lt at start) → lie_in_order start rest entries ≡ true
+    → (tiling_from bytes earlier i entries ≡ None) × ((at : ℕ) → is_owned (earlier ++ entries) at ≡ nat_lt at (length bytes))
+in_order bytes start rest earlier i [] behind here taken lie =
+    let none : length rest ≡ 0 = eqb-true (length rest) 0 lie in
+    let end : start ≡ length bytes = omega arith in (
+      refl,
+      λ at. ap (λ es. is_owned es at) (append-nil earlier) ∙ (taken at ∙ ap (nat_lt at) end),
+    )
+in_order bytes start rest earlier i (e ∷ entries) behind here taken lie =
+    let both = and_parts ((e.start == start) && nat_le e.length (length rest)) _ lie in
+    let place = and_parts (e.start == start) (nat_le e.length (length rest)) both.0 in
+    let field = and_parts (ends_in_only 0x1E (take e.length rest)) (lie_in_order (start + e.length) (drop e.length rest) entries) both.1 in
+    let at_start : e.start ≡ start = eqb-true e.start start place.0 in
+    let short : e.length ≤ length rest = most e.length (length rest) place.1 in
+    let range : range_of bytes e ≡ take e.length rest = ap (take e.length) (ap (λ n. drop n bytes) at_start ∙ sym behind) in
+    let tile : is_tile bytes e ≡ true
+    = and_from _ _ (is_most (e.start + e.length) (length bytes) (omega (arith, at_start))) (ap (ends_in_only 0x1E) range ∙ field.0) in
+    let apart : shares earlier e ≡ false
+    = any_from-false (is_owned earlier) e.start e.length (λ k low. taken k ∙ not_below k start (omega (arith, at_start))) in
+    let passes : (is_tile bytes e && not (shares earlier e)) ≡ true = rw (tile, apart) refl in
+    let next : drop e.length rest ≡ drop (start + e.length) bytes
+    = ap (drop e.length) behind ∙ (drop-drop e.length start bytes ∙ ap (λ n. drop n bytes) (omega arith)) in
+    let size : start + e.length + length (drop e.length rest) ≡ length bytes = omega (arith, length-drop e.length rest) in
+    let more : (at : ℕ) → is_owned (earlier ++ e ∷ []) at ≡ nat_lt at (start + e.length)
+    = λ at. list_any-append (is_in at) earlier (e ∷ [])
+    ∙ (ap (λ b. is_owned earlier at || b) (or_none (is_in at e))
+    ∙ (ap (λ b. b || is_in at e) (taken at)
+    ∙ (ap (λ n. nat_lt at start || (nat_le n at && nat_lt at (n + e.length))) at_start ∙ below_more at start e.length))) in
+    let later = in_order bytes (start + e.length) (drop e.length rest) (earlier ++ e ∷ []) (suc i) entries next size more field.1 in (
+      rw passes later.0,
+      λ at. ap (λ es. is_owned es at) (sym (append_assoc earlier (e ∷ []) entries)) ∙ later.1 at,
+    )
+
+pub ordered-tiling : (bytes : List ℕ) (entries : List Entry) → lie_in_order 0 bytes entries ≡ true → tiling_failure bytes entries ≡ None
+ordered-tiling bytes entries lie =
+    let both = in_order bytes 0 bytes [] 1 entries refl (omega arith) (λ at. sym (not_below at 0 (omega arith))) lie in
+    tiling_failure-none bytes entries both.0 (all_from-true (is_owned entries) 0 (length bytes) (λ k below. both.1 k ∙ is_below k (length bytes) (omega arith)))

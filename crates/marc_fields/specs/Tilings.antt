@@ -1,6 +1,8 @@
--- Marks of the bytes that have their entry.
-use Rattle.std.specs.Prelude.{◌≡◌, ℕ, Bool, false, List, slice_index_or}
+-- Marks of the bytes that have their entry, and ranges that need none.
+use Rattle.std.specs.Prelude.{◌≡◌, ℕ, ◌+◌, Bool, false, ◌&&◌, ◌==◌, nat_le, List, [], ◌∷◌, length, take, drop, slice_index_or}
 use Rattle.marc_leader.specs.declared.entry.Entry.{Entry}
+use Rattle.union_base.specs.Fields.{field_terminator}
+use Rattle.marc_fields.specs.Rows.{ends_in_only}
 use Rattle.marc_fields.specs.Rules.{is_owned}
 
 -- the byte is marked
@@ -10,3 +12,11 @@ is_marked mark = mark
 -- the marked bytes are those in the range of one of the entries
 abbrev pub AreOwners : List Entry → List Bool → Type 0
 AreOwners entries marks = (at : ℕ) → slice_index_or marks at false ≡ is_owned entries at
+
+-- the entries' ranges lie one behind the other in these bytes, which begin at that offset of the data; each is a field with
+-- its terminator, and together they are all of the bytes
+abbrev pub lie_in_order : ℕ → List ℕ → List Entry → Bool
+lie_in_order start rest [] = length rest == 0
+lie_in_order start rest (e ∷ entries) =
+    ((e.start == start) && nat_le e.length (length rest))
+    && (ends_in_only field_terminator (take e.length rest) && lie_in_order (start + e.length) (drop e.length rest) entries)

@@ -1,5 +1,5 @@
 //! The fields of a frame whose entries partition the data, looked at rule by rule.
-ghost use Rattle.std.specs.Prelude.{◌≡◌, ◌≤◌, ℕ, true, List, IsTrue, length, None};
+ghost use Rattle.std.specs.Prelude.{⊤, ◌≡◌, ◌≤◌, ℕ, true, List, IsTrue, IfOk, length, None};
 ghost use Rattle.std.specs.List.{list_all};
 ghost use Rattle.marc_leader.specs.declared.entry.Entry.{Entry};
 ghost use Rattle.marc_fields.specs.Directories.{is_formed};
@@ -11,11 +11,12 @@ ghost use Rattle.marc_fields.specs.declared.rules.Rule.TheVariants.{DataShape};
 
 use crate::decoding::DecodeRefusal;
 use crate::rules::Rule;
-use crate::shape::{are_undelimited, read_field};
+use crate::shape::{are_data, are_undelimited, read_field};
 use marc_leader::entry::Entry;
 use std::alloc::Global;
 use union_base::body::is_control_tag;
 use union_base::field::Field;
+use union_base::memory::Memory;
 
 /// The bytes of the entry's field, without the terminator.
 fn text_in<'a>(entry: &Entry, bytes: &'a [u8]) -> &'a [u8]
@@ -49,27 +50,63 @@ fn first_delimited(entries: &[Entry], bytes: &[u8]) -> Option<u32>
     None
 }
 
-/// The fields, where no control field has a delimiter; refused at the first data field that has not the shape of one.
-fn read_fields(alloc: Global, entries: &[Entry], bytes: &[u8]) -> Result<Vec<Field>, DecodeRefusal>
+/// Whether the entry's field is a control field, or has the shape of a data field.
+fn is_data_fit(entry: &Entry, bytes: &[u8]) -> bool
+    requires { is_tile bytes.now entry.now ≡ true }
+    ensures { result ≡ is_data_shaped bytes.now entry.now }
+{
+    is_control_tag(&entry.tag) || are_data(text_in(entry, bytes))
+}
+
+/// The number of the first entry of a data field that has not the shape of one.
+fn first_misshaped(entries: &[Entry], bytes: &[u8]) -> Option<u32>
     requires few { length entries.now ≤ 9999 }
+    requires tiles { list_all (is_tile bytes.now) entries.now ≡ true }
+    ensures { result ≡ least_where_not (is_data_shaped bytes.now) 1 entries.now }
+{
+    for (i, entry) in entries.iter().enumerate() {
+        if !is_data_fit(entry, bytes) {
+            return Some(i as u32 + 1);
+        }
+    }
+    None
+}
+
+/// Refuses a control field that has a delimiter, and a data field that has not two indicators and then subfields (MARC 21,
+/// 'Variable fields'). Takes no memory.
+pub fn check_shapes(entries: &[Entry], bytes: &[u8]) -> Result<(), DecodeRefusal>
+    requires few { length entries.now ≤ 9999 }
+    requires tiles { list_all (is_tile bytes.now) entries.now ≡ true }
+    ensures { Answers result (shape_failure bytes.now entries.now) (λ _. ⊤) }
+{
+    if let Some(place) = first_delimited(entries, bytes) {
+        return Err(DecodeRefusal::Rule {
+            rule: Rule::ControlShape,
+            place,
+        });
+    }
+    if let Some(place) = first_misshaped(entries, bytes) {
+        return Err(DecodeRefusal::Rule {
+            rule: Rule::DataShape,
+            place,
+        });
+    }
+    Ok(())
+}
+
+/// The fields that lie at the entries, each of which has its shape (MARC 21, 'Variable fields').
+pub fn read_fields(alloc: Global, entries: &[Entry], bytes: &[u8]) -> Result<Vec<Field>, Memory>
     requires tiles { list_all (is_tile bytes.now) entries.now ≡ true }
     requires formed { list_all is_formed entries.now ≡ true }
     requires inner { ends_no_record bytes.now ≡ true }
-    requires undelimited { least_where_not (is_control_shaped bytes.now) 1 entries.now ≡ None }
-    ensures { Answers result (fails DataShape (least_where_not (is_data_shaped bytes.now) 1 entries.now))
-        (λ fields. AreEntriesOf bytes.now entries.now fields.items) }
+    requires shaped { shape_failure bytes.now entries.now ≡ None }
+    ensures { IfOk result (λ fields. AreEntriesOf bytes.now entries.now fields.items) }
 {
     let mut fields = Vec::with_capacity(alloc, entries.len())?;
-    for (i, entry) in entries.iter().enumerate() {
-        let text = text_in(entry, bytes);
-        match read_field(alloc, entry.tag, text)? {
+    for entry in entries {
+        match read_field(alloc, entry.tag, text_in(entry, bytes))? {
             Some(field) => fields.push(field)?,
-            None => {
-                return Err(DecodeRefusal::Rule {
-                    rule: Rule::DataShape,
-                    place: i as u32 + 1,
-                });
-            }
+            None => unreachable!(),
         }
     }
     Ok(fields)
@@ -87,11 +124,8 @@ pub fn check_fields(
     requires inner { ends_no_record bytes.now ≡ true }
     ensures { Answers result (shape_failure bytes.now entries.now) (λ fields. AreEntriesOf bytes.now entries.now fields.items) }
 {
-    match first_delimited(entries, bytes) {
-        Some(place) => Err(DecodeRefusal::Rule {
-            rule: Rule::ControlShape,
-            place,
-        }),
-        None => read_fields(alloc, entries, bytes),
+    match check_shapes(entries, bytes) {
+        Ok(()) => Ok(read_fields(alloc, entries, bytes)?),
+        Err(refusal) => Err(refusal),
     }
 }

@@ -73,6 +73,21 @@ fn read_subfields(alloc: Global, bytes: &[u8]) -> Result<Option<Vec<Subfield>>, 
     Ok(Some(subfields))
 }
 
+/// Whether a code follows each delimiter.
+fn have_codes(bytes: &[u8]) -> bool
+    requires { IsTrue (begins_with_delimiter bytes.now) }
+    ensures { result ≡ are_coded bytes.now }
+{
+    let mut rest = bytes;
+    while !rest.is_empty() {
+        let Some(first) = first_subfield(rest) else {
+            return false;
+        };
+        rest = first.rest;
+    }
+    true
+}
+
 /// Whether no byte is a delimiter.
 pub fn are_undelimited(bytes: &[u8]) -> bool
     ensures { result ≡ has_control_shape bytes.now }
@@ -128,6 +143,16 @@ fn begins_subfield(bytes: &[u8]) -> bool
     match bytes {
         [byte, ..] => *byte == DELIMITER,
         [] => false,
+    }
+}
+
+/// Whether the bytes are two indicators and then subfields, one at least. Takes no memory.
+pub fn are_data(bytes: &[u8]) -> bool
+    ensures { result ≡ has_data_shape bytes.now }
+{
+    match split_indicators(bytes) {
+        Some(found) => have_codes(found.rest),
+        None => false,
     }
 }
 

@@ -1,10 +1,11 @@
-//! The rule that the entries' ranges partition the data, each a field with its terminator. Each byte of the data is
-//! marked as it finds its entry, and the first entry that meets a mark is refused, so the work is linear in the data.
+//! The rule that the entries' ranges partition the data, each a field with its terminator. Ranges that lie one behind the
+//! other in the order of the directory, as they do in nearly all frames, partition it without more. Else each byte of the
+//! data is marked as it finds its entry, and the first entry that meets a mark is refused. The work is linear in the data.
 ghost use Rattle.std.specs.Prelude.{⊤, ◌≡◌, ◌+◌, ◌≤◌, ℕ, ◌||◌, ◌&&◌, [], not, false, nat_le, nat_lt, List, length, take, drop, Some, None, slice_index_or};
 ghost use Rattle.std.specs.List.{list_any, list_all};
 ghost use Rattle.marc_fields.specs.Rows.{Answers};
 ghost use Rattle.marc_fields.specs.Rules.{is_tile, is_owned, tiling_from, tiling_failure, covering};
-ghost use Rattle.marc_fields.specs.Tilings.{AreOwners, is_marked};
+ghost use Rattle.marc_fields.specs.Tilings.{AreOwners, is_marked, lie_in_order};
 
 use crate::decoding::DecodeRefusal;
 use crate::ending::ends_in_only;
@@ -93,12 +94,37 @@ fn check_marks(marks: &mut [bool], entries: &[Entry], bytes: &[u8]) -> Result<()
     Ok(())
 }
 
+/// Whether the ranges lie one behind the other in the order of the directory, each a field with its terminator, and are all
+/// of the data. Takes no memory.
+fn are_in_order(entries: &[Entry], bytes: &[u8]) -> bool
+    ensures { result ≡ lie_in_order 0 bytes.now entries.now }
+{
+    let mut start = 0;
+    let mut rest = bytes;
+    for entry in entries {
+        let size = entry.length as usize;
+        if entry.start as usize != start || size > rest.len() {
+            return false;
+        }
+        let (range, behind) = rest.split_at(size);
+        if !ends_in_only(FIELD_TERMINATOR, range) {
+            return false;
+        }
+        start += size;
+        rest = behind;
+    }
+    rest.is_empty()
+}
+
 /// Refuses entries whose ranges do not partition the data into fields, each with its terminator (ISO 2709, 'Directory').
-/// Takes a byte of memory for each byte of the data.
+/// Takes no memory where the ranges lie in the order of the directory, else a byte for each byte of the data.
 pub fn check_tiling(alloc: Global, entries: &[Entry], bytes: &[u8]) -> Result<(), DecodeRefusal>
     requires { length entries.now ≤ 9999 }
     ensures { Answers result (tiling_failure bytes.now entries.now) (λ _. ⊤) }
 {
+    if are_in_order(entries, bytes) {
+        return Ok(());
+    }
     let mut marks = vec![in alloc; false; bytes.len()]?;
     check_marks(&mut marks, entries, bytes)
 }

@@ -1,12 +1,16 @@
 -- What checking a frame shows.
-use Rattle.std.proofs.Common.{◌≡◌, ℕ, ◌-◌, ◌/◌, Bool, true, false, not, ◌||◌, List, [], ◌∷◌, length, take, drop, refl, sym, ◌∙◌, ap, subst}
+use Rattle.std.proofs.Common.{◌≡◌, ℕ, ◌-◌, ◌/◌, Bool, true, false, not, ◌||◌, List, [], ◌∷◌, length, take, drop, refl, sym, ◌∙◌, ap, subst, Option, Result, Ok, Err}
 use Rattle.std.proofs.lemmas.Bool.{and_from, and_parts}
 use Rattle.std.specs.List.{list_all, list_any}
 use Rattle.std.specs.Prelude.{◌==◌}
 use Rattle.iso2709_frame.specs.Frames.{IsWhole, is_terminator}
-use Rattle.marc_fields.specs.Rows.{ends_in_only}
+use Rattle.marc_leader.specs.declared.entry.Entry.{Entry}
+use Rattle.marc_fields.specs.Rows.{Answers, IsRefusal, ends_in_only}
+use Rattle.marc_fields.specs.declared.decoding.DecodeRefusal.{DecodeRefusal}
+use Rattle.marc_fields.specs.declared.rules.Failure.{Failure}
 use Rattle.marc_fields.specs.Rules.{IsFrame, base_of, entry_texts, texts_of, data_in}
 use Rattle.marc_fields.proofs.RowLaws.{ends-from, ends-parts}
+use Rattle.marc_rules.specs.Checked.{AreSound, AreSoundIn}
 use Rattle.marc_rules.specs.NineteenRules.{record_failure}
 
 -- bytes none of which ends a record
@@ -56,3 +60,22 @@ frame-IsWhole frame is =
       open_front = closed_bytes (take (length frame - 1) frame) ended.before;
       ended = ended.parts;
     }
+
+-- the entries are those of the frame, since the parts are
+pub sound-in : (frame : List ℕ) (base : ℕ) (directory bytes : List ℕ) (entries : List Entry) → directory ≡ take (base - 25) (drop 24 frame)
+    → bytes ≡ take (length frame - 1 - base) (drop base frame) → AreSound directory bytes ((base - 25) / 12) entries → AreSoundIn frame base entries
+sound-in frame base directory bytes entries d b sound =
+    let Of : List ℕ → List ℕ → Type 0 = λ t u. AreSound t u ((base - 25) / 12) entries in
+    subst (Of (take (base - 25) (drop 24 frame))) b (subst (λ t. Of t bytes) d sound)
+
+-- the same failure, and what follows of the value
+pub Answers-of : {T : Type 0} (result : Result T DecodeRefusal) (failure other : Option Failure) (P Q : T → Type 0) → failure ≡ other
+    → ((value : T) → P value → Q value) → Answers result failure P → Answers result other Q
+Answers-of (Ok value) failure other P Q same more answers = (sym same ∙ answers.0, more value answers.1)
+Answers-of (Err refusal) failure other P Q same more answers = subst (IsRefusal refusal) same answers
+
+pub sound-parts : (frame : List ℕ) (base : ℕ) (directory bytes : List ℕ) (entries : List Entry) → directory ≡ take (base - 25) (drop 24 frame)
+    → bytes ≡ take (length frame - 1 - base) (drop base frame) → AreSoundIn frame base entries → AreSound directory bytes ((base - 25) / 12) entries
+sound-parts frame base directory bytes entries d b sound =
+    let Of : List ℕ → List ℕ → Type 0 = λ t u. AreSound t u ((base - 25) / 12) entries in
+    subst (Of directory) (sym b) (subst (λ t. Of t (take (length frame - 1 - base) (drop base frame))) (sym d) sound)

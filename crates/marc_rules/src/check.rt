@@ -1,18 +1,18 @@
-//! The first rule that a frame breaks, or its record.
-ghost use Rattle.std.specs.Prelude.{⊤, ◌≡◌, ◌*◌, ◌≤◌, true, length, None, IfOk};
+//! The first rule that a frame breaks, or its record, or its status alone.
+ghost use Rattle.std.specs.Prelude.{⊤, ◌≡◌, ◌*◌, ◌≤◌, true, length, None, Option, IfOk};
 ghost use Rattle.std.specs.List.{list_all};
 ghost use Rattle.iso2709_frame.specs.Frames.{IsWhole};
-ghost use Rattle.marc_fields.specs.Directories.{is_formed, AreDecoded};
 ghost use Rattle.marc_fields.specs.Fronts.{IsFront};
-ghost use Rattle.marc_fields.specs.Rows.{Answers, or_then};
+ghost use Rattle.marc_fields.specs.Rows.{Answers, IsRefusal, or_then};
 ghost use Rattle.marc_fields.specs.Rules.{IsFrame, is_tile, entry_texts, texts_of, data_in, leader_of_frame, tiling_failure, shape_failure};
-ghost use Rattle.marc_fields.specs.Shapes.{ends_no_record};
-ghost use Rattle.marc_fields.specs.Spelling.{AreEntriesOf, Spells};
+ghost use Rattle.marc_fields.specs.Spelling.{Spells};
+ghost use Rattle.marc_fields.specs.declared.rules.Failure.{Failure};
 ghost use Rattle.marc_rules.specs.Accepted.{IsAccepted};
+ghost use Rattle.marc_rules.specs.Checked.{AreSound, AreSoundIn, IsSound};
 ghost use Rattle.marc_rules.specs.Contents.{content_failure};
 ghost use Rattle.marc_rules.specs.NineteenRules.{status_of, coding_of, fields_failure, record_failure, whole_failure, first_rule};
 ghost use Rattle.marc_rules.specs.Numbers.{number_failure};
-ghost use Rattle.marc_rules.specs.Refusals.{AnswersFrame};
+ghost use Rattle.marc_rules.specs.Refusals.{AnswersFrame, IsFrameRefusal};
 
 use crate::contents::check_content;
 use crate::numbers::check_numbers;
@@ -20,14 +20,14 @@ use crate::parts::split_frame;
 use iso2709_frame::cut::Cut;
 use marc_fields::decoding::DecodeRefusal;
 use marc_fields::directory::check_directory;
-use marc_fields::fields::check_fields;
+use marc_fields::fields::{check_shapes, read_fields};
 use marc_fields::head::{Front, SMALLEST_BASE, check_head};
 use marc_fields::marc_record::Record;
 use marc_fields::rules::Rule;
 use marc_fields::tiling::check_tiling;
 use marc_leader::entry::{ENTRY_SIZE, Entry};
 use std::alloc::Global;
-use union_base::field::Field;
+use union_base::memory::Memory;
 use union_base::sequence::Sequence;
 
 /// Where the leader has the record's status, and its character coding (MARC 21, 'Leader').
@@ -44,72 +44,63 @@ pub enum Refusal {
     Memory,
 }
 
-/// The fields, or the first of the rules on their shape, on which fields stand and how often that fails.
-fn check_shapes(
-    alloc: Global,
-    status: u8,
-    entries: &[Entry],
-    bytes: &[u8],
-) -> Result<Vec<Field>, DecodeRefusal>
+/// The refusals of frames that were not cut whole.
+const TRUNCATED: Refusal = Refusal::Rule {
+    rule: Rule::Truncated,
+    place: 0,
+};
+
+const TOO_LONG: Refusal = Refusal::Rule {
+    rule: Rule::TooLong,
+    place: 0,
+};
+
+/// Refuses fields that have not their shape, and a record that has not the fields that it has to have. Takes no memory.
+fn check_shaped(status: u8, entries: &[Entry], bytes: &[u8]) -> Result<(), DecodeRefusal>
     requires few { length entries.now ≤ 9999 }
     requires tiles { list_all (is_tile bytes.now) entries.now ≡ true }
-    requires formed { list_all is_formed entries.now ≡ true }
-    requires inner { ends_no_record bytes.now ≡ true }
     ensures { Answers result (or_then (shape_failure bytes.now entries.now) (number_failure status bytes.now entries.now))
-        (λ fields. AreEntriesOf bytes.now entries.now fields.items) }
+        (λ _. shape_failure bytes.now entries.now ≡ None) }
 {
-    match check_fields(alloc, entries, bytes) {
-        Ok(fields) => match check_numbers(status, entries, bytes) {
-            Ok(()) => Ok(fields),
-            Err(refusal) => Err(refusal),
-        },
+    match check_shapes(entries, bytes) {
+        Ok(()) => check_numbers(status, entries, bytes),
         Err(refusal) => Err(refusal),
     }
 }
 
-/// The fields of entries that partition the data, or the first rule on their content that fails.
-fn check_tiled(
-    alloc: Global,
-    status: u8,
-    coding: u8,
-    entries: &[Entry],
-    bytes: &[u8],
-) -> Result<Vec<Field>, DecodeRefusal>
+/// Refuses entries that partition the data, at the first rule on their content that fails. Takes no memory.
+fn check_tiled(status: u8, coding: u8, entries: &[Entry], bytes: &[u8]) -> Result<(), DecodeRefusal>
     requires few { length entries.now ≤ 9999 }
     requires tiles { list_all (is_tile bytes.now) entries.now ≡ true }
-    requires formed { list_all is_formed entries.now ≡ true }
-    requires inner { ends_no_record bytes.now ≡ true }
     ensures { Answers result (or_then (content_failure status coding bytes.now entries.now)
         (or_then (shape_failure bytes.now entries.now) (number_failure status bytes.now entries.now)))
-        (λ fields. AreEntriesOf bytes.now entries.now fields.items) }
+        (λ _. shape_failure bytes.now entries.now ≡ None) }
 {
     match check_content(status, coding, entries, bytes) {
-        Ok(()) => check_shapes(alloc, status, entries, bytes),
+        Ok(()) => check_shaped(status, entries, bytes),
         Err(refusal) => Err(refusal),
     }
 }
 
-/// The fields of the entries, or the first rule on the data that fails.
+/// Refuses entries at the first rule on the data that fails.
 fn check_entries(
     alloc: Global,
     status: u8,
     coding: u8,
     entries: &[Entry],
     bytes: &[u8],
-) -> Result<Vec<Field>, DecodeRefusal>
-    requires few { length entries.now ≤ 9999 }
-    requires formed { list_all is_formed entries.now ≡ true }
-    requires inner { ends_no_record bytes.now ≡ true }
+) -> Result<(), DecodeRefusal>
+    requires { length entries.now ≤ 9999 }
     ensures { Answers result (fields_failure status coding bytes.now entries.now)
-        (λ fields. (tiling_failure bytes.now entries.now ≡ None) × AreEntriesOf bytes.now entries.now fields.items) }
+        (λ _. (tiling_failure bytes.now entries.now ≡ None) × (shape_failure bytes.now entries.now ≡ None)) }
 {
     match check_tiling(alloc, entries, bytes) {
-        Ok(()) => check_tiled(alloc, status, coding, entries, bytes),
+        Ok(()) => check_tiled(status, coding, entries, bytes),
         Err(refusal) => Err(refusal),
     }
 }
 
-/// The fields of a directory of so many entries and the data, or the first rule on them that fails.
+/// The entries of a directory of so many, or the first rule on them and the data that fails.
 fn check_record(
     alloc: Global,
     status: u8,
@@ -117,53 +108,100 @@ fn check_record(
     directory: &[u8],
     bytes: &[u8],
     count: usize,
-) -> Result<Vec<Field>, DecodeRefusal>
+) -> Result<Vec<Entry>, DecodeRefusal>
     requires size { length directory.now ≡ 12 * count }
     requires few { count ≤ 9999 }
-    requires inner { ends_no_record bytes.now ≡ true }
     ensures { Answers result (record_failure status coding (entry_texts count directory.now) bytes.now)
-        (λ fields. AreDecoded directory.now bytes.now count fields.items) }
+        (λ entries. AreSound directory.now bytes.now count entries.items) }
 {
     match check_directory(alloc, directory, count) {
-        Ok(entries) => check_entries(alloc, status, coding, entries.as_slice(), bytes),
+        Ok(entries) => match check_entries(alloc, status, coding, entries.as_slice(), bytes) {
+            Ok(()) => Ok(entries),
+            Err(refusal) => Err(refusal),
+        },
         Err(refusal) => Err(refusal),
     }
 }
 
-/// The record that the frame with that leader spells, or the first rule behind those on the leader that fails.
-fn check_behind(alloc: Global, frame: &[u8], front: &Front) -> Result<Record, DecodeRefusal>
+/// The entries of the frame with that base address, or the first rule behind those on the leader that fails.
+fn check_behind(alloc: Global, frame: &[u8], front: &Front) -> Result<Vec<Entry>, DecodeRefusal>
     requires frame { IsFrame frame.now }
     requires front { IsFront (leader_of_frame frame.now) frame.now front.now.codes front.now.base }
     ensures { Answers result (record_failure (status_of frame.now) (coding_of frame.now) (texts_of frame.now) (data_in frame.now))
-        (λ found. Spells frame.now found) }
+        (λ entries. AreSoundIn frame.now front.now.base entries.items) }
 {
     let base = front.base;
     let parts = split_frame(frame, base);
     let count = (base - SMALLEST_BASE) / ENTRY_SIZE;
-    match check_record(
+    check_record(
         alloc,
         frame[STATUS],
         frame[CODING],
         parts.directory,
         parts.bytes,
         count,
-    ) {
-        Ok(fields) => Ok(Record {
-            leader: front.codes,
-            fields: Sequence::from(fields),
-        }),
+    )
+}
+
+/// The leader's content and the entries of a frame in which no rule fails.
+#[derive(Drop)]
+struct Sound {
+    front: Front,
+    entries: Vec<Entry>,
+}
+
+/// The leader's content and the entries of a whole frame, or the first rule that it breaks.
+fn check_whole(alloc: Global, frame: &[u8]) -> Result<Sound, DecodeRefusal>
+    requires { IsFrame frame.now }
+    ensures { Answers result (whole_failure frame.now) (λ found. IsSound frame.now found.front.codes found.front.base found.entries.items) }
+{
+    match check_head(frame) {
+        Ok(front) => match check_behind(alloc, frame, &front) {
+            Ok(entries) => Ok(Sound { front, entries }),
+            Err(refusal) => Err(refusal),
+        },
         Err(refusal) => Err(refusal),
     }
 }
 
-/// The record that a whole frame spells, or the first rule that it breaks.
-fn check_whole(alloc: Global, frame: &[u8]) -> Result<Record, DecodeRefusal>
-    requires { IsFrame frame.now }
-    ensures { Answers result (whole_failure frame.now) (λ found. Spells frame.now found) }
+/// The record that a whole frame spells in which no rule fails.
+fn read_record(alloc: Global, frame: &[u8], sound: &Sound) -> Result<Record, Memory>
+    requires frame { IsFrame frame.now }
+    requires sound { IsSound frame.now sound.now.front.codes sound.now.front.base sound.now.entries.items }
+    ensures { IfOk result (λ found. Spells frame.now found) }
 {
-    match check_head(frame) {
-        Ok(front) => check_behind(alloc, frame, &front),
-        Err(refusal) => Err(refusal),
+    let parts = split_frame(frame, sound.front.base);
+    let fields = read_fields(alloc, sound.entries.as_slice(), parts.bytes)?;
+    Ok(Record {
+        leader: sound.front.codes,
+        fields: Sequence::from(fields),
+    })
+}
+
+/// The refusal of a frame that was cut whole.
+fn refusal_of(refusal: DecodeRefusal) -> Refusal
+    ensures { (failure : Option Failure) → IsRefusal refusal failure → IsFrameRefusal result failure }
+{
+    match refusal {
+        DecodeRefusal::Rule { rule, place } => Refusal::Rule { rule, place },
+        DecodeRefusal::Memory => Refusal::Memory,
+    }
+}
+
+/// The status (MARC 21, leader/05) of a frame that breaks none of the nineteen rules, or the first rule that it breaks,
+/// with its place, as `check_frame` names it. No record is made: memory is taken for the directory's entries alone, and for
+/// a byte of marks for each byte of the data where the data are not in the order of the directory.
+pub fn accepted_status(alloc: Global, cut: Cut, bytes: &[u8]) -> Result<u8, Refusal>
+    requires { cut ≡ Cut.Whole → IsWhole bytes.now }
+    ensures { AnswersFrame result (first_rule cut bytes.now) (λ status. status ≡ status_of bytes.now) }
+{
+    match cut {
+        Cut::Truncated => Err(TRUNCATED),
+        Cut::TooLong => Err(TOO_LONG),
+        Cut::Whole => match check_whole(alloc, bytes) {
+            Ok(_) => Ok(bytes[STATUS]),
+            Err(refusal) => Err(refusal_of(refusal)),
+        },
     }
 }
 
@@ -176,18 +214,14 @@ pub fn check_frame(alloc: Global, cut: Cut, bytes: &[u8]) -> Result<Record, Refu
     ensures accepted { IfOk result (λ found. IsAccepted found) }
 {
     match cut {
-        Cut::Truncated => Err(Refusal::Rule {
-            rule: Rule::Truncated,
-            place: 0,
-        }),
-        Cut::TooLong => Err(Refusal::Rule {
-            rule: Rule::TooLong,
-            place: 0,
-        }),
+        Cut::Truncated => Err(TRUNCATED),
+        Cut::TooLong => Err(TOO_LONG),
         Cut::Whole => match check_whole(alloc, bytes) {
-            Ok(found) => Ok(found),
-            Err(DecodeRefusal::Rule { rule, place }) => Err(Refusal::Rule { rule, place }),
-            Err(DecodeRefusal::Memory) => Err(Refusal::Memory),
+            Ok(sound) => match read_record(alloc, bytes, &sound) {
+                Ok(found) => Ok(found),
+                Err(_memory) => Err(Refusal::Memory),
+            },
+            Err(refusal) => Err(refusal_of(refusal)),
         },
     }
 }

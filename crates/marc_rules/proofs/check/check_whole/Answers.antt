@@ -1,10 +1,15 @@
-use Rattle.marc_fields.proofs.DecodingLaws.{refusal-first, Answers-later}
+use Rattle.marc_fields.proofs.DecodingLaws.{refusal-first}
 use Rattle.marc_rules.specs.NineteenRules.{whole_failure}
 use Rattle.marc_rules.proofs.check.check_whole.Goals as goal
 
-pub returns-in-Ok : goal.returns-in-Ok
+pub returns-in-Ok-check_behind : goal.returns-in-Ok-check_behind
 unfolding whole_failure
-returns-in-Ok c = Answers-later c.check_behind.result _ _ _ _ c.in-Ok.ensures.0 (λ value is. is) c.check_behind.ensures
+returns-in-Ok-check_behind c =
+    (rw c.in-Ok.ensures.0 c.in-Ok-check_behind.ensures.0, record { front = c.in-Ok.ensures.1; sound = c.in-Ok-check_behind.ensures.1 })
+
+pub returns-in-Err-check_behind : goal.returns-in-Err-check_behind
+unfolding whole_failure
+returns-in-Err-check_behind c = rw c.in-Ok.ensures.0 c.in-Err-check_behind.ensures
 
 pub returns-in-Err : goal.returns-in-Err
 unfolding whole_failure

@@ -1,0 +1,5 @@
+use Rattle.marc_rules.proofs.CheckLaws.{whole-IsFrame}
+use Rattle.marc_rules.proofs.check.accepted_status.Goals as goal
+
+pub check_whole-requires : goal.check_whole-requires
+check_whole-requires c = whole-IsFrame c.args.bytes.now (c.requires c.in-Whole.is)
