@@ -73,12 +73,16 @@ slot_fields c =
     slot_field c.f005 ++ (control_field (codes "008") c.fixed.text ++ (slot_field c.f010 ++ (slot_field c.f040
     ++ (slot_field c.f1xx ++ (slot_field c.f240 ++ c.f245.field ∷ [])))))
 
--- the fields of the exported record, in the order in which they are kept where not all fit: the catalogue's own number and
--- name, the slots, the work key, the contributors, and the united fields
-abbrev pub parts : Content → List ℕ → List Field
-parts c key =
+-- what stands in an exported record before its united fields: the catalogue's own number and name, the slots, the work key,
+-- the contributors
+abbrev pub own_parts : Content → List ℕ → List Field
+own_parts c key =
     number_field c.contributors ++ (control_field (codes "003") (codes "UNION") ++ (slot_fields c
-    ++ (key_field key ++ (flat_map contributor_field c.contributors ++ c.united))))
+    ++ (key_field key ++ flat_map contributor_field c.contributors)))
+
+-- the fields of the exported record, in the order in which they are kept where not all of them fit
+abbrev pub parts : Content → List ℕ → List Field
+parts c key = own_parts c key ++ c.united
 
 -- the exported record
 abbrev pub exported : Content → List ℕ → Record

@@ -1,0 +1,137 @@
+//! The record that is shown of an edition.
+ghost use Rattle.std.specs.Prelude.{◌≡◌, ◌++◌, ◌≤◌, List, [], ◌∷◌, length, IfOk, OnOk, IsTrue, None, codes};
+ghost use Rattle.std.specs.List.{list_all, flat_map};
+ghost use Rattle.union_base.specs.Fields.{is_text};
+ghost use Rattle.marc_fields.specs.Spelling.{is_short};
+ghost use Rattle.marc_fields.specs.Appending.{too_long};
+ghost use Rattle.catalogue_core.specs.Sound.{is_id, is_sound, is_slot_or_none};
+ghost use Rattle.catalogue_export.specs.TagOrder.{in_tag_order};
+ghost use Rattle.catalogue_export.specs.Exported.{contributor_field, number_field, slot_field, slot_fields, own_parts, parts, exported, left_out};
+
+use crate::fields::{catalogue_field, contributor_field, fixed_field, key_field, number_field};
+use crate::fitting::fit;
+use field_merge::content::Content;
+use field_merge::slot::Slot;
+use marc_fields::encoding::LONGEST_FRAME;
+use marc_fields::marc_record::Record;
+use std::alloc::Global;
+use union_base::copied::Copied;
+use union_base::field::Field;
+use union_base::memory::Memory;
+use union_base::record_id::RecordId;
+use union_base::sequence::Sequence;
+
+/// The bytes of a frame beside those of its fields: the leader and two terminators.
+const FRAME_REST: usize = 26;
+
+/// How many fields an edition has at most beside its contributors' and its united ones: 001, 003, 991, 008 and six slots.
+const OTHER_FIELDS: usize = 10;
+
+/// The record that is shown of an edition, and how many of its fields were left out since no more fit.
+pub(crate) fn exported(alloc: Global, content: &Content, key: &[u8]) -> Result<(Record, usize), Memory>
+    requires sound { IsTrue (is_sound content.now) }
+    requires key { IsTrue (is_text key.now) }
+    ensures value { IfOk result (λ r. r.0 ≡ exported content.now key.now) }
+    ensures left { IfOk result (λ r. r.1 ≡ left_out content.now key.now) }
+{
+    let mut fields = own_fields(alloc, content, key)?;
+    let united = content.united.as_slice();
+    let all = fields.len() + united.len();
+    let (own, room) = fit(LONGEST_FRAME - FRAME_REST, fields.as_slice());
+    if own < fields.len() {
+        fields.truncate(own);
+    } else {
+        let (shown, _) = fit(room, united);
+        push_copies(alloc, united.split_at(shown).0, &mut fields)?;
+    }
+    let left = all - fields.len();
+    let fields = in_tag_order(fields)?;
+    let shown = Record {
+        leader: content.fixed.codes,
+        fields: Sequence::from(fields),
+    };
+    Ok((shown, left))
+}
+
+/// The fields in order of their tags, those of one tag in their order.
+fn in_tag_order(mut fields: Vec<Field>) -> Result<Vec<Field>, Memory>
+    ensures { IfOk result (λ sorted. sorted.items ≡ in_tag_order fields.items) }
+{
+    fields.sort_by_key(|f| f.tag)?;
+    Ok(fields)
+}
+
+/// Adds a copy of each field.
+fn push_copies(alloc: Global, fields: &[Field], into: &mut Vec<Field>) -> Result<(), Memory>
+    ensures { OnOk result (into.new.items ≡ into.old.items ++ fields.now) }
+{
+    into.reserve(fields.len())?;
+    for field in fields {
+        into.push(field.copied(alloc)?)?;
+    }
+    Ok(())
+}
+
+/// What stands in an exported record before its united fields.
+fn own_fields(alloc: Global, content: &Content, key: &[u8]) -> Result<Vec<Field>, Memory>
+    requires sound { IsTrue (is_sound content.now) }
+    requires key { IsTrue (is_text key.now) }
+    ensures value { IfOk result (λ own. own.items ≡ own_parts content.now key.now) }
+    ensures short { IfOk result (λ own. IsTrue (list_all is_short own.items)) }
+{
+    let ids = content.contributors.as_slice();
+    let mut fields = Vec::with_capacity(alloc, OTHER_FIELDS + ids.len())?;
+    push_number(alloc, ids, &mut fields)?;
+    fields.push(catalogue_field(alloc)?)?;
+    push_slots(alloc, content, &mut fields)?;
+    fields.push(key_field(alloc, key)?)?;
+    push_contributors(alloc, ids, &mut fields)?;
+    Ok(fields)
+}
+
+/// Adds 001, by the first contributor.
+fn push_number(alloc: Global, ids: &[RecordId], into: &mut Vec<Field>) -> Result<(), Memory>
+    requires { IsTrue (list_all is_id ids.now) }
+    ensures { OnOk result (into.new.items ≡ into.old.items ++ number_field ids.now) }
+{
+    if let Some(id) = ids.first() {
+        into.push(number_field(alloc, id)?)?;
+    }
+    Ok(())
+}
+
+/// Adds the slots, and 008 among them.
+fn push_slots(alloc: Global, content: &Content, into: &mut Vec<Field>) -> Result<(), Memory>
+    requires { IsTrue (is_text content.now.fixed.text) }
+    ensures { OnOk result (into.new.items ≡ into.old.items ++ slot_fields content.now) }
+{
+    push_slot(alloc, &content.f005, into)?;
+    into.push(fixed_field(alloc, &content.fixed.text)?)?;
+    push_slot(alloc, &content.f010, into)?;
+    push_slot(alloc, &content.f040, into)?;
+    push_slot(alloc, &content.f1xx, into)?;
+    push_slot(alloc, &content.f240, into)?;
+    into.push(content.f245.field.copied(alloc)?)?;
+    Ok(())
+}
+
+/// Adds the slot's field, where there is one.
+fn push_slot(alloc: Global, slot: &Option<Slot>, into: &mut Vec<Field>) -> Result<(), Memory>
+    ensures { OnOk result (into.new.items ≡ into.old.items ++ slot_field slot.now) }
+{
+    if let Some(slot) = slot {
+        into.push(slot.field.copied(alloc)?)?;
+    }
+    Ok(())
+}
+
+/// Adds 993 for each contributor.
+fn push_contributors(alloc: Global, ids: &[RecordId], into: &mut Vec<Field>) -> Result<(), Memory>
+    requires { IsTrue (list_all is_id ids.now) }
+    ensures { OnOk result (into.new.items ≡ into.old.items ++ flat_map contributor_field ids.now) }
+{
+    for id in ids {
+        into.push(contributor_field(alloc, id)?)?;
+    }
+    Ok(())
+}
