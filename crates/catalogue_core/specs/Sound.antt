@@ -50,6 +50,6 @@ are_slots c =
     && (is_slot_or_none (has_tag (codes "240")) c.f240 && is_slot (has_tag (codes "245")) c.f245)
 
 -- the content of an edition
-abbrev pub is_sound : Content → Bool
+unfoldable pub is_sound : Content → Bool
 is_sound c =
     (list_all is_id c.contributors && is_fixed_part c.fixed) && (are_slots c && list_all is_storable c.united)

@@ -42,17 +42,17 @@ abbrev pub last_boundary : List ℕ → ℕ → ℕ
 last_boundary text zero = 0
 last_boundary text (suc at) = (if begins_character (slice_index text (suc at)) then suc at else last_boundary text at)
 
+-- the longest front of the text of at most so many bytes that ends between two characters
+unfoldable pub front_within : ℕ → List ℕ → List ℕ
+front_within most text = (if nat_le (length text) most then text else take (last_boundary text most) text)
+
 -- the longest work key that is shown, in bytes
 abbrev pub longest_key : ℕ
 longest_key = 9000
 
--- the longest front of the key of at most so many bytes that ends between two characters
-abbrev pub shown_key : List ℕ → List ℕ
-shown_key key = (if nat_le (length key) longest_key then key else take (last_boundary key longest_key) key)
-
 -- 991, the work key
 abbrev pub key_field : List ℕ → List Field
-key_field key = blank_field (codes "991") (subfield 0x61 (shown_key key) ∷ [])
+key_field key = blank_field (codes "991") (subfield 0x61 (front_within longest_key key) ∷ [])
 
 -- 993, a contributor: its library and its control number there
 abbrev pub contributor_field : RecordId → List Field
@@ -75,7 +75,7 @@ slot_fields c =
 
 -- what stands in an exported record before its united fields: the catalogue's own number and name, the slots, the work key,
 -- the contributors
-abbrev pub own_parts : Content → List ℕ → List Field
+unfoldable pub own_parts : Content → List ℕ → List Field
 own_parts c key =
     number_field c.contributors ++ (control_field (codes "003") (codes "UNION") ++ (slot_fields c
     ++ (key_field key ++ flat_map contributor_field c.contributors)))

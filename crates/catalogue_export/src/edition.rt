@@ -1,18 +1,15 @@
 //! The record that is shown of an edition.
-ghost use Rattle.std.specs.Prelude.{◌≡◌, ◌++◌, ◌≤◌, List, [], ◌∷◌, length, IfOk, OnOk, IsTrue, None, codes};
+ghost use Rattle.std.specs.Prelude.{◌≡◌, ◌+◌, ◌++◌, ◌≤◌, length, take, IfOk, OnOk, IsTrue};
 ghost use Rattle.std.specs.List.{list_all, flat_map};
 ghost use Rattle.union_base.specs.Fields.{is_text};
-ghost use Rattle.marc_fields.specs.Spelling.{is_short};
-ghost use Rattle.marc_fields.specs.Appending.{too_long};
-ghost use Rattle.catalogue_core.specs.Sound.{is_id, is_sound, is_slot_or_none};
+ghost use Rattle.catalogue_core.specs.Sound.{is_id, is_sound};
 ghost use Rattle.catalogue_export.specs.TagOrder.{in_tag_order};
-ghost use Rattle.catalogue_export.specs.Exported.{contributor_field, number_field, slot_field, slot_fields, own_parts, parts, exported, left_out};
+ghost use Rattle.catalogue_export.specs.Exported.{contributor_field, number_field, slot_field, slot_fields, own_parts, exported, left_out};
 
 use crate::fields::{catalogue_field, contributor_field, fixed_field, key_field, number_field};
-use crate::fitting::fit;
+use crate::fitting::fitting_count;
 use field_merge::content::Content;
 use field_merge::slot::Slot;
-use marc_fields::encoding::LONGEST_FRAME;
 use marc_fields::marc_record::Record;
 use std::alloc::Global;
 use union_base::copied::Copied;
@@ -20,9 +17,6 @@ use union_base::field::Field;
 use union_base::memory::Memory;
 use union_base::record_id::RecordId;
 use union_base::sequence::Sequence;
-
-/// The bytes of a frame beside those of its fields: the leader and two terminators.
-const FRAME_REST: usize = 26;
 
 /// How many fields an edition has at most beside its contributors' and its united ones: 001, 003, 991, 008 and six slots.
 const OTHER_FIELDS: usize = 10;
@@ -34,31 +28,48 @@ pub(crate) fn exported(alloc: Global, content: &Content, key: &[u8]) -> Result<(
     ensures value { IfOk result (λ r. r.0 ≡ exported content.now key.now) }
     ensures left { IfOk result (λ r. r.1 ≡ left_out content.now key.now) }
 {
-    let mut fields = own_fields(alloc, content, key)?;
+    let own = own_fields(alloc, content, key)?;
     let united = content.united.as_slice();
-    let all = fields.len() + united.len();
-    let (own, room) = fit(LONGEST_FRAME - FRAME_REST, fields.as_slice());
-    if own < fields.len() {
-        fields.truncate(own);
-    } else {
-        let (shown, _) = fit(room, united);
-        push_copies(alloc, united.split_at(shown).0, &mut fields)?;
-    }
-    let left = all - fields.len();
-    let fields = in_tag_order(fields)?;
-    let shown = Record {
+    let all = own.len() + united.len();
+    let shown = fitting_count(own.as_slice(), united);
+    let front = front_of(alloc, own, united, shown)?;
+    let rec = Record {
         leader: content.fixed.codes,
-        fields: Sequence::from(fields),
+        fields: Sequence::from(in_tag_order(front)?),
     };
-    Ok((shown, left))
+    Ok((rec, all - shown))
+}
+
+/// So many fields of the two lists, one behind the other.
+fn front_of(
+    alloc: Global,
+    mut own: Vec<Field>,
+    united: &[Field],
+    count: usize,
+) -> Result<Vec<Field>, Memory>
+    requires { count ≤ length own.items + length united.now }
+    ensures { IfOk result (λ front. front.items ≡ take count (own.items ++ united.now)) }
+{
+    if count <= own.len() {
+        own.truncate(count);
+    } else {
+        push_copies(alloc, united.split_at(count - own.len()).0, &mut own)?;
+    }
+    Ok(own)
 }
 
 /// The fields in order of their tags, those of one tag in their order.
 fn in_tag_order(mut fields: Vec<Field>) -> Result<Vec<Field>, Memory>
     ensures { IfOk result (λ sorted. sorted.items ≡ in_tag_order fields.items) }
 {
-    fields.sort_by_key(|f| f.tag)?;
+    fields.sort_by_key(|f| tag_of(f))?;
     Ok(fields)
+}
+
+fn tag_of(field: &Field) -> [u8; 3]
+    ensures { result ≡ field.now.tag }
+{
+    field.tag
 }
 
 /// Adds a copy of each field.
@@ -76,17 +87,30 @@ fn push_copies(alloc: Global, fields: &[Field], into: &mut Vec<Field>) -> Result
 fn own_fields(alloc: Global, content: &Content, key: &[u8]) -> Result<Vec<Field>, Memory>
     requires sound { IsTrue (is_sound content.now) }
     requires key { IsTrue (is_text key.now) }
-    ensures value { IfOk result (λ own. own.items ≡ own_parts content.now key.now) }
-    ensures short { IfOk result (λ own. IsTrue (list_all is_short own.items)) }
+    ensures { IfOk result (λ own. own.items ≡ own_parts content.now key.now) }
+{
+    let room = OTHER_FIELDS.saturating_add(content.contributors.as_slice().len());
+    let mut fields = Vec::with_capacity(alloc, room)?;
+    push_own(alloc, content, key, &mut fields)?;
+    Ok(fields)
+}
+
+fn push_own(
+    alloc: Global,
+    content: &Content,
+    key: &[u8],
+    into: &mut Vec<Field>,
+) -> Result<(), Memory>
+    requires sound { IsTrue (is_sound content.now) }
+    requires key { IsTrue (is_text key.now) }
+    ensures { OnOk result (into.new.items ≡ into.old.items ++ own_parts content.now key.now) }
 {
     let ids = content.contributors.as_slice();
-    let mut fields = Vec::with_capacity(alloc, OTHER_FIELDS + ids.len())?;
-    push_number(alloc, ids, &mut fields)?;
-    fields.push(catalogue_field(alloc)?)?;
-    push_slots(alloc, content, &mut fields)?;
-    fields.push(key_field(alloc, key)?)?;
-    push_contributors(alloc, ids, &mut fields)?;
-    Ok(fields)
+    push_number(alloc, ids, into)?;
+    into.push(catalogue_field(alloc)?)?;
+    push_slots(alloc, content, into)?;
+    into.push(key_field(alloc, key)?)?;
+    push_contributors(alloc, ids, into)
 }
 
 /// Adds 001, by the first contributor.

@@ -4,7 +4,7 @@ ghost use Rattle.union_base.specs.Fields.{is_field, is_text};
 ghost use Rattle.union_base.specs.declared.body.Body.TheVariants.{Control, Data};
 ghost use Rattle.workset_keys.specs.WorkKeys.{own_name};
 ghost use Rattle.catalogue_core.specs.Sound.{is_id};
-ghost use Rattle.catalogue_export.specs.Exported.{field_of, control_field, blank_field, subfield, last_boundary, begins_character, shown_key, key_field, contributor_field};
+ghost use Rattle.catalogue_export.specs.Exported.{field_of, control_field, blank_field, subfield, last_boundary, begins_character, front_within, key_field, contributor_field};
 
 use std::alloc::Global;
 use union_base::body::Body;
@@ -52,7 +52,7 @@ pub(crate) fn key_field(alloc: Global, key: &[u8]) -> Result<Field, Memory>
     requires { IsTrue (is_text key.now) }
     ensures { IfOk result (λ f. key_field key.now ≡ f ∷ []) }
 {
-    let subfields = key_subfields(alloc, shown_key(key))?;
+    let subfields = key_subfields(alloc, front_within(key, LONGEST_KEY))?;
     Ok(made_blank(b"991", subfields))
 }
 
@@ -91,14 +91,14 @@ fn contributor_subfields(alloc: Global, id: &RecordId) -> Result<Sequence<Subfie
     Ok(Sequence::from(subfields))
 }
 
-/// The front of the key that is shown.
-fn shown_key(key: &[u8]) -> &[u8]
-    ensures { result.now ≡ shown_key key.now }
+/// The longest front of the text of at most so many bytes that ends between two characters.
+fn front_within(text: &[u8], most: usize) -> &[u8]
+    ensures { result.now ≡ front_within most text.now }
 {
-    if key.len() <= LONGEST_KEY {
-        key
+    if text.len() <= most {
+        text
     } else {
-        &key[..last_boundary(key, LONGEST_KEY)]
+        &text[..last_boundary(text, most)]
     }
 }
 
