@@ -12,5 +12,9 @@
 
 pub mod content;
 pub mod fixed;
+pub mod laws;
+pub mod making;
+pub mod merging;
+pub mod parts;
 pub mod rank;
 pub mod slot;
