@@ -62,14 +62,12 @@ fn front_of(
 fn in_tag_order(mut fields: Vec<Field>) -> Result<Vec<Field>, Memory>
     ensures { IfOk result (λ sorted. sorted.items ≡ in_tag_order fields.items) }
 {
-    fields.sort_by_key(|f| tag_of(f))?;
+    fields.sort_by_key(|f: &Field| -> [u8; 3]
+        ensures { result ≡ f.now.tag }
+    {
+        f.tag
+    })?;
     Ok(fields)
-}
-
-fn tag_of(field: &Field) -> [u8; 3]
-    ensures { result ≡ field.now.tag }
-{
-    field.tag
 }
 
 /// Adds a copy of each field.

@@ -8,6 +8,6 @@ use Rattle.catalogue_export.proofs.edition.in_tag_order.Goals as goal
 pub returns : goal.returns
 returns c =
     in_order-from_sort is_lower is_lower-order c.args.fields.items c.sort_by_key.new.self.items
-      (c.in_ok-sort_by_key.ensures.sorted (λ f. f.tag) (answers_always _ _ _ (λ f a r q k. ?)))
-      (c.in_ok-sort_by_key.ensures.stable (λ f. f.tag) (answers_always _ _ _ (λ f a r q k. ?)))
+      (c.in_ok-sort_by_key.ensures.sorted (λ f. f.tag) (answers_always _ _ _ (λ f a r q k. search rules)))
+      (c.in_ok-sort_by_key.ensures.stable (λ f. f.tag) (answers_always _ _ _ (λ f a r q k. search rules)))
     ∙ sym (in_tag_order-is c.args.fields.items)
