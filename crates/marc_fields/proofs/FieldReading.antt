@@ -136,11 +136,11 @@ unfolding shape_failure
 shape_failure-data bytes entries none = rw none refl
 
 -- where neither rule on shapes fails, each field passes both tests
-least_all : {A : Type 0} (passes : A → Bool) (i : ℕ) (xs : List A) → least_where_not passes i xs ≡ None → list_all passes xs ≡ true
-least_all passes i [] none = refl
-least_all passes i (x ∷ xs) none =
+pub least-all : {A : Type 0} (passes : A → Bool) (i : ℕ) (xs : List A) → least_where_not passes i xs ≡ None → list_all passes xs ≡ true
+least-all passes i [] none = refl
+least-all passes i (x ∷ xs) none =
     let good = least-none passes i x xs none in
-    and_from _ _ good (least_all passes (suc i) xs (sym (least-later passes i x xs good) ∙ none))
+    and_from _ _ good (least-all passes (suc i) xs (sym (least-later passes i x xs good) ∙ none))
 
 none_both : (r s : Rule) (o p : Option ℕ) → or_then (fails r o) (fails s p) ≡ None → (o ≡ None) × (p ≡ None)
 none_both r s None None none = (refl, refl)
@@ -152,7 +152,7 @@ pub shapes-all : (bytes : List ℕ) (entries : List Entry) → shape_failure byt
 unfolding shape_failure
 shapes-all bytes entries none =
     let both = none_both ControlShape DataShape (least_where_not (is_control_shaped bytes) 1 entries) (least_where_not (is_data_shaped bytes) 1 entries) none in
-    (least_all (is_control_shaped bytes) 1 entries both.0, least_all (is_data_shaped bytes) 1 entries both.1)
+    (least-all (is_control_shaped bytes) 1 entries both.0, least-all (is_data_shaped bytes) 1 entries both.1)
 
 pub shape_failure-none : (bytes : List ℕ) (entries : List Entry) → least_where_not (is_control_shaped bytes) 1 entries ≡ None
     → least_where_not (is_data_shaped bytes) 1 entries ≡ None → shape_failure bytes entries ≡ None

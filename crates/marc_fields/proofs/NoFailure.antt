@@ -186,7 +186,7 @@ tiling-none-spelled bytes entries fields are once =
     (all_from-true (is_owned entries) 0 (length bytes) (λ k low high. some-owned k entries (once k (omega arith))))
 
 -- the text of a field that lies at its entry
-text-spelled : (bytes : List ℕ) (e : Entry) (f : Field) → IsEntryOf bytes e f → text_of bytes e ≡ body_bytes f.body
+pub text-spelled : (bytes : List ℕ) (e : Entry) (f : Field) → IsEntryOf bytes e f → text_of bytes e ≡ body_bytes f.body
 text-spelled bytes e f is =
     let t = body_bytes f.body in
     let size : length (range_of bytes e) ≡ length t + 1 = ap length is.there ∙ length-append t (0x1E ∷ []) in
@@ -240,7 +240,7 @@ spelled-texts frame r s =
     = ap (take (base_of frame - 25)) behind ∙ (ap (λ k. take k (behind_leader s.entries s.bytes)) size ∙ take-append_seam directory _) in
     ap (entry_texts ((base_of frame - 25) / 12)) front ∙ (ap (λ k. entry_texts k directory) count ∙ texts-back s.bytes s.entries r.fields s.fields)
 
-spelled-data : (frame : List ℕ) (r : Record) (s : Spells frame r) → data_in frame ≡ s.bytes
+pub spelled-data : (frame : List ℕ) (r : Record) (s : Spells frame r) → data_in frame ≡ s.bytes
 spelled-data frame r s =
     let n = length s.entries in
     let base = (spelled-base frame r s).1 in
@@ -264,13 +264,18 @@ spelled-data frame r s =
     let left : length frame - 1 - base_of frame ≡ length s.bytes = omega (arith, base, spelled-size frame r s) in
     ap (take (length frame - 1 - base_of frame)) behind ∙ (ap (λ k. take k end) left ∙ take-append_seam s.bytes (0x1D ∷ []))
 
+-- the entries of a spelled frame
+pub spelled-entries : (frame : List ℕ) (r : Record) (s : Spells frame r) → map entry_in (texts_of frame) ≡ s.entries
+spelled-entries frame r s =
+    let short : length s.bytes ≤ 99999 = omega (arith, s.short, spelled-size frame r s) in
+    ap (map entry_in) (spelled-texts frame r s) ∙ entries-back s.bytes s.entries r.fields short s.fields
+
 -- a frame that spells a record breaks none of the rules
 pub spelled-no_failure : (frame : List ℕ) (r : Record) → Spells frame r → first_failure frame ≡ None
 unfolding first_failure
 spelled-no_failure frame r s =
     let short : length s.bytes ≤ 99999 = omega (arith, s.short, spelled-size frame r s) in
-    let entries : map entry_in (texts_of frame) ≡ s.entries
-    = ap (map entry_in) (spelled-texts frame r s) ∙ entries-back s.bytes s.entries r.fields short s.fields in
+    let entries = spelled-entries frame r s in
     let directory : directory_failure (texts_of frame) ≡ None
     = ap directory_failure (spelled-texts frame r s) ∙ directory-none s.bytes s.entries r.fields short s.fields in
     let tiling : tiling_failure (data_in frame) (map entry_in (texts_of frame)) ≡ None

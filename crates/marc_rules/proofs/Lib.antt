@@ -1,2 +1,4 @@
 pub mod NumberLaws
 pub mod CheckLaws
+pub mod Utf8Laws
+pub mod AcceptedProof

@@ -1,5 +1,5 @@
 -- What counting fields shows.
-use Rattle.std.proofs.Common.{◌≡◌, ℕ, zero, suc, ◌+◌, ◌<◌, Bool, true, false, not, ◌&&◌, ◌||◌, List, [], ◌∷◌, ◌++◌, length, get_or, take, drop, refl, sym, ◌∙◌, ap, arith, add-one, inl, inr, get_or-set_same, get_or-set_other, None, Some}
+use Rattle.std.proofs.Common.{◌≡◌, ℕ, zero, suc, ◌+◌, ◌<◌, Bool, true, false, not, ◌&&◌, ◌||◌, List, [], ◌∷◌, length, get_or, take, drop, refl, sym, ◌∙◌, ap, arith, add-one, inl, inr, get_or-set_same, get_or-set_other, None, Some}
 use Rattle.std.proofs.Math.ListN.{set}
 use Rattle.std.proofs.Math.Seq.{drop-cons}
 use Rattle.std.proofs.lemmas.Bool.{cases_eq}
@@ -12,7 +12,6 @@ use Rattle.marc_fields.specs.Rows.{unless, fails, or_then}
 use Rattle.marc_fields.specs.declared.rules.Rule.TheVariants.{ControlNumber, Status}
 use Rattle.marc_rules.specs.Contents.{is_status, coding_failure, content_failure}
 use Rattle.marc_rules.specs.Numbers.{class_of, has_class, repeated_from, control_number_place, load_failure, number_failure}
-use Rattle.marc_rules.specs.Trimmed.{trim_end, before_trimmed}
 
 -- the number that was found, where there is one
 abbrev pub found_one : ℕ → List ℕ
@@ -85,18 +84,6 @@ new_class entries e none = rw none (and_none (not (class_of e.tag == 0)))
     and_none : (test : Bool) → (test && false) ≡ false
     and_none true = refl
     and_none false = refl
-
--- a blank at the end goes
-pub trim_end-blank : (t : List ℕ) (b : ℕ) → b ≡ 0x20 → trim_end (t ++ b ∷ []) ≡ trim_end t
-trim_end-blank [] b is = let one : (b == 0x20) ≡ true = alike b 0x20 is in rw one refl
-trim_end-blank (x ∷ t) b is = ap (before_trimmed x) (trim_end-blank t b is)
-
--- another byte at the end stays, with all before it
-pub trim_end-kept : (t : List ℕ) (b : ℕ) → (b ≡ 0x20 → ⊥) → trim_end (t ++ b ∷ []) ≡ t ++ b ∷ []
-trim_end-kept [] b other = let none : (b == 0x20) ≡ false = differ b 0x20 other in rw none refl
-trim_end-kept (x ∷ []) b other =
-    let none : (b == 0x20) ≡ false = differ b 0x20 other in rw none refl
-trim_end-kept (x ∷ y ∷ t) b other = ap (before_trimmed x) (trim_end-kept (y ∷ t) b other)
 
 -- the rules on numbers, one after the other
 pub number_failure-control : (status : ℕ) (bytes : List ℕ) (entries : List Entry) (place : ℕ) → control_number_place bytes entries ≡ Some place

@@ -1,7 +1,7 @@
 pub mod Contents
-pub mod Trimmed
 pub mod Numbers
 pub mod NineteenRules
 pub mod Checked
 pub mod Accepted
+pub mod AcceptedLaws
 pub mod Refusals

@@ -1,15 +1,15 @@
 -- The rules on which fields stand, and how often (MARC 21, 001, 008, 245 and 'Repeatability'; the places are this project's
 -- own).
-use Rattle.std.specs.Prelude.{ℕ, suc, ◌-◌, Bool, true, not, ◌&&◌, ◌||◌, ◌==◌, nat_eq, nat_le, List, [], ◌∷◌, ◌++◌, length, slice_index_or, Option, None, Some, if◌then◌else◌}
-use Rattle.std.specs.List.{list_all, list_any}
+use Rattle.std.specs.Prelude.{ℕ, suc, ◌-◌, Bool, true, not, ◌&&◌, ◌||◌, ◌==◌, nat_eq, List, [], ◌∷◌, ◌++◌, length, slice_index_or, Option, None, Some, if◌then◌else◌}
+use Rattle.std.specs.List.{list_any}
 use Rattle.std.specs.Cmp.Lexicographic.{pointwise}
-use Rattle.marc_leader.specs.Codes.{is_printable}
 use Rattle.marc_leader.specs.declared.entry.Entry.{Entry}
 use Rattle.marc_fields.specs.Rows.{fails, or_then}
 use Rattle.marc_fields.specs.Rules.{text_of}
 use Rattle.marc_fields.specs.declared.rules.Failure.{Failure}
 use Rattle.marc_fields.specs.declared.rules.Rule.TheVariants.{ControlNumber, Repeated, Fixed008, Title245}
-use Rattle.marc_rules.specs.Trimmed.{trimmed}
+use Rattle.marc_parts.specs.Loads.{has_number_shape}
+use Rattle.marc_parts.specs.Trimmed.{trimmed}
 
 -- the two tags are one
 abbrev pub is_same : List ℕ → List ℕ → Bool
@@ -33,11 +33,7 @@ no_entry = record { tag = []; length = 0; start = 0 }
 abbrev pub text_at : List ℕ → List Entry → ℕ → List ℕ
 text_at bytes entries i = text_of bytes (slice_index_or entries (i - 1) no_entry)
 
--- a control number has 1 to 64 printable bytes
-abbrev pub has_number_shape : List ℕ → Bool
-has_number_shape number = (nat_le 1 (length number) && nat_le (length number) 64) && list_all is_printable number
-
--- blanks may stand in front of it and behind it
+-- a control number has 1 to 64 printable bytes; blanks may stand in front of it and behind it
 abbrev pub is_control_number : List ℕ → Bool
 is_control_number text = has_number_shape (trimmed text)
 

@@ -5,6 +5,7 @@
 
 pub mod check;
 pub mod contents;
+pub mod laws;
 pub mod numbers;
 pub mod parts;
 #[cfg(test)]

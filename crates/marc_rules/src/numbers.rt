@@ -1,22 +1,19 @@
 //! The rules on which fields stand, and how often.
 ghost use Rattle.std.specs.Prelude.{⊤, ◌≡◌, ◌+◌, ◌<◌, ◌≤◌, ◌∷◌, [], ℕ, Bool, nat_eq, true, length, List, MatchResult, Some};
 ghost use Rattle.std.specs.List.{list_all};
-ghost use Rattle.marc_leader.specs.Codes.{is_printable};
 ghost use Rattle.marc_fields.specs.Rows.{Answers};
 ghost use Rattle.marc_fields.specs.Rules.{is_tile};
-ghost use Rattle.marc_rules.specs.Trimmed.{trim_start, trim_end, trimmed};
-ghost use Rattle.marc_rules.specs.Numbers.{is_same, places, once, has_number_shape, is_control_number, class_of, repeated_from, control_number_place, fixed_008_place, title_245_place, load_failure, number_failure};
+ghost use Rattle.marc_rules.specs.Numbers.{is_same, places, once, is_control_number, class_of, repeated_from, control_number_place, fixed_008_place, title_245_place, load_failure, number_failure};
 
 use crate::parts::text_in;
 use marc_fields::decoding::DecodeRefusal;
 use marc_fields::rules::Rule;
 use marc_leader::entry::Entry;
+use marc_parts::loads::has_number_shape;
+use marc_parts::trimming::trimmed;
 
 /// The status of a record that is withdrawn (MARC 21, leader/05, 'deleted').
 pub const DELETED: u8 = b'd';
-
-/// The longest control number, in bytes (this project's own).
-const LONGEST_NUMBER: usize = 64;
 
 /// How many bytes field 008 has (MARC 21, 008).
 const FIXED_008_SIZE: usize = 40;
@@ -28,52 +25,11 @@ fn are_same(tag: &[u8], other: &[u8]) -> bool
     tag == other
 }
 
-/// The text without the blanks in front.
-fn trimmed_start(text: &[u8]) -> &[u8]
-    ensures { result.now ≡ trim_start text.now }
-{
-    let mut rest = text;
-    while let Some((first, behind)) = rest.split_first() {
-        if *first != b' ' {
-            return rest;
-        }
-        rest = behind;
-    }
-    rest
-}
-
-/// The text without the blanks at the end.
-fn trimmed_end(text: &[u8]) -> &[u8]
-    ensures { result.now ≡ trim_end text.now }
-{
-    let mut rest = text;
-    while let Some((last, before)) = rest.split_last() {
-        if *last != b' ' {
-            return rest;
-        }
-        rest = before;
-    }
-    rest
-}
-
-fn are_printable_bytes(text: &[u8]) -> bool
-    ensures { result ≡ list_all is_printable text.now }
-{
-    text.iter().all(|b| 0x20 <= *b && *b <= 0x7E)
-}
-
-/// Whether the text is 1 to 64 printable bytes.
-fn is_number(text: &[u8]) -> bool
-    ensures { result ≡ has_number_shape text.now }
-{
-    1 <= text.len() && text.len() <= LONGEST_NUMBER && are_printable_bytes(text)
-}
-
 /// Whether the field's bytes are a control number between blanks: 1 to 64 printable bytes (MARC 21, 001).
 fn are_control_number(text: &[u8]) -> bool
     ensures { result ≡ is_control_number text.now }
 {
-    is_number(trimmed_end(trimmed_start(text)))
+    has_number_shape(trimmed(text))
 }
 
 /// The number of the one entry with that tag; else 0 where there is none, and the second one's number where there are more.

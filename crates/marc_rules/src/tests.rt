@@ -1,21 +1,35 @@
 //! What no clause says: frames of an independent program, with the rule and place at which each is refused.
-use crate::check::{Refusal, check_frame};
+use crate::check::{Refusal, accepted_status, check_frame};
 use iso2709_frame::cut::Cut;
 use marc_fields::decoding::is_frame;
 use marc_fields::rules::Rule;
 use std::alloc::Global;
 use std::test::Fail;
 
-/// The first rule that the frame breaks, and its place.
+/// The first rule that the frame breaks, and its place. The check of its status alone has to name the same, or to answer
+/// the status of the record.
 fn failure(alloc: Global, cut: Cut, bytes: &[u8]) -> Result<Option<(Rule, u32)>, Fail> {
     if !is_frame(bytes) {
         Err("no frame")?;
         return Ok(None);
     }
-    match check_frame(alloc, cut, bytes) {
-        Ok(_) => Ok(None),
-        Err(Refusal::Rule { rule, place }) => Ok(Some((rule, place))),
-        Err(Refusal::Memory) => Err("no memory")?,
+    match (
+        check_frame(alloc, cut, bytes),
+        accepted_status(alloc, cut, bytes),
+    ) {
+        (Ok(found), Ok(status)) => {
+            if found.leader.status != status {
+                Err("the status is another")?;
+            }
+            Ok(None)
+        }
+        (Err(Refusal::Rule { rule, place }), Err(alone)) => {
+            if alone != (Refusal::Rule { rule, place }) {
+                Err("the status alone is refused for another rule")?;
+            }
+            Ok(Some((rule, place)))
+        }
+        _ => Err("no memory, or only one of the two calls refuses the frame")?,
     }
 }
 

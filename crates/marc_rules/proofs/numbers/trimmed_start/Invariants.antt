@@ -1,9 +1,0 @@
-use Rattle.std.proofs.Common.{◌≡◌, length}
-use Rattle.marc_rules.specs.Trimmed.{trim_start}
-use Rattle.marc_rules.proofs.numbers.trimmed_start.Given as goal
-
-abbrev pub invariant-loop-first : goal.invariant-loop-first
-invariant-loop-first l = trim_start l.text ≡ trim_start l.rest
-
-abbrev pub decreases-loop-first : goal.decreases-loop-first
-decreases-loop-first l = length l.rest
