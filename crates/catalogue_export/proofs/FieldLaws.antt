@@ -68,7 +68,7 @@ pub is_text-own_name : (id : RecordId) → is_id id ≡ true → is_text (own_na
 is_text-own_name id h =
     list_all-append is_text_byte (id.library ++ 0x2E ∷ []) id.control
     ∙ true_both (is_text (id.library ++ 0x2E ∷ [])) (is_text id.control)
-      (list_all-append is_text_byte id.library (0x2E ∷ []) ∙ true_both (is_text id.library) true (is_text-code id h) refl) (is_text-control id h)
+    (list_all-append is_text_byte id.library (0x2E ∷ []) ∙ true_both (is_text id.library) true (is_text-code id h) refl) (is_text-control id h)
 
 -- the front of a text is a text
 pub is_text-take : (n : ℕ) (text : List ℕ) → is_text text ≡ true → is_text (take n text) ≡ true

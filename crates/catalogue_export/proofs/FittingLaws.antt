@@ -1,8 +1,7 @@
 -- What fits of a list of fields.
-use Rattle.std.proofs.Common.{◌≡◌, ℕ, suc, ◌+◌, ◌*◌, ◌-◌, ◌<◌, ◌≤◌, Bool, true, false, ◌&&◌, List, [], ◌∷◌, ◌++◌, length, length-append, take, drop, get_or, refl, sym, ◌∙◌, ap, arith}
+use Rattle.std.proofs.Common.{◌≡◌, ℕ, ◌+◌, ◌*◌, ◌-◌, ◌<◌, ◌≤◌, Bool, true, false, List, [], ◌∷◌, length, length-append, refl, arith}
 use Rattle.std.specs.Prelude.{if◌then◌else◌, nat_le}
 use Rattle.std.specs.List.{list_all, flat_map}
-use Rattle.std.proofs.Math.Seq.{drop-cons}
 use Rattle.std.proofs.lemmas.Bool.Decides.{nat_tests}
 use Rattle.union_base.specs.Both.{both_true, true_both}
 use Rattle.union_base.specs.declared.field.Field.{Field}
@@ -30,7 +29,7 @@ pub fitting_in-bound : (room : ℕ) (fields : List Field) → 12 * length (fitti
 fitting_in-bound room [] = omega arith
 fitting_in-bound room (f ∷ fields) =
     elim (nat_le (taken_by f) room) as (λ r. nat_le (taken_by f) room ≡ r
-        → 12 * length (if r then f ∷ fitting_in (room - taken_by f) fields else []) + length (flat_map stored (if r then f ∷ fitting_in (room - taken_by f) fields else [])) ≤ room) [
+    → 12 * length (if r then f ∷ fitting_in (room - taken_by f) fields else []) + length (flat_map stored (if r then f ∷ fitting_in (room - taken_by f) fields else [])) ≤ room) [
       | true ↦ λ e.
           let low : taken_by f ≤ room = is_le (taken_by f) room e in
           omega (arith, low, fitting_in-bound (room - taken_by f) fields, length-append (stored f) (flat_map stored (fitting_in (room - taken_by f) fields)))

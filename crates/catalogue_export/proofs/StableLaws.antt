@@ -1,12 +1,11 @@
 -- A list has one order in which nothing is less than what stands before it and what ties keeps its order.
-use Rattle.std.proofs.Common.{◌≡◌, ℕ, zero, suc, ◌+◌, ◌<◌, ◌≤◌, Bool, true, false, not, ◌&&◌, List, [], ◌∷◌, length, get_or, refl, sym, ◌∙◌, ap, arith, cond}
+use Rattle.std.proofs.Common.{◌≡◌, ℕ, suc, ◌+◌, ◌<◌, Bool, true, false, not, ◌&&◌, List, [], ◌∷◌, length, get_or, refl, sym, ◌∙◌, ap, arith, cond}
 use Rattle.std.specs.Prelude.{if◌then◌else◌, filter}
 use Rattle.std.specs.List.Sorted.{IsSortedBy, IsStableBy, ties}
 use Rattle.std.specs.Cmp.{IsStrictWeakOrder}
 use Rattle.std.proofs.lemmas.List.Sorted.{sorted_far}
 
 module _ {X : Type 0} (lt : X → X → Bool) where
-
   -- nothing in the list is less than the value
   abbrev pub Floor : X → List X → Type 0
   Floor x [] = Unit {0}
@@ -31,14 +30,14 @@ module _ {X : Type 0} (lt : X → X → Bool) where
   Floor-from_places x (y ∷ ys) each = (each 0 (omega arith), Floor-from_places x ys (λ k below. each (suc k) (omega arith)))
 
   module _ (order : IsStrictWeakOrder lt) where
-
     Rising-from_sorted : (xs : List X) → IsSortedBy lt xs → Rising xs
     Rising-from_sorted [] sorted = tt
-    Rising-from_sorted (x ∷ xs) sorted =
-        (Floor-from_places x xs (λ k below. sorted_far lt order (x ∷ xs) sorted 0 (suc k) x (omega arith) (omega arith)),
-        Rising-from_sorted xs (λ k d low below.
-            let later : suc (k + 1) ≡ suc k + 1 = omega arith in
-            ap (λ n. lt (get_or (x ∷ xs) n d) (get_or xs k d)) later ∙ sorted (suc k) d (omega arith) (omega arith)))
+    Rising-from_sorted (x ∷ xs) sorted = (
+      Floor-from_places x xs (λ k below. sorted_far lt order (x ∷ xs) sorted 0 (suc k) x (omega arith) (omega arith)),
+      Rising-from_sorted xs (λ k d low below.
+          let later : suc (k + 1) ≡ suc k + 1 = omega arith in
+          ap (λ n. lt (get_or (x ∷ xs) n d) (get_or xs k d)) later ∙ sorted (suc k) d (omega arith) (omega arith)),
+    )
 
     -- what is less than nothing in a list is less than nothing above it
     Floor-lower : (x y : X) (ys : List X) → lt y x ≡ false → Floor y ys → Floor x ys
@@ -77,9 +76,9 @@ module _ {X : Type 0} (lt : X → X → Bool) where
         elim (lt x y) as (λ r. (not r && not (lt y x)) ≡ true → lt y x ≡ false) [
           | true ↦ λ g. cc
           | false ↦ λ g. elim (lt y x) as (λ r. not r ≡ true → r ≡ false) [
-              | true ↦ λ q. cc
-              | false ↦ λ q. refl
-            ] g
+            | true ↦ λ q. cc
+            | false ↦ λ q. refl
+          ] g
         ] h
 
     -- of two values of which one is less than the other, not both tie with a third
@@ -91,11 +90,11 @@ module _ {X : Type 0} (lt : X → X → Bool) where
     swapped : (p : X → Bool) (x y : X) (rest : List X) → (p x ≡ true → p y ≡ true → ⊥) → filter p (y ∷ x ∷ rest) ≡ filter p (x ∷ y ∷ rest)
     swapped p x y rest once =
         elim (p x) as (λ a. p x ≡ a → cond (p y) (y ∷ cond a (x ∷ filter p rest) (filter p rest)) (cond a (x ∷ filter p rest) (filter p rest))
-            ≡ cond a (x ∷ cond (p y) (y ∷ filter p rest) (filter p rest)) (cond (p y) (y ∷ filter p rest) (filter p rest))) [
+        ≡ cond a (x ∷ cond (p y) (y ∷ filter p rest) (filter p rest)) (cond (p y) (y ∷ filter p rest) (filter p rest))) [
           | true ↦ λ px. elim (p y) as (λ b. p y ≡ b → cond b (y ∷ x ∷ filter p rest) (x ∷ filter p rest) ≡ x ∷ cond b (y ∷ filter p rest) (filter p rest)) [
-              | true ↦ λ py. absurd (once px py)
-              | false ↦ λ py. refl
-            ] refl
+            | true ↦ λ py. absurd (once px py)
+            | false ↦ λ py. refl
+          ] refl
           | false ↦ λ px. refl
         ] refl
 
@@ -175,10 +174,10 @@ module _ {X : Type 0} (lt : X → X → Bool) where
         let high : lt z y ≡ false = not_less z y zs ys up.0 (sym (same z)) in
         let tied : ties lt y z ≡ true = rw (low, high) refl in
         let both : y ∷ filter (ties lt y) ys ≡ z ∷ filter (ties lt y) zs =
-            sym (filter-kept (ties lt y) y ys (ties_itself y)) ∙ (same y ∙ filter-kept (ties lt y) z zs tied) in
+        sym (filter-kept (ties lt y) y ys (ties_itself y)) ∙ (same y ∙ filter-kept (ties lt y) z zs tied) in
         let first : y ≡ z = head_same y z _ _ both in
         let rests : (x : X) → filter (ties lt x) ys ≡ filter (ties lt x) zs =
-            λ x. rests_same (ties lt x) y ys zs (same x ∙ ap (λ w. filter (ties lt x) (w ∷ zs)) (sym first)) in
+        λ x. rests_same (ties lt x) y ys zs (same x ∙ ap (λ w. filter (ties lt x) (w ∷ zs)) (sym first)) in
         ap (λ w. w ∷ ys) first ∙ ap (λ rest. z ∷ rest) (only_order ys zs up.1 down.1 rests)
 
     -- what a stable sort makes of a list is its order

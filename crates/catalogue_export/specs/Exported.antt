@@ -1,5 +1,5 @@
 -- The record that the catalogue shows of an edition.
-use Rattle.std.specs.Prelude.{ℕ, suc, zero, Bool, true, false, ◌||◌, nat_le, nat_lt, List, [], ◌∷◌, ◌++◌, ◌-◌, length, take, codes, refl, ◌≡◌, Option, None, Some, slice_index, slice_index_or, if◌then◌else◌}
+use Rattle.std.specs.Prelude.{ℕ, suc, zero, Bool, true, false, ◌||◌, nat_le, nat_lt, List, [], ◌∷◌, ◌++◌, ◌-◌, length, take, codes, refl, ◌≡◌, Option, None, Some, slice_index, if◌then◌else◌}
 use Rattle.std.specs.List.{flat_map}
 use Rattle.union_base.specs.Fields.{is_field}
 use Rattle.union_base.specs.declared.subfield.Subfield.{Subfield}

@@ -2,14 +2,16 @@
 ghost use Rattle.std.specs.Prelude.{◌≡◌, ◌+◌, ◌++◌, ◌≤◌, length, take, IfOk, OnOk, IsTrue};
 ghost use Rattle.std.specs.List.{list_all, flat_map};
 ghost use Rattle.union_base.specs.Fields.{is_text};
+ghost use Rattle.marc_fields.specs.Appending.{Appends};
 ghost use Rattle.catalogue_core.specs.Sound.{is_id, is_sound};
 ghost use Rattle.catalogue_export.specs.TagOrder.{in_tag_order};
-ghost use Rattle.catalogue_export.specs.Exported.{contributor_field, number_field, slot_field, slot_fields, own_parts, exported, left_out};
+ghost use Rattle.catalogue_export.specs.Exported.{contributor_field, number_field, slot_field, slot_fields, own_parts, exported, edition_bytes, left_out};
 
 use crate::fields::{catalogue_field, contributor_field, fixed_field, key_field, number_field};
 use crate::fitting::fitting_count;
 use field_merge::content::Content;
 use field_merge::slot::Slot;
+use marc_fields::encoding::{EncodeRefusal, encode};
 use marc_fields::marc_record::Record;
 use std::alloc::Global;
 use union_base::copied::Copied;
@@ -21,8 +23,34 @@ use union_base::sequence::Sequence;
 /// How many fields an edition has at most beside its contributors' and its united ones: 001, 003, 991, 008 and six slots.
 const OTHER_FIELDS: usize = 10;
 
+/// Appends the record that is shown of an edition with this work key, and answers how many of its fields were left out of it,
+/// since a frame has no room for more.
+pub(crate) fn append_edition(
+    alloc: Global,
+    content: &Content,
+    key: &[u8],
+    into: &mut Vec<u8>,
+) -> Result<usize, Memory>
+    requires sound { IsTrue (is_sound content.now) }
+    requires key { IsTrue (is_text key.now) }
+    ensures text { Appends result into.old.items into.new.items (edition_bytes content.now key.now) }
+    ensures left { IfOk result (λ n. n ≡ left_out content.now key.now) }
+{
+    let (rec, left) = exported(alloc, content, key)?;
+    match encode(&rec, into) {
+        Ok(()) => Ok(left),
+        Err(EncodeRefusal::Memory) => Err(Memory),
+        Err(EncodeRefusal::FieldTooLong) => unreachable!(),
+        Err(EncodeRefusal::RecordTooLong) => unreachable!(),
+    }
+}
+
 /// The record that is shown of an edition, and how many of its fields were left out since no more fit.
-pub(crate) fn exported(alloc: Global, content: &Content, key: &[u8]) -> Result<(Record, usize), Memory>
+pub(crate) fn exported(
+    alloc: Global,
+    content: &Content,
+    key: &[u8],
+) -> Result<(Record, usize), Memory>
     requires sound { IsTrue (is_sound content.now) }
     requires key { IsTrue (is_text key.now) }
     ensures value { IfOk result (λ r. r.0 ≡ exported content.now key.now) }
@@ -62,11 +90,11 @@ fn front_of(
 fn in_tag_order(mut fields: Vec<Field>) -> Result<Vec<Field>, Memory>
     ensures { IfOk result (λ sorted. sorted.items ≡ in_tag_order fields.items) }
 {
-    fields.sort_by_key(|f: &Field| -> [u8; 3]
-        ensures { result ≡ f.now.tag }
-    {
-        f.tag
-    })?;
+    fields.sort_by_key(
+        |f: &Field| -> [u8; 3]
+            ensures { result ≡ f.now.tag }
+        { f.tag },
+    )?;
     Ok(fields)
 }
 

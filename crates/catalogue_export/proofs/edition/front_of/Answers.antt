@@ -1,4 +1,4 @@
-use Rattle.std.proofs.Common.{◌≡◌, ◌∙◌, sym, ap, ◌++◌, ◌+◌, ◌-◌, ◌≤◌, ◌<◌, take, length, arith}
+use Rattle.std.proofs.Common.{◌≡◌, ◌∙◌, sym, ap, ◌++◌, ◌+◌, ◌-◌, ◌≤◌, take, length, arith}
 use Rattle.std.proofs.lemmas.List.{take-append-le}
 use Rattle.std.proofs.Math.Seq.{take-append-add}
 use Rattle.catalogue_export.proofs.edition.front_of.Goals as goal
@@ -16,6 +16,6 @@ returns c =
           let more : length own + (c.args.count - length own) ≡ c.args.count = omega (arith, w.if-count-len.false, c.len.ensures) in
           ap (λ v. v.items) w.own-is
           ∙ (w.in_ok-push_copies.ensures
-          ∙ (ap (λ front. own ++ front) ?
+          ∙ (ap (λ front. own ++ front) (w.split_at.ensures.front ∙ ap (λ n. take n united) (let e : c.args.count - w.len-else-count-len.result ≡ c.args.count - length own = omega (arith, w.len-else-count-len.ensures) in e))
           ∙ (sym (take-append-add own united (c.args.count - length own)) ∙ ap (λ n. take n (own ++ united)) more)))
     ]

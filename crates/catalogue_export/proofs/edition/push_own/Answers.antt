@@ -1,5 +1,4 @@
-use Rattle.std.proofs.Common.{append_assoc}
-use Rattle.std.specs.Result.{MatchResult}
+use Rattle.std.proofs.Common.{append_assoc, rules}
 use Rattle.catalogue_export.specs.Exported.{own_parts}
 use Rattle.catalogue_export.proofs.SoundLaws.{sound-ids, sound-fixed}
 use Rattle.catalogue_export.proofs.edition.push_own.Goals as goal
@@ -15,4 +14,4 @@ push_contributors-requires c = rw c.as_slice-ids.ensures.value (sound-ids c.args
 
 pub returns : goal.returns
 unfolding own_parts
-returns c = OnOk_then c.push_contributors.result c.push_contributors.ensures (λ e. ?)
+returns c = search (rules, append_assoc)

@@ -1,6 +1,6 @@
-use Rattle.std.proofs.Common.{◌≡◌, ◌∙◌, ℕ, ◌<◌, ◌≤◌, Bool, true, false, length, take, refl, arith, sym, ap}
+use Rattle.std.proofs.Common.{◌≡◌, true, false, length, take, refl, ap}
 use Rattle.std.specs.Prelude.{nat_le}
-use Rattle.catalogue_export.specs.Exported.{front_within, last_boundary}
+use Rattle.catalogue_export.specs.Exported.{front_within}
 use Rattle.catalogue_export.proofs.FittingLaws.{yes_le, no_le}
 use Rattle.catalogue_export.proofs.fields.front_within.Goals as goal
 

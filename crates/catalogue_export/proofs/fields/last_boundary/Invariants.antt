@@ -1,4 +1,4 @@
-use Rattle.std.proofs.Common.{◌≡◌, ◌≤◌, ℕ}
+use Rattle.std.proofs.Common.{◌≡◌, ◌≤◌}
 use Rattle.catalogue_export.specs.Exported.{last_boundary}
 use Rattle.catalogue_export.proofs.fields.last_boundary.Given as goal
 

@@ -1,4 +1,4 @@
-use Rattle.std.proofs.Common.{◌≡◌, ◌≤◌, ◌++◌, List, length, take, drop}
+use Rattle.std.proofs.Common.{◌≡◌, ◌++◌, List, take, drop}
 use Rattle.union_base.specs.declared.field.Field.{Field}
 use Rattle.catalogue_export.specs.Fitting.{fitting_in}
 use Rattle.catalogue_export.proofs.fitting.fit.Given as goal

@@ -10,7 +10,7 @@ returns-else-count-own-clause-fitting c =
     let own = c.args.own.now in
     let united = c.args.united.now in
     let room : ℕ = c.fit-count.result.1 in
-    let full : c.fit-count.result.0 ≡ length own = omega (arith, c.fit-count.ensures.bound, c.if-count-own.false, c.len.ensures) in
+    let full : c.fit-count.result.0 ≡ length own = omega (arith, c.fit-count.ensures.bound, c.if-count-own.false) in
     c.fit-count.ensures.whole full united
     ∙ (ap (λ rest. own ++ fitting_in room rest) (sym (append-nil united))
     ∙ (ap (λ rest. own ++ rest) c.fit.ensures.alone
