@@ -11,8 +11,11 @@ use union_base::field::Field;
 use union_base::memory::Memory;
 use union_base::subfield::Subfield;
 
-/// The name in a field 100, 110, 111, 700, 710 or 711.
-pub(crate) fn name_of(alloc: Global, field: &Field) -> Result<Bytes, Memory>
+/// The name in a field 100, 110, 111, 700, 710 or 711: the heading of its subfields `a b c d q`, in fields X00, or else of
+/// `a b c d n` (MARC 21, X00, X10 and X11). It is empty where these texts have no letter or digit.
+///
+/// Answers `Memory` where memory ran out.
+pub fn name_of(alloc: Global, field: &Field) -> Result<Bytes, Memory>
     requires { HasTexts field.now }
     ensures { IfOk result (λ b. b ≡ name_of field.now) }
 {
@@ -37,8 +40,11 @@ pub(crate) fn title240_of(alloc: Global, field: &Field) -> Result<Bytes, Memory>
     title(alloc, subfields_of(&field.body), b"anp", skip)
 }
 
-/// The title in a field 245.
-pub(crate) fn title245_of(alloc: Global, field: &Field) -> Result<Bytes, Memory>
+/// The title in a field 245: the title form of its subfields `a b n p`, without the characters that its second indicator
+/// skips (MARC 21, 245). It is empty where these texts have no letter or digit.
+///
+/// Answers `Memory` where memory ran out.
+pub fn title245_of(alloc: Global, field: &Field) -> Result<Bytes, Memory>
     requires { HasTexts field.now }
     ensures { IfOk result (λ b. b ≡ title245_of field.now) }
 {
@@ -67,7 +73,8 @@ fn skip_of(indicator: u8) -> u8
     }
 }
 
-fn subfields_of(body: &Body) -> &[Subfield]
+/// The subfields of a data field, and none of a control field. Takes no memory.
+pub fn subfields_of(body: &Body) -> &[Subfield]
     ensures { result.now ≡ subfields_of body.now }
 {
     match body {

@@ -5,7 +5,7 @@
 //! once.
 #![tactic(auto)]
 
-mod fields;
+pub mod fields;
 mod names;
 #[cfg(test)]
 mod tests;

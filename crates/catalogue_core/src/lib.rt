@@ -1,0 +1,2 @@
+//! Editions.
+#![tactic(auto)]

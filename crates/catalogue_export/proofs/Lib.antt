@@ -1,0 +1,5 @@
+pub mod FieldLaws
+pub mod StableLaws
+pub mod TagOrderLaws
+pub mod FittingLaws
+pub mod SoundLaws

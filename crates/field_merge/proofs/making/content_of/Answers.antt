@@ -1,0 +1,35 @@
+use Rattle.std.proofs.Common.{sym, ap, subst, ◌∙◌}
+use Rattle.std.specs.Prelude.{codes, find}
+use Rattle.std.specs.Option.{option_map}
+use Rattle.union_base.specs.SortedLists.{set_of}
+use Rattle.union_base.specs.FieldOrder.{field_cmp}
+use Rattle.marc_parts.specs.Parts.{first_under}
+use Rattle.field_merge.specs.Equal.{same_contents}
+use Rattle.field_merge.specs.Parts.{ArePartsOf}
+use Rattle.field_merge.specs.Ranks.{rank}
+use Rattle.field_merge.specs.Contents.{fixed_part, content}
+use Rattle.field_merge.proofs.Gathering.{some-from_parts, title-is}
+use Rattle.field_merge.proofs.making.content_of.Goals as goal
+
+pub unwrap-requires : goal.unwrap-requires
+unwrap-requires c =
+    some-from_parts c.in_ok-rank.rank c.args.rec.now c.in_ok-parts.parts c.requires
+    (subst (λ fields. ArePartsOf c.in_ok-rank.rank fields c.in_ok-parts.parts) c.as_slice.ensures c.in_ok-parts.ensures)
+
+pub returns : goal.returns
+returns c =
+    let library = c.args.library.now in
+    let r = c.args.rec.now in
+    let parts = subst (λ k. ArePartsOf k r.fields c.in_ok-parts.parts) c.in_ok-rank.ensures
+    (subst (λ fields. ArePartsOf c.in_ok-rank.rank fields c.in_ok-parts.parts) c.as_slice.ensures c.in_ok-parts.ensures) in
+    same_contents _ (content library r) (record {
+      contributors = c.in_ok-contributors_of.ensures;
+      fixed = c.in_ok-fixed_of.ensures ∙ ap (λ k. fixed_part k r) c.in_ok-rank.ensures;
+      f005 = parts.f005;
+      f010 = parts.f010;
+      f040 = parts.f040;
+      f1xx = parts.f1xx;
+      f240 = parts.f240;
+      f245 = title-is (rank library r) (first_under (codes "245") r.fields) c.unwrap.result (sym parts.f245 ∙ c.unwrap.ensures);
+      united = c.in_ok-of.ensures ∙ ap (set_of field_cmp) parts.united;
+    })

@@ -1,0 +1,11 @@
+pub mod Contents
+pub mod Equal
+pub mod GreaterLaws
+pub mod Kept
+pub mod KeptLaws
+pub mod Merging
+pub mod MergingLaws
+pub mod OrderLaws
+pub mod Orders
+pub mod Parts
+pub mod Ranks

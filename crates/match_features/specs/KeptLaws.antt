@@ -1,0 +1,87 @@
+-- Sets of lists, and unions of lists that are kept, are kept.
+use Rattle.std.proofs.Common.{◌≡◌, ℕ, Bool, true, false, ◌&&◌, IsTrue, List, [], ◌∷◌, refl}
+use Rattle.std.specs.declared.cmp.Ordering.{Ordering}
+use Rattle.std.specs.declared.cmp.Ordering.TheVariants.{Less, Equal, Greater}
+use Rattle.std.specs.Ordering.{nat_cmp, match_ordering}
+use Rattle.std.specs.Cmp.{IsTotalOrder}
+use Rattle.std.specs.Cmp.Lexicographic.{slice_cmp, nat_list_cmp_total}
+use Rattle.std.specs.FinMap.{IsAntisymmetric}
+use Rattle.std.specs.Cmp.Rules.{comparing}
+use Rattle.std.proofs.Common.{rules}
+use Rattle.union_base.specs.Both.{both_true, true_both}
+use Rattle.union_base.specs.SortedLists.{is_ascending, put, union, set_of}
+use Rattle.union_base.specs.Ties.{texts_apart, pairs_apart}
+use Rattle.union_base.proofs.SortedListLaws.{is_ascending-union}
+use Rattle.match_features.specs.Kept.{texts_cmp, pairs_cmp, has_some, are_features}
+
+pub pairs_total : IsTotalOrder pairs_cmp
+pairs_total = search (comparing, rules)
+
+pub pairs_tie : IsAntisymmetric pairs_cmp
+pairs_tie = pairs_apart texts_apart texts_apart
+
+-- the parts of what is kept
+pub record AreKept (a : List (List ℕ × List ℕ)) (b c d e f : List (List ℕ)) : Type 0 where
+  pub some : has_some a ≡ true
+  pub control : is_ascending pairs_cmp a ≡ true
+  pub types : is_ascending texts_cmp b ≡ true
+  pub isbns : is_ascending texts_cmp c ≡ true
+  pub titles : is_ascending texts_cmp d ≡ true
+  pub dates : is_ascending texts_cmp e ≡ true
+  pub names : is_ascending texts_cmp f ≡ true
+
+module _ (control : List (List ℕ × List ℕ)) (types isbns titles dates names : List (List ℕ)) where
+  pub kept_parts : IsTrue (are_features control types isbns titles dates names) → AreKept control types isbns titles dates names
+  kept_parts kept =
+      let first = both_true _ _ kept in
+      let pairs = both_true (has_some control) (is_ascending pairs_cmp control) first.0 in
+      let rest = both_true (is_ascending texts_cmp types && is_ascending texts_cmp isbns) _ first.1 in
+      let two = both_true (is_ascending texts_cmp types) (is_ascending texts_cmp isbns) rest.0 in
+      let three = both_true (is_ascending texts_cmp titles) _ rest.1 in
+      let last = both_true (is_ascending texts_cmp dates) (is_ascending texts_cmp names) three.1 in
+      record { some = pairs.0; control = pairs.1; types = two.0; isbns = two.1; titles = three.0; dates = last.0; names = last.1 }
+
+  pub kept_whole : AreKept control types isbns titles dates names → IsTrue (are_features control types isbns titles dates names)
+  kept_whole parts =
+      true_both _ _ (true_both _ _ parts.some parts.control)
+      (true_both _ _ (true_both _ _ parts.types parts.isbns) (true_both _ _ parts.titles (true_both _ _ parts.dates parts.names)))
+
+module _ {K : Type 0} (R : K → K → Ordering) where
+  has_some-put : (y : K) (xs : List K) → has_some (put R y xs) ≡ true
+  has_some-put y [] = refl
+  has_some-put y (x ∷ xs) = elim (R y x) as (λ r. has_some (match_ordering r (y ∷ x ∷ xs) (x ∷ xs) (x ∷ put R y xs)) ≡ true) [ Less ↦ refl | Equal ↦ refl | Greater ↦ refl ]
+
+  has_some-union : (xs ys : List K) → has_some xs ≡ true → has_some (union R xs ys) ≡ true
+  has_some-union xs [] h = h
+  has_some-union xs (y ∷ ys) h = has_some-put y (union R xs ys)
+
+  has_some-set : (xs : List K) → has_some xs ≡ true → has_some (set_of R xs) ≡ true
+  has_some-set [] h = h
+  has_some-set (x ∷ xs) h = has_some-put x (set_of R xs)
+
+pub kept_sets : (control : List (List ℕ × List ℕ)) (types isbns titles dates names : List (List ℕ)) → has_some control ≡ true
+    → IsTrue (are_features (set_of pairs_cmp control) (set_of texts_cmp types) (set_of texts_cmp isbns) (set_of texts_cmp titles) (set_of texts_cmp dates) (set_of texts_cmp names))
+kept_sets control types isbns titles dates names some =
+    kept_whole (set_of pairs_cmp control) (set_of texts_cmp types) (set_of texts_cmp isbns) (set_of texts_cmp titles) (set_of texts_cmp dates) (set_of texts_cmp names) (record {
+      some = has_some-set pairs_cmp control some;
+      control = is_ascending-union pairs_total [] control refl;
+      types = is_ascending-union nat_list_cmp_total [] types refl;
+      isbns = is_ascending-union nat_list_cmp_total [] isbns refl;
+      titles = is_ascending-union nat_list_cmp_total [] titles refl;
+      dates = is_ascending-union nat_list_cmp_total [] dates refl;
+      names = is_ascending-union nat_list_cmp_total [] names refl;
+    })
+
+pub kept_unions : (a b : List (List ℕ × List ℕ)) (c d e f g h i j k l : List (List ℕ)) → IsTrue (are_features a c e g i k)
+    → IsTrue (are_features (union pairs_cmp a b) (union texts_cmp c d) (union texts_cmp e f) (union texts_cmp g h) (union texts_cmp i j) (union texts_cmp k l))
+kept_unions a b c d e f g h i j k l kept =
+    let parts = kept_parts a c e g i k kept in
+    kept_whole (union pairs_cmp a b) (union texts_cmp c d) (union texts_cmp e f) (union texts_cmp g h) (union texts_cmp i j) (union texts_cmp k l) (record {
+      some = has_some-union pairs_cmp a b parts.some;
+      control = is_ascending-union pairs_total a b parts.control;
+      types = is_ascending-union nat_list_cmp_total c d parts.types;
+      isbns = is_ascending-union nat_list_cmp_total e f parts.isbns;
+      titles = is_ascending-union nat_list_cmp_total g h parts.titles;
+      dates = is_ascending-union nat_list_cmp_total i j parts.dates;
+      names = is_ascending-union nat_list_cmp_total k l parts.names;
+    })

@@ -1,0 +1,24 @@
+-- The keys that features are looked up by.
+use Rattle.std.specs.Prelude.{ℕ, Bool, ◌||◌, List, ◌++◌, map, Contains}
+use Rattle.union_base.specs.SortedLists.{have_common}
+use Rattle.match_features.specs.declared.features.Features.{Features}
+use Rattle.match_features.specs.declared.keys.FeatureKey.{FeatureKey}
+use Rattle.match_features.specs.declared.keys.FeatureKey.TheVariants.{Control, Isbn, Title}
+use Rattle.match_features.specs.Kept.{texts_cmp, pairs_cmp}
+
+abbrev pub control_key : List ℕ × List ℕ → FeatureKey
+control_key pair = Control pair.0 pair.1
+
+-- each control pair, each ISBN, each title
+abbrev pub keys : Features → List FeatureKey
+keys x = map control_key x.control ++ map Isbn x.isbns ++ map Title x.titles
+
+abbrev pub HasKey : Features → FeatureKey → Type 0
+HasKey x (Control source number) = Contains x.control (source, number)
+HasKey x (Isbn isbn) = Contains x.isbns isbn
+HasKey x (Title title) = Contains x.titles title
+
+-- whether two have a key in common
+abbrev pub share_key : Features → Features → Bool
+share_key x y =
+    have_common pairs_cmp x.control y.control || have_common texts_cmp x.isbns y.isbns || have_common texts_cmp x.titles y.titles

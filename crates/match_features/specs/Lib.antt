@@ -1,0 +1,7 @@
+pub mod Kept
+pub mod KeptLaws
+pub mod Gathering
+pub mod Joining
+pub mod JoinLaws
+pub mod Meeting
+pub mod Keys
