@@ -1,5 +1,5 @@
 -- Editions that have the same features and the same content are equal.
-use Rattle.std.proofs.Common.{◌≡◌, Bool, true, IsTrue}
+use Rattle.std.proofs.Common.{◌≡◌, true, IsTrue}
 use mathlib.Core.HLevel.{Σ_prop_path}
 use Rattle.std.proofs.Math.Bool.{Bool-set}
 use Rattle.match_features.specs.declared.features.Features.{Features}

@@ -2,7 +2,6 @@
 use Rattle.merge_laws.specs.Resolution.{JoinLaws}
 use Rattle.match_features.specs.JoinLaws.{features_join_laws}
 use Rattle.field_merge.specs.MergingLaws.{join_laws}
-use Rattle.catalogue_core.specs.declared.edition.Edition.{Edition}
 use Rattle.catalogue_core.specs.Equal.{same_editions}
 use Rattle.catalogue_core.specs.Joining.{join}
 

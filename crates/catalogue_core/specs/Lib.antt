@@ -6,3 +6,6 @@ pub mod SoundLaws
 pub mod Joining
 pub mod Equal
 pub mod JoinLaws
+pub mod Matching
+pub mod MatchLaws
+pub mod ExactKeys

@@ -1,5 +1,5 @@
 -- What the content of an edition keeps, since each of its parts stands in a record that was accepted and loaded.
-use Rattle.std.specs.Prelude.{ℕ, Bool, true, not, ◌&&◌, ◌||◌, ◌==◌, List, length, Option, codes}
+use Rattle.std.specs.Prelude.{Bool, true, ◌&&◌, ◌==◌, List, length, Option, codes}
 use Rattle.std.specs.Option.{option_map_or}
 use Rattle.std.specs.List.{list_all}
 use Rattle.std.specs.Str.{is_utf8}
@@ -7,7 +7,7 @@ use Rattle.union_base.specs.Fields.{is_text}
 use Rattle.union_base.specs.LibraryCodes.{is_library_code}
 use Rattle.union_base.specs.declared.field.Field.{Field}
 use Rattle.union_base.specs.declared.record_id.RecordId.{RecordId}
-use Rattle.marc_leader.specs.Codes.{Codes, are_printable}
+use Rattle.marc_leader.specs.Codes.{Codes}
 use Rattle.marc_fields.specs.Spelling.{is_short}
 use Rattle.marc_parts.specs.Parts.{has_tag}
 use Rattle.marc_parts.specs.Loads.{is_utf8_field, has_number_shape}

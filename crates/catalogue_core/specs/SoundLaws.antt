@@ -1,12 +1,10 @@
 -- A merge of sound contents is sound.
-use Rattle.std.proofs.Common.{◌≡◌, Bool, true, ◌&&◌, IsTrue, List}
+use Rattle.std.proofs.Common.{◌≡◌, Bool, true, ◌&&◌, IsTrue}
 use Rattle.std.specs.Prelude.{codes}
 use Rattle.std.specs.List.{list_all}
 use Rattle.std.specs.Option.{option_cmp}
 use Rattle.union_base.specs.Both.{both_true, true_both}
-use Rattle.union_base.specs.SortedLists.{union}
 use Rattle.union_base.specs.FieldOrder.{field_cmp}
-use Rattle.union_base.specs.declared.field.Field.{Field}
 use Rattle.marc_parts.specs.Parts.{has_tag}
 use Rattle.field_merge.specs.Contents.{is_main_entry, is_united}
 use Rattle.field_merge.specs.Kept.{id_cmp}

@@ -9,3 +9,4 @@
 
 pub mod edition;
 pub mod joining;
+pub mod matching;
