@@ -9,3 +9,7 @@ pub mod JoinLaws
 pub mod Matching
 pub mod MatchLaws
 pub mod ExactKeys
+pub mod RecordLaws
+pub mod Records
+pub mod RecordsLaws
+pub mod Ids

@@ -7,7 +7,7 @@ use Rattle.union_base.specs.Fields.{is_text}
 use Rattle.union_base.specs.LibraryCodes.{is_library_code}
 use Rattle.union_base.specs.declared.field.Field.{Field}
 use Rattle.union_base.specs.declared.record_id.RecordId.{RecordId}
-use Rattle.marc_leader.specs.Codes.{Codes}
+use Rattle.marc_leader.specs.Codes.{Codes, are_printable}
 use Rattle.marc_fields.specs.Spelling.{is_short}
 use Rattle.marc_parts.specs.Parts.{has_tag}
 use Rattle.marc_parts.specs.Loads.{is_utf8_field, has_number_shape}
@@ -24,9 +24,9 @@ is_id id = is_library_code id.library && has_number_shape id.control
 abbrev pub is_storable : Field → Bool
 is_storable f = is_short f && is_utf8_field f
 
--- new, in UTF-8, with the usual last byte
+-- codes of a leader: new, in UTF-8, with the usual last byte
 abbrev pub are_edition_codes : Codes → Bool
-are_edition_codes codes = (codes.status == 0x6E) && ((codes.coding == 0x61) && (codes.last == 0x30))
+are_edition_codes codes = are_printable codes && ((codes.status == 0x6E) && ((codes.coding == 0x61) && (codes.last == 0x30)))
 
 -- such codes, and the 40 bytes of a field 008
 abbrev pub is_fixed_part : Fixed → Bool

@@ -8,5 +8,8 @@
 #![tactic(auto)]
 
 pub mod edition;
+pub mod ids;
 pub mod joining;
+pub mod laws;
 pub mod matching;
+pub mod records;
