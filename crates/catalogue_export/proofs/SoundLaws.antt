@@ -21,10 +21,11 @@ use Rattle.catalogue_export.proofs.TagOrderLaws.{in_tag_order-all, in_tag_order-
 use Rattle.marc_leader.specs.Codes.{is_printable}
 use Rattle.marc_parts.specs.Parts.{has_tag}
 use Rattle.marc_parts.specs.Loads.{has_number_shape, is_utf8_field}
+use Rattle.field_merge.specs.Contents.{is_main_entry, is_united}
 use Rattle.field_merge.specs.declared.content.Content.{Content}
 use Rattle.field_merge.specs.declared.slot.Slot.{Slot}
 use Rattle.workset_keys.specs.WorkKeys.{own_name}
-use Rattle.catalogue_core.specs.Sound.{is_main_entry, is_id, is_storable, is_fixed_part, are_edition_codes, is_slot, is_slot_or_none, are_slots, is_sound}
+use Rattle.catalogue_core.specs.Sound.{is_id, is_storable, are_united, is_fixed_part, are_edition_codes, is_slot, is_slot_or_none, are_slots, is_sound}
 use Rattle.catalogue_export.specs.Exported.{field_of, control_field, blank_field, begins_character, last_boundary, front_within, longest_key, parts, exported, key_field, contributor_field, slot_field, number_field, slot_fields, own_parts}
 
 same_number : (m n : ℕ) → (m == n) ≡ true → m ≡ n
@@ -48,9 +49,9 @@ module _ (c : Content) (sound : is_sound c ≡ true) where
   pub sound-fixed : is_text c.fixed.text ≡ true
   sound-fixed = fixed_text.1
 
-  slots_and_united : (are_slots c ≡ true) × (list_all is_storable c.united ≡ true)
+  slots_and_united : (are_slots c ≡ true) × (are_united c.united ≡ true)
   unfolding is_sound
-  slots_and_united = both_true (are_slots c) (list_all is_storable c.united) (both_true (list_all is_id c.contributors && is_fixed_part c.fixed) _ sound).1
+  slots_and_united = both_true (are_slots c) (are_united c.united) (both_true (list_all is_id c.contributors && is_fixed_part c.fixed) _ sound).1
 
   sound-slots : (((is_slot_or_none (has_tag (codes "005")) c.f005 ≡ true) × (is_slot_or_none (has_tag (codes "010")) c.f010 ≡ true))
       × ((is_slot_or_none (has_tag (codes "040")) c.f040 ≡ true) × (is_slot_or_none is_main_entry c.f1xx ≡ true)))
@@ -160,7 +161,7 @@ all_storable-short (f ∷ fields) h =
 module _ (c : Content) (sound : is_sound c ≡ true) where
   -- each field of a sound content is short
   pub united-short : list_all is_short c.united ≡ true
-  united-short = all_storable-short c.united (slots_and_united c sound).1
+  united-short = all_storable-short c.united (both_true (list_all is_storable c.united) (list_all is_united c.united) (slots_and_united c sound).1).0
 
   slot_fields-short : list_all is_short (slot_fields c) ≡ true
   slot_fields-short =

@@ -3,7 +3,7 @@ use Rattle.marc_fields.specs.Appending.{too_long, IsCause}
 use Rattle.marc_fields.specs.declared.encoding.EncodeRefusal.{EncodeRefusal}
 use Rattle.marc_fields.specs.declared.encoding.EncodeRefusal.TheVariants.{FieldTooLong, RecordTooLong, Memory}
 use Rattle.catalogue_export.proofs.SoundLaws.{exported-fits}
-use Rattle.catalogue_export.proofs.edition.append_edition.Goals as goal
+use Rattle.catalogue_export.proofs.edition.append_content.Goals as goal
 
 -- a record that can be spelled is refused for want of memory alone
 for_memory : (refusal : EncodeRefusal) (cause : Option EncodeRefusal) → cause ≡ None → IsCause refusal cause → refusal ≡ Memory
