@@ -2,5 +2,6 @@
 #![tactic(auto)]
 
 pub mod edition;
+pub mod editions;
 pub mod fields;
 pub mod fitting;
