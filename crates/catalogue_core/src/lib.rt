@@ -13,3 +13,4 @@ pub mod joining;
 pub mod laws;
 pub mod matching;
 pub mod records;
+pub mod work_key;

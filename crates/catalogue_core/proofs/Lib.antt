@@ -1,0 +1,2 @@
+mod KeyTexts
+mod EditionTexts
