@@ -1,2 +1,3 @@
 mod KeyTexts
 mod EditionTexts
+mod Apart

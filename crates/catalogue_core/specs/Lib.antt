@@ -14,3 +14,4 @@ pub mod Records
 pub mod RecordsLaws
 pub mod Ids
 pub mod EditionKeys
+pub mod Resolutions
