@@ -13,3 +13,5 @@ pub mod RecordLaws
 pub mod Records
 pub mod RecordsLaws
 pub mod Ids
+pub mod EditionKeys
+pub mod Resolutions

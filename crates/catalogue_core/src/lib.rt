@@ -12,4 +12,6 @@ pub mod ids;
 pub mod joining;
 pub mod laws;
 pub mod matching;
+pub mod ordering;
 pub mod records;
+pub mod work_key;
