@@ -1,5 +1,5 @@
 -- What the catalogue exports of its editions.
-use Rattle.std.specs.Prelude.{ℕ, ◌==◌, List, [], ◌∷◌, ◌++◌, if◌then◌else◌}
+use Rattle.std.specs.Prelude.{ℕ, ◌==◌, List, [], ◌∷◌, if◌then◌else◌}
 use Rattle.std.specs.List.{flat_map}
 use Rattle.union_base.specs.declared.record_id.RecordId.{RecordId}
 use Rattle.catalogue_core.specs.Ids.{least}

@@ -7,9 +7,9 @@ ghost use Rattle.catalogue_core.specs.Sound.{is_id, is_sound};
 ghost use Rattle.catalogue_export.specs.TagOrder.{in_tag_order};
 ghost use Rattle.catalogue_export.specs.Exported.{contributor_field, number_field, slot_field, slot_fields, own_parts, exported, edition_bytes, left_out};
 
-use catalogue_core::edition::Edition;
 use crate::fields::{catalogue_field, contributor_field, fixed_field, key_field, number_field};
 use crate::fitting::fitting_count;
+use catalogue_core::edition::Edition;
 use field_merge::content::Content;
 use field_merge::slot::Slot;
 use marc_fields::encoding::{EncodeRefusal, encode};
@@ -66,11 +66,7 @@ fn append_content(
 }
 
 /// The record that is shown of an edition, and how many of its fields were left out since no more fit.
-fn exported(
-    alloc: Global,
-    content: &Content,
-    key: &[u8],
-) -> Result<(Record, usize), Memory>
+fn exported(alloc: Global, content: &Content, key: &[u8]) -> Result<(Record, usize), Memory>
     requires sound { IsTrue (is_sound content.now) }
     requires key { IsTrue (is_text key.now) }
     ensures value { IfOk result (λ r. r.0 ≡ exported content.now key.now) }
