@@ -1,5 +1,5 @@
 -- What the content of an edition keeps, since each of its parts stands in a record that was accepted and loaded.
-use Rattle.std.specs.Prelude.{ℕ, Bool, true, not, ◌&&◌, ◌||◌, ◌==◌, List, length, Option, codes}
+use Rattle.std.specs.Prelude.{Bool, true, ◌&&◌, ◌==◌, List, length, Option, codes}
 use Rattle.std.specs.Option.{option_map_or}
 use Rattle.std.specs.List.{list_all}
 use Rattle.std.specs.Str.{is_utf8}
@@ -11,6 +11,7 @@ use Rattle.marc_leader.specs.Codes.{Codes, are_printable}
 use Rattle.marc_fields.specs.Spelling.{is_short}
 use Rattle.marc_parts.specs.Parts.{has_tag}
 use Rattle.marc_parts.specs.Loads.{is_utf8_field, has_number_shape}
+use Rattle.field_merge.specs.Contents.{is_main_entry, is_united}
 use Rattle.field_merge.specs.declared.content.Content.{Content}
 use Rattle.field_merge.specs.declared.fixed.Fixed.{Fixed}
 use Rattle.field_merge.specs.declared.slot.Slot.{Slot}
@@ -23,9 +24,9 @@ is_id id = is_library_code id.library && has_number_shape id.control
 abbrev pub is_storable : Field → Bool
 is_storable f = is_short f && is_utf8_field f
 
--- new, in UTF-8, with the usual last byte
+-- codes of a leader: new, in UTF-8, with the usual last byte
 abbrev pub are_edition_codes : Codes → Bool
-are_edition_codes codes = (codes.status == 0x6E) && ((codes.coding == 0x61) && (codes.last == 0x30))
+are_edition_codes codes = are_printable codes && ((codes.status == 0x6E) && ((codes.coding == 0x61) && (codes.last == 0x30)))
 
 -- such codes, and the 40 bytes of a field 008
 abbrev pub is_fixed_part : Fixed → Bool
@@ -39,17 +40,16 @@ is_slot fits s = fits s.field && is_storable s.field
 abbrev pub is_slot_or_none : (Field → Bool) → Option Slot → Bool
 is_slot_or_none fits slot = option_map_or (is_slot fits) slot true
 
--- a main entry: 100, 110, 111 or 130
-abbrev pub is_main_entry : Field → Bool
-is_main_entry f = (has_tag (codes "100") f || has_tag (codes "110") f) || (has_tag (codes "111") f || has_tag (codes "130") f)
-
 abbrev pub are_slots : Content → Bool
 are_slots c =
     ((is_slot_or_none (has_tag (codes "005")) c.f005 && is_slot_or_none (has_tag (codes "010")) c.f010)
     && (is_slot_or_none (has_tag (codes "040")) c.f040 && is_slot_or_none is_main_entry c.f1xx))
     && (is_slot_or_none (has_tag (codes "240")) c.f240 && is_slot (has_tag (codes "245")) c.f245)
 
+-- fields that a frame can store, none of them under a tag of a slot or one of 001, 003, 008, 991 and 993
+abbrev pub are_united : List Field → Bool
+are_united fields = list_all is_storable fields && list_all is_united fields
+
 -- the content of an edition
 unfoldable pub is_sound : Content → Bool
-is_sound c =
-    (list_all is_id c.contributors && is_fixed_part c.fixed) && (are_slots c && list_all is_storable c.united)
+is_sound c = (list_all is_id c.contributors && is_fixed_part c.fixed) && (are_slots c && are_united c.united)

@@ -1,3 +1,4 @@
 pub mod Fitting
 pub mod TagOrder
 pub mod Exported
+pub mod ExportedLaws

@@ -4,3 +4,4 @@
 pub mod edition;
 pub mod fields;
 pub mod fitting;
+pub mod laws;

@@ -1,0 +1,19 @@
+//! What holds of the record that is shown of an edition, for whoever reasons about one. Each function is empty, and its clause
+//! is the law.
+ghost use Rattle.catalogue_export.specs.ExportedLaws.{ExportedBreaksNoRule, ExportedIsAccepted, ExportedIsNumberedTooLong};
+
+/// The bytes that are shown of an edition break none of the rules on a record that is sent to the catalogue, where the library
+/// code and the control number of its first contributor have at most 63 bytes together.
+pub fn exported_breaks_no_rule()
+    ensures { ExportedBreaksNoRule }
+{}
+
+/// So the record is one that the catalogue accepts.
+pub fn exported_is_accepted()
+    ensures { ExportedIsAccepted }
+{}
+
+/// Where they have more, its 001 has more bytes than a control number may have, and that is the first rule that they break.
+pub fn exported_is_numbered_too_long()
+    ensures { ExportedIsNumberedTooLong }
+{}
