@@ -55,7 +55,7 @@ uncounted p (x ∷ xs) none = of (p x) (uncounted p xs) refl
         rw is (later less)
 
 -- as many in order of tags
-counted-put : (p : Field → Bool) (f : Field) (fields : List Field) → counted p (put f fields) ≡ one_if (p f) + counted p fields
+pub counted-put : (p : Field → Bool) (f : Field) (fields : List Field) → counted p (put f fields) ≡ one_if (p f) + counted p fields
 counted-put p f [] = refl
 counted-put p f (g ∷ fields) =
     elim (is_lower g f) as (λ r. counted p (if r then g ∷ put f fields else f ∷ g ∷ fields) ≡ one_if (p f) + (one_if (p g) + counted p fields)) [

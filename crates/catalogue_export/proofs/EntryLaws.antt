@@ -24,7 +24,7 @@ abbrev pub passes_under : List ℕ → (List ℕ → Bool) → Field → Bool
 passes_under tag passes f = not (is_under tag f) || passes (body_bytes f.body)
 
 -- there are as many places as fields with the tag
-places-count : (tag bytes : List ℕ) (i : ℕ) (entries : List Entry) (fields : List Field) → AreEntriesOf bytes entries fields
+pub places-count : (tag bytes : List ℕ) (i : ℕ) (entries : List Entry) (fields : List Field) → AreEntriesOf bytes entries fields
     → counted (is_under tag) fields ≡ length (places tag i entries)
 places-count tag bytes i [] [] are = refl
 places-count tag bytes i [] (f ∷ fields) are = absurd are
@@ -87,13 +87,13 @@ once-none passes (i ∷ []) one all = rw (and_parts (passes i) true all).0 refl
 once-none passes (i ∷ j ∷ rest) one all = absurd (omega arith)
 
 -- or it is refused
-once-some : (passes : ℕ → Bool) (ps : List ℕ) → length ps ≡ 1 → list_all (λ i. not (passes i)) ps ≡ true
-    → (place : ℕ) × (once passes ps ≡ Some place)
-once-some passes [] one all = absurd (omega arith)
-once-some passes (i ∷ []) one all =
-    let fails_it : passes i ≡ false = not-true (passes i) (and_parts (not (passes i)) true all).0 in
-    (i, rw fails_it refl)
-once-some passes (i ∷ j ∷ rest) one all = absurd (omega arith)
+once-refused : (passes : ℕ → Bool) (ps : List ℕ) (place : ℕ) → ps ≡ place ∷ [] → list_all (λ i. not (passes i)) ps ≡ true → once passes ps ≡ Some place
+once-refused passes ps place only all = subst (λ is. list_all (λ i. not (passes i)) is ≡ true → once passes is ≡ Some place) (sym only) alone all
+  where
+    alone : list_all (λ i. not (passes i)) (place ∷ []) ≡ true → once passes (place ∷ []) ≡ Some place
+    alone each =
+        let fails_it : passes place ≡ false = not-true (passes place) (and_parts (not (passes place)) true each).0 in
+        rw fails_it refl
 
 all_pass : (ps : List ℕ) → list_all (λ i. true) ps ≡ true
 all_pass [] = refl
@@ -165,11 +165,11 @@ module _ (bytes : List ℕ) (entries : List Entry) (fields : List Field) (are : 
       = repeated-none [] 1 entries (λ k some. subst (λ n. n ≤ 1) (sym (class-count k bytes entries fields are)) (counts.apart k some)) in
       rw (control, repeated, fixed, title) refl
 
-  -- and that on 001 where it doesn't
-  pub number-refused : list_all (passes_under tag_001 (λ text. not (is_control_number text))) fields ≡ true
-      → (place : ℕ) × (number_failure 0x6E bytes entries ≡ Some (record { rule = ControlNumber; place = place }))
-  number-refused all =
-      let refused = once-some (λ i. is_control_number (text_at bytes entries i)) (places tag_001 1 entries)
-      (sym (places-count tag_001 bytes 1 entries fields are) ∙ counts.numbered)
-      (places-pass (λ text. not (is_control_number text)) tag_001 bytes [] entries fields are all) in
-      (refused.0, number_failure-control 0x6E bytes entries refused.0 refused.1)
+  -- and that on 001, at its place, where it doesn't
+  pub number-refused : (place : ℕ) → places tag_001 1 entries ≡ place ∷ []
+      → list_all (passes_under tag_001 (λ text. not (is_control_number text))) fields ≡ true
+      → number_failure 0x6E bytes entries ≡ Some (record { rule = ControlNumber; place = place })
+  number-refused place only_place all =
+      number_failure-control 0x6E bytes entries place
+      (once-refused (λ i. is_control_number (text_at bytes entries i)) (places tag_001 1 entries) place only_place
+      (places-pass (λ text. not (is_control_number text)) tag_001 bytes [] entries fields are all))

@@ -2,7 +2,6 @@
 use Rattle.std.proofs.Common.{◌≡◌, ℕ, zero, suc, ◌+◌, ◌<◌, ◌≤◌, Bool, true, false, not, ◌&&◌, ◌||◌, List, [], ◌∷◌, ◌++◌, length, length-append, take, refl, sym, ◌∙◌, ap, subst, arith, inl, inr, None, Some}
 use Rattle.std.specs.Prelude.{◌==◌, codes, nat_lt, nat_le, slice_index, if◌then◌else◌}
 use Rattle.std.specs.List.{list_all}
-use Rattle.std.specs.Option.{option_map}
 use Rattle.std.specs.Str.{IsUtf8, IsAscii, is_utf8}
 use Rattle.std.proofs.lemmas.Bool.{and_parts, and_from, not_from_false, or_left, or_cases, cases_eq, ne_eqb, eqb-true}
 use Rattle.std.proofs.lemmas.Bool.Decides.{nat_tests}
@@ -14,28 +13,28 @@ use Rattle.union_base.specs.declared.field.Field.{Field}
 use Rattle.union_base.specs.declared.record_id.RecordId.{RecordId}
 use Rattle.iso2709_frame.specs.declared.cut.Cut.TheVariants.{Whole}
 use Rattle.marc_leader.specs.Codes.{is_printable, are_printable}
-use Rattle.marc_fields.specs.Spelling.{stored, is_short, Spells}
-use Rattle.marc_fields.specs.declared.rules.Failure.{Failure}
+use Rattle.marc_fields.specs.Spelling.{stored, is_short, Spells, AreEntriesOf}
 use Rattle.marc_fields.specs.declared.rules.Rule.TheVariants.{ControlNumber}
 use Rattle.marc_fields.proofs.RecordLaws.{spelling-IsSpelled}
-use Rattle.marc_parts.specs.Parts.{has_tag}
+use Rattle.marc_parts.specs.Parts.{has_tag, how_many}
 use Rattle.marc_parts.specs.Loads.{has_number_shape, is_utf8_field}
 use Rattle.marc_parts.specs.Trimmed.{trim_end}
 use Rattle.marc_rules.specs.Accepted.{IsAccepted}
 use Rattle.marc_rules.specs.NineteenRules.{first_rule}
-use Rattle.marc_rules.specs.Numbers.{is_same, class_of, is_control_number, tag_001, tag_008, tag_245, number_failure}
+use Rattle.marc_rules.specs.Numbers.{is_same, class_of, places, is_control_number, tag_001, tag_008, tag_245, number_failure}
 use Rattle.field_merge.specs.Contents.{is_main_entry, is_united}
 use Rattle.field_merge.specs.declared.content.Content.{Content}
 use Rattle.workset_keys.specs.WorkKeys.{own_name}
 use Rattle.catalogue_core.specs.Sound.{is_id, is_storable, is_sound}
 use Rattle.catalogue_export.specs.Fitting.{taken_by, fitting}
-use Rattle.catalogue_export.specs.TagOrder.{in_tag_order}
-use Rattle.catalogue_export.specs.Exported.{begins_character, last_boundary, front_within, longest_key, number_field, parts, exported, edition_bytes}
+use Rattle.catalogue_export.specs.TagOrder.{put, in_tag_order}
+use Rattle.catalogue_export.specs.Exported.{begins_character, last_boundary, front_within, longest_key, control_field, number_field, slot_fields, key_field, parts, exported, edition_bytes}
 use Rattle.catalogue_export.specs.ExportedLaws.{ExportedBreaksNoRule, ExportedIsAccepted, ExportedIsNumberedTooLong}
-use Rattle.catalogue_export.proofs.CountLaws.{one_if, weighed, counted, counted-append, counted-none, counted-in_tag_order}
+use Rattle.catalogue_export.proofs.CountLaws.{one_if, weighed, counted, counted-append, counted-none, counted-put, counted-in_tag_order}
 use Rattle.catalogue_export.proofs.EntryLaws.{is_under, passes_under, AreCounted, number-none, number-refused}
+use Rattle.catalogue_export.proofs.PlaceLaws.{lead, place-put, lead-zeros}
 use Rattle.catalogue_export.proofs.ExportedParts.{made-all, made-most, slot-most, made-weighs, front_parts, AreAtMost, front-most, front-number, front-fixed, front-title, shown_others, fitting-split, other_tag, united-class, shown_others-all, exported-all}
-use Rattle.catalogue_export.proofs.FieldLaws.{is_text-own_name}
+use Rattle.catalogue_export.proofs.FieldLaws.{is_text-own_name, field_of-is}
 use Rattle.catalogue_export.proofs.FittingLaws.{is_le}
 use Rattle.catalogue_export.proofs.SoundLaws.{code_size, number_size, front_within-bound, sound-ids, sound-codes, sound-size, sound-utf8, sound-fixed, sound-slots, exported-fits}
 use Rattle.catalogue_export.proofs.NumberShapeLaws.{name-shaped, name-misshaped}
@@ -381,13 +380,48 @@ module _ (c : Content) (id : RecordId) (ids : List RecordId) (key : List ℕ) (s
   accepted : length id.library + length id.control ≤ 63 → IsAccepted (exported c key)
   accepted few = record { frame = edition_bytes c key; spells = exported-Spells; unbroken = unbroken few }
 
+  -- the field 001, put among the others
+  numbered_first : Field
+  numbered_first = record { tag = codes "001"; body = Control (own_name id); well_formed = is_text-own_name id id_is }
+
+  behind_first : List Field
+  behind_first = (control_field (codes "003") (codes "UNION") ++ (slot_fields c ++ key_field key)) ++ shown_others c key
+
+  fields-put : in_tag_order (fitting (parts c key)) ≡ put numbered_first (in_tag_order behind_first)
+  unfolding behind_first numbered_first
+  fields-put =
+      ap in_tag_order (fitting-split c key front-room
+      ∙ ap (λ front. (front ++ (control_field (codes "003") (codes "UNION") ++ (slot_fields c ++ key_field key))) ++ shown_others c key)
+      (ap number_field first ∙ field_of-is numbered_first))
+
+  number-place : (s : Spells (edition_bytes c key) (exported c key))
+      → places tag_001 1 s.entries ≡ suc (how_many (codes "000") (in_tag_order (fitting (parts c key)))) ∷ []
+  unfolding numbered_first
+  number-place s =
+      let rest = in_tag_order behind_first in
+      let lie : AreEntriesOf s.bytes s.entries (put numbered_first rest) = subst (λ fields. AreEntriesOf s.bytes s.entries fields) fields-put s.fields in
+      let one : counted (is_under tag_001) (put numbered_first rest) ≡ 1 = sym (ap (counted (is_under tag_001)) fields-put) ∙ numbered in
+      let split : counted (is_under tag_001) (put numbered_first rest) ≡ 1 + counted (is_under tag_001) rest = counted-put (is_under tag_001) numbered_first rest in
+      place-put tag_001 s.bytes 1 s.entries numbered_first rest refl (none_left _ _ one split) lie
+      ∙ (ap (λ n. n ∷ []) (next (lead numbered_first rest))
+      ∙ (ap (λ n. suc n ∷ []) (lead-zeros numbered_first refl behind_first)
+      ∙ ap (λ fields. suc (how_many (codes "000") fields) ∷ []) (sym fields-put)))
+    where
+      none_left : (all left : ℕ) → all ≡ 1 → all ≡ 1 + left → left ≡ 0
+      none_left all left p q = omega arith
+
+      next : (n : ℕ) → 1 + n ≡ suc n
+      next n = omega arith
+
   refused : trim_end id.control ≡ id.control → 63 < length id.library + length id.control
-      → option_map (λ (f : Failure). f.rule) (first_rule Whole (edition_bytes c key)) ≡ Some ControlNumber
+      → first_rule Whole (edition_bytes c key)
+      ≡ Some (record { rule = ControlNumber; place = suc (how_many (codes "000") (in_tag_order (fitting (parts c key)))) })
   refused kept many =
       let s = exported-Spells in
       let misshaped : not (is_control_number (own_name id)) ≡ true = not_from_false _ (name-misshaped id.library id.control parts-of_id.0 parts-of_id.1 kept many) in
-      let no = number-refused s.bytes s.entries (in_tag_order (fitting (parts c key))) s.fields counts (passes-001 (λ text. not (is_control_number text)) misshaped) in
-      ap (option_map (λ (f : Failure). f.rule)) (first-number s ∙ no.1)
+      first-number s
+      ∙ number-refused s.bytes s.entries (in_tag_order (fitting (parts c key))) s.fields counts (suc (how_many (codes "000") (in_tag_order (fitting (parts c key))))) (number-place s)
+      (passes-001 (λ text. not (is_control_number text)) misshaped)
 
 pub exported-unbroken : ExportedBreaksNoRule
 exported-unbroken c id ids key sound first unicode few = unbroken c id ids key sound first unicode few

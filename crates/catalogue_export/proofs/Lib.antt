@@ -5,6 +5,7 @@ pub mod FittingLaws
 pub mod SoundLaws
 pub mod CountLaws
 pub mod EntryLaws
+pub mod PlaceLaws
 pub mod SpelledLaws
 pub mod NumberShapeLaws
 pub mod ExportedParts

@@ -1,11 +1,10 @@
 -- Which rules the record that is shown of an edition keeps.
-use Rattle.std.specs.Prelude.{◌≡◌, ℕ, ◌+◌, ◌<◌, ◌≤◌, IsTrue, List, ◌∷◌, length, None, Some}
-use Rattle.std.specs.Option.{option_map}
+use Rattle.std.specs.Prelude.{◌≡◌, ℕ, suc, ◌+◌, ◌<◌, ◌≤◌, IsTrue, List, ◌∷◌, length, codes, None, Some}
 use Rattle.std.specs.Str.{is_utf8}
 use Rattle.union_base.specs.declared.record_id.RecordId.{RecordId}
 use Rattle.iso2709_frame.specs.declared.cut.Cut.TheVariants.{Whole}
-use Rattle.marc_fields.specs.declared.rules.Failure.{Failure}
 use Rattle.marc_fields.specs.declared.rules.Rule.TheVariants.{ControlNumber}
+use Rattle.marc_parts.specs.Parts.{how_many}
 use Rattle.marc_parts.specs.Trimmed.{trim_end}
 use Rattle.marc_rules.specs.Accepted.{IsAccepted}
 use Rattle.marc_rules.specs.NineteenRules.{first_rule}
@@ -30,9 +29,10 @@ ExportedIsAccepted =
     (c : Content) (id : RecordId) (ids : List RecordId) (key : List ℕ) → IsTrue (is_sound c) → c.contributors ≡ id ∷ ids → IsTrue (is_utf8 key)
     → name_size id ≤ 63 → IsAccepted (exported c key)
 
--- where they have more, its 001 is too long, and that is the first rule that the bytes break; no blank ends a control number
+-- where they have more, its 001 is too long, and that is the first rule that the bytes break: at the 001, which stands behind
+-- fields 000 alone; no blank ends a control number
 abbrev pub ExportedIsNumberedTooLong : Type 0
 ExportedIsNumberedTooLong =
     (c : Content) (id : RecordId) (ids : List RecordId) (key : List ℕ) → IsTrue (is_sound c) → c.contributors ≡ id ∷ ids → IsTrue (is_utf8 key)
     → trim_end id.control ≡ id.control → 63 < name_size id
-    → option_map (λ (f : Failure). f.rule) (first_rule Whole (edition_bytes c key)) ≡ Some ControlNumber
+    → first_rule Whole (edition_bytes c key) ≡ Some (record { rule = ControlNumber; place = suc (how_many (codes "000") (exported c key).fields) })
