@@ -371,13 +371,13 @@ module _ (c : Content) (id : RecordId) (ids : List RecordId) (key : List ℕ) (s
   parts-of_id : (is_library_code id.library ≡ true) × (has_number_shape id.control ≡ true)
   parts-of_id = and_parts (is_library_code id.library) (has_number_shape id.control) id_is
 
-  unbroken : length id.library + length id.control ≤ 63 → first_rule Whole (edition_bytes c key) ≡ None
+  unbroken : length id.library + length (trim_end id.control) ≤ 63 → first_rule Whole (edition_bytes c key) ≡ None
   unbroken few =
       let s = exported-Spells in
       first-number s ∙ number-none s.bytes s.entries (in_tag_order (fitting (parts c key))) s.fields counts
       (passes-001 is_control_number (name-shaped id.library id.control parts-of_id.0 parts-of_id.1 few))
 
-  accepted : length id.library + length id.control ≤ 63 → IsAccepted (exported c key)
+  accepted : length id.library + length (trim_end id.control) ≤ 63 → IsAccepted (exported c key)
   accepted few = record { frame = edition_bytes c key; spells = exported-Spells; unbroken = unbroken few }
 
   -- the field 001, put among the others
@@ -413,12 +413,12 @@ module _ (c : Content) (id : RecordId) (ids : List RecordId) (key : List ℕ) (s
       next : (n : ℕ) → 1 + n ≡ suc n
       next n = omega arith
 
-  refused : trim_end id.control ≡ id.control → 63 < length id.library + length id.control
+  refused : 63 < length id.library + length (trim_end id.control)
       → first_rule Whole (edition_bytes c key)
       ≡ Some (record { rule = ControlNumber; place = suc (how_many (codes "000") (in_tag_order (fitting (parts c key)))) })
-  refused kept many =
+  refused many =
       let s = exported-Spells in
-      let misshaped : not (is_control_number (own_name id)) ≡ true = not_from_false _ (name-misshaped id.library id.control parts-of_id.0 parts-of_id.1 kept many) in
+      let misshaped : not (is_control_number (own_name id)) ≡ true = not_from_false _ (name-misshaped id.library id.control parts-of_id.0 many) in
       first-number s
       ∙ number-refused s.bytes s.entries (in_tag_order (fitting (parts c key))) s.fields counts (suc (how_many (codes "000") (in_tag_order (fitting (parts c key))))) (number-place s)
       (passes-001 (λ text. not (is_control_number text)) misshaped)
@@ -430,4 +430,4 @@ pub exported-accepted : ExportedIsAccepted
 exported-accepted c id ids key sound first unicode few = accepted c id ids key sound first unicode few
 
 pub exported-numbered_too_long : ExportedIsNumberedTooLong
-exported-numbered_too_long c id ids key sound first unicode kept many = refused c id ids key sound first unicode kept many
+exported-numbered_too_long c id ids key sound first unicode many = refused c id ids key sound first unicode many
