@@ -11,6 +11,8 @@ use Rattle.union_base.specs.LibraryCodes.{is_library_code, may_stand}
 use Rattle.union_base.specs.declared.body.Body.TheVariants.{Control, Data}
 use Rattle.union_base.specs.declared.field.Field.{Field}
 use Rattle.union_base.specs.declared.record_id.RecordId.{RecordId}
+use Rattle.iso2709_frame.specs.Frames.{IsWhole}
+use Rattle.marc_rules.proofs.CheckLaws.{frame-IsWhole}
 use Rattle.iso2709_frame.specs.declared.cut.Cut.TheVariants.{Whole}
 use Rattle.marc_leader.specs.Codes.{is_printable, are_printable}
 use Rattle.marc_fields.specs.Spelling.{stored, is_short, Spells, AreEntriesOf}
@@ -29,7 +31,7 @@ use Rattle.catalogue_core.specs.Sound.{is_id, is_storable, is_sound}
 use Rattle.catalogue_export.specs.Fitting.{taken_by, fitting}
 use Rattle.catalogue_export.specs.TagOrder.{put, in_tag_order}
 use Rattle.catalogue_export.specs.Exported.{begins_character, last_boundary, front_within, longest_key, control_field, number_field, slot_fields, key_field, parts, exported, edition_bytes}
-use Rattle.catalogue_export.specs.ExportedLaws.{ExportedBreaksNoRule, ExportedIsAccepted, ExportedIsNumberedTooLong}
+use Rattle.catalogue_export.specs.ExportedLaws.{ExportedIsWhole, ExportedBreaksNoRule, ExportedIsAccepted, ExportedIsNumberedTooLong}
 use Rattle.catalogue_export.proofs.CountLaws.{one_if, weighed, counted, counted-append, counted-none, counted-put, counted-in_tag_order}
 use Rattle.catalogue_export.proofs.EntryLaws.{is_under, passes_under, AreCounted, number-none, number-refused}
 use Rattle.catalogue_export.proofs.PlaceLaws.{lead, place-put, lead-zeros}
@@ -38,6 +40,7 @@ use Rattle.catalogue_export.proofs.FieldLaws.{is_text-own_name, field_of-is}
 use Rattle.catalogue_export.proofs.FittingLaws.{is_le}
 use Rattle.catalogue_export.proofs.SoundLaws.{code_size, number_size, front_within-bound, sound-ids, sound-codes, sound-size, sound-utf8, sound-fixed, sound-slots, exported-fits}
 use Rattle.catalogue_export.proofs.NumberShapeLaws.{name-shaped, name-misshaped}
+use Rattle.catalogue_export.proofs.WholeLaws.{spelling-ends}
 use Rattle.catalogue_export.proofs.SpelledLaws.{whole-remaining, remaining-numbers}
 
 -- bytes of ASCII
@@ -181,6 +184,22 @@ abbrev pub united_tag : List ℕ → Bool
 united_tag t =
     not (slot_tag t
     || ((is_same t (codes "001") || is_same t (codes "003")) || (is_same t (codes "008") || (is_same t (codes "991") || is_same t (codes "993")))))
+
+module _ (c : Content) (key : List ℕ) (sound : is_sound c ≡ true) where
+  codes-are : ((c.fixed.codes.status ≡ 0x6E) × (c.fixed.codes.coding ≡ 0x61)) × (are_printable c.fixed.codes ≡ true)
+  codes-are =
+      let k = c.fixed.codes in
+      let both = and_parts (are_printable k) ((k.status == 0x6E) && ((k.coding == 0x61) && (k.last == 0x30))) (sound-codes c sound) in
+      let new = and_parts (k.status == 0x6E) ((k.coding == 0x61) && (k.last == 0x30)) both.1 in
+      ((eqb-true k.status 0x6E new.0, eqb-true k.coding 0x61 (and_parts (k.coding == 0x61) (k.last == 0x30) new.1).0), both.0)
+
+  -- the bytes spell the record
+  exported-Spells : Spells (edition_bytes c key) (exported c key)
+  exported-Spells = spelling-IsSpelled (exported c key) codes-are.1 (exported-fits c sound key)
+
+  -- and are a whole frame
+  exported_whole : IsWhole (edition_bytes c key)
+  exported_whole = frame-IsWhole (edition_bytes c key) (record { size = exported-Spells.short; ends = spelling-ends (exported c key) codes-are.1 })
 
 module _ (c : Content) (id : RecordId) (ids : List RecordId) (key : List ℕ) (sound : is_sound c ≡ true) (first : c.contributors ≡ id ∷ ids) (unicode : is_utf8 key ≡ true) where
   id_is : is_id id ≡ true
@@ -352,33 +371,22 @@ module _ (c : Content) (id : RecordId) (ids : List RecordId) (key : List ℕ) (s
   counts : AreCounted (in_tag_order (fitting (parts c key)))
   counts = record { numbered = numbered; described = described; sized = sized; titled = titled; apart = apart }
 
-  codes-are : ((c.fixed.codes.status ≡ 0x6E) × (c.fixed.codes.coding ≡ 0x61)) × (are_printable c.fixed.codes ≡ true)
-  codes-are =
-      let k = c.fixed.codes in
-      let both = and_parts (are_printable k) ((k.status == 0x6E) && ((k.coding == 0x61) && (k.last == 0x30))) (sound-codes c sound) in
-      let new = and_parts (k.status == 0x6E) ((k.coding == 0x61) && (k.last == 0x30)) both.1 in
-      ((eqb-true k.status 0x6E new.0, eqb-true k.coding 0x61 (and_parts (k.coding == 0x61) (k.last == 0x30) new.1).0), both.0)
-
-  -- the bytes spell the record
-  exported-Spells : Spells (edition_bytes c key) (exported c key)
-  exported-Spells = spelling-IsSpelled (exported c key) codes-are.1 (exported-fits c sound key)
-
   first-number : (s : Spells (edition_bytes c key) (exported c key)) → first_rule Whole (edition_bytes c key) ≡ number_failure 0x6E s.bytes s.entries
   first-number s =
       whole-remaining (edition_bytes c key) (exported c key) s
-      ∙ remaining-numbers c.fixed.codes.status c.fixed.codes.coding s.bytes s.entries (in_tag_order (fitting (parts c key))) codes-are.0.0 codes-are.0.1 s.fields texts-utf8
+      ∙ remaining-numbers c.fixed.codes.status c.fixed.codes.coding s.bytes s.entries (in_tag_order (fitting (parts c key))) (codes-are c key sound).0.0 (codes-are c key sound).0.1 s.fields texts-utf8
 
   parts-of_id : (is_library_code id.library ≡ true) × (has_number_shape id.control ≡ true)
   parts-of_id = and_parts (is_library_code id.library) (has_number_shape id.control) id_is
 
   unbroken : length id.library + length (trim_end id.control) ≤ 63 → first_rule Whole (edition_bytes c key) ≡ None
   unbroken few =
-      let s = exported-Spells in
+      let s = exported-Spells c key sound in
       first-number s ∙ number-none s.bytes s.entries (in_tag_order (fitting (parts c key))) s.fields counts
       (passes-001 is_control_number (name-shaped id.library id.control parts-of_id.0 parts-of_id.1 few))
 
   accepted : length id.library + length (trim_end id.control) ≤ 63 → IsAccepted (exported c key)
-  accepted few = record { frame = edition_bytes c key; spells = exported-Spells; unbroken = unbroken few }
+  accepted few = record { frame = edition_bytes c key; spells = exported-Spells c key sound; unbroken = unbroken few }
 
   -- the field 001, put among the others
   numbered_first : Field
@@ -417,11 +425,14 @@ module _ (c : Content) (id : RecordId) (ids : List RecordId) (key : List ℕ) (s
       → first_rule Whole (edition_bytes c key)
       ≡ Some (record { rule = ControlNumber; place = suc (how_many (codes "000") (in_tag_order (fitting (parts c key)))) })
   refused many =
-      let s = exported-Spells in
+      let s = exported-Spells c key sound in
       let misshaped : not (is_control_number (own_name id)) ≡ true = not_from_false _ (name-misshaped id.library id.control parts-of_id.0 many) in
       first-number s
       ∙ number-refused s.bytes s.entries (in_tag_order (fitting (parts c key))) s.fields counts (suc (how_many (codes "000") (in_tag_order (fitting (parts c key))))) (number-place s)
       (passes-001 (λ text. not (is_control_number text)) misshaped)
+
+pub exported-whole : ExportedIsWhole
+exported-whole c key sound = exported_whole c key sound
 
 pub exported-unbroken : ExportedBreaksNoRule
 exported-unbroken c id ids key sound first unicode few = unbroken c id ids key sound first unicode few

@@ -7,6 +7,7 @@ pub mod CountLaws
 pub mod EntryLaws
 pub mod PlaceLaws
 pub mod SpelledLaws
+pub mod WholeLaws
 pub mod NumberShapeLaws
 pub mod ExportedParts
 pub mod ExportedProof

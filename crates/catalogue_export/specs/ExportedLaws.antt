@@ -2,6 +2,7 @@
 use Rattle.std.specs.Prelude.{◌≡◌, ℕ, suc, ◌+◌, ◌<◌, ◌≤◌, IsTrue, List, ◌∷◌, length, codes, None, Some}
 use Rattle.std.specs.Str.{is_utf8}
 use Rattle.union_base.specs.declared.record_id.RecordId.{RecordId}
+use Rattle.iso2709_frame.specs.Frames.{IsWhole}
 use Rattle.iso2709_frame.specs.declared.cut.Cut.TheVariants.{Whole}
 use Rattle.marc_fields.specs.declared.marc_record.Record.{Record}
 use Rattle.marc_fields.specs.declared.rules.Rule.TheVariants.{ControlNumber}
@@ -21,7 +22,11 @@ name_size id = length id.library + length (trim_end id.control)
 abbrev pub NumbersEndInNoBlank : Type 0
 NumbersEndInNoBlank = (r : Record) → trim_end (control_number r) ≡ control_number r
 
--- the bytes that are shown of an edition break no rule, where its first contributor's code and control number have at most 63
+-- the bytes that are shown of an edition are a whole frame
+abbrev pub ExportedIsWhole : Type 0
+ExportedIsWhole = (c : Content) (key : List ℕ) → IsTrue (is_sound c) → IsWhole (edition_bytes c key)
+
+-- they break no rule, where its first contributor's code and control number have at most 63
 -- bytes together
 abbrev pub ExportedBreaksNoRule : Type 0
 ExportedBreaksNoRule =

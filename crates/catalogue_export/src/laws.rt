@@ -1,6 +1,12 @@
 //! What holds of the record that is shown of an edition, for whoever reasons about one. Each function is empty, and its clause
 //! is the law.
-ghost use Rattle.catalogue_export.specs.ExportedLaws.{ExportedBreaksNoRule, ExportedIsAccepted, ExportedIsNumberedTooLong, NumbersEndInNoBlank};
+ghost use Rattle.catalogue_export.specs.ExportedLaws.{ExportedIsWhole, ExportedBreaksNoRule, ExportedIsAccepted, ExportedIsNumberedTooLong, NumbersEndInNoBlank};
+
+/// The bytes that are shown of an edition are a whole frame: no more than a frame may have, and the only record terminator
+/// among them is the last.
+pub fn exported_is_whole()
+    ensures { ExportedIsWhole }
+{}
 
 /// The bytes that are shown of an edition break none of the rules on a record that is sent to the catalogue, where the library
 /// code and the control number of its first contributor have at most 63 bytes together. The work key is to be UTF-8.
