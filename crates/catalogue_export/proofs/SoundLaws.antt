@@ -21,11 +21,11 @@ use Rattle.catalogue_export.proofs.TagOrderLaws.{in_tag_order-all, in_tag_order-
 use Rattle.marc_leader.specs.Codes.{is_printable}
 use Rattle.marc_parts.specs.Parts.{has_tag}
 use Rattle.marc_parts.specs.Loads.{has_number_shape, is_utf8_field}
+use Rattle.field_merge.specs.Contents.{is_main_entry, is_united}
 use Rattle.field_merge.specs.declared.content.Content.{Content}
 use Rattle.field_merge.specs.declared.slot.Slot.{Slot}
 use Rattle.workset_keys.specs.WorkKeys.{own_name}
-use Rattle.field_merge.specs.Contents.{is_main_entry, is_united}
-use Rattle.catalogue_core.specs.Sound.{is_id, is_storable, is_fixed_part, are_edition_codes, is_slot, is_slot_or_none, are_slots, are_united, is_sound}
+use Rattle.catalogue_core.specs.Sound.{is_id, is_storable, are_united, is_fixed_part, are_edition_codes, is_slot, is_slot_or_none, are_slots, is_sound}
 use Rattle.catalogue_export.specs.Exported.{field_of, control_field, blank_field, begins_character, last_boundary, front_within, longest_key, parts, exported, key_field, contributor_field, slot_field, number_field, slot_fields, own_parts}
 
 same_number : (m n : ℕ) → (m == n) ≡ true → m ≡ n

@@ -2,3 +2,4 @@ pub mod Fitting
 pub mod TagOrder
 pub mod Exported
 pub mod ExportedLaws
+pub mod Editions

@@ -9,11 +9,13 @@ ghost use Rattle.catalogue_export.specs.Exported.{contributor_field, number_fiel
 
 use crate::fields::{catalogue_field, contributor_field, fixed_field, key_field, number_field};
 use crate::fitting::fitting_count;
+use catalogue_core::edition::Edition;
 use field_merge::content::Content;
 use field_merge::slot::Slot;
 use marc_fields::encoding::{EncodeRefusal, encode};
 use marc_fields::marc_record::Record;
 use std::alloc::Global;
+use union_base::bytes::Bytes;
 use union_base::copied::Copied;
 use union_base::field::Field;
 use union_base::memory::Memory;
@@ -23,9 +25,27 @@ use union_base::sequence::Sequence;
 /// How many fields an edition has at most beside its contributors' and its united ones: 001, 003, 991, 008 and six slots.
 const OTHER_FIELDS: usize = 10;
 
+/// Appends the record that is shown of an edition under this work key, and answers how many of its fields were left out of
+/// it. The record's fields are the catalogue's own number and name, the edition's slots, the work key in 991, a 993 for each
+/// contributor and the united fields, as many of them in this order as a frame has room for, in order of their tags.
+///
+/// Answers `Memory` where memory ran out; what stood in `into` stands there still.
+pub fn edition_bytes(
+    alloc: Global,
+    edition: &Edition,
+    key: &Bytes,
+    into: &mut Vec<u8>,
+) -> Result<usize, Memory>
+    requires { IsTrue (is_text key.now) }
+    ensures text { Appends result into.old.items into.new.items (edition_bytes edition.now.content key.now) }
+    ensures left { IfOk result (λ n. n ≡ left_out edition.now.content key.now) }
+{
+    append_content(alloc, &edition.content, key.bytes(), into)
+}
+
 /// Appends the record that is shown of an edition with this work key, and answers how many of its fields were left out of it,
 /// since a frame has no room for more.
-pub(crate) fn append_edition(
+fn append_content(
     alloc: Global,
     content: &Content,
     key: &[u8],
@@ -46,11 +66,7 @@ pub(crate) fn append_edition(
 }
 
 /// The record that is shown of an edition, and how many of its fields were left out since no more fit.
-pub(crate) fn exported(
-    alloc: Global,
-    content: &Content,
-    key: &[u8],
-) -> Result<(Record, usize), Memory>
+fn exported(alloc: Global, content: &Content, key: &[u8]) -> Result<(Record, usize), Memory>
     requires sound { IsTrue (is_sound content.now) }
     requires key { IsTrue (is_text key.now) }
     ensures value { IfOk result (λ r. r.0 ≡ exported content.now key.now) }

@@ -1,6 +1,6 @@
 -- What one field more does to the parts of a record, and that a record with a title has one.
 use Rattle.std.proofs.Common.{◌≡◌, ℕ, ◌+◌, Bool, true, false, cond, ◌&&◌, IsTrue, List, [], ◌∷◌, ◌++◌, refl, sym, ap, subst, ◌∙◌, arith}
-use Rattle.std.specs.Prelude.{find, filter, count_by, IsSome, ◌==◌, codes}
+use Rattle.std.specs.Prelude.{find, filter, count_by, Contains, IfSome, IsSome, ◌==◌, codes}
 use Rattle.std.specs.List.{list_all}
 use Rattle.std.specs.declared.option.Option.{Option}
 use Rattle.std.specs.declared.option.Option.TheVariants.{Some, None}
@@ -15,6 +15,7 @@ use Rattle.marc_parts.specs.Parts.{has_tag, first_under, how_many}
 use Rattle.marc_parts.specs.Loads.{is_utf8_field, is_load_status, is_numbered, is_described, is_loadable}
 use Rattle.field_merge.specs.Contents.{is_united, slot, untitled}
 use Rattle.field_merge.specs.Parts.{ArePartsOf}
+use Rattle.field_merge.proofs.Members.{member-find}
 use Rattle.field_merge.specs.declared.rank.Rank.{Rank}
 use Rattle.field_merge.specs.declared.slot.Slot.{Slot}
 use Rattle.field_merge.specs.declared.parts.Parts.{Parts}
@@ -73,3 +74,16 @@ some-from_parts k r parts loadable are =
 pub title-is : (k : Rank) (o : Option Field) (s : Slot) → option_map (slot k) o ≡ Some s → s ≡ slot k (unwrap_or o untitled)
 title-is k None s e = cc
 title-is k (Some x) s e = cc
+
+-- the field of a slot, and the title, stand in the record
+pub slot-within : (k : Rank) (p : Field → Bool) (fields : List Field) → IfSome (option_map (slot k) (find p fields)) (λ s. Contains fields s.field)
+slot-within k p fields =
+    elim (find p fields) as (λ o. find p fields ≡ o → IfSome (option_map (slot k) o) (λ s. Contains fields s.field)) [
+      | None ↦ λ e. tt
+      | Some x ↦ λ e. member-find p fields x e
+    ] refl
+
+pub title-within : (r : Record) → IsTrue (is_loadable r) → Contains r.fields (unwrap_or (first_under (codes "245") r.fields) untitled)
+title-within r loadable =
+    let (x, e) = title-from_loadable r loadable in
+    subst (λ o. Contains r.fields (unwrap_or o untitled)) (sym e) (member-find (has_tag (codes "245")) r.fields x e)

@@ -1,9 +1,13 @@
-//! Where the parts of a merge come from. Each function here does nothing when it runs: its contract is the law.
+//! Where the parts of a content come from: those of a record's content from the record, those of a merge from its sides.
+//! Each function here does nothing when it runs: its contract is the law.
 //!
-//! So what holds of the parts of any two contents holds of those of their merge.
-ghost use Rattle.std.specs.Prelude.{◌≡◌, ◌↔◌, ◌⊎◌, Contains};
+//! So what holds of the fields of every loaded record holds of the fields of whatever their contents merge to.
+ghost use Rattle.std.specs.Prelude.{◌≡◌, ◌↔◌, ◌⊎◌, ℕ, List, IfSome, IsTrue, Contains};
 ghost use Rattle.union_base.specs.declared.record_id.RecordId.{RecordId};
 ghost use Rattle.union_base.specs.declared.field.Field.{Field};
+ghost use Rattle.marc_fields.specs.declared.marc_record.Record.{Record};
+ghost use Rattle.marc_parts.specs.Loads.{is_loadable};
+ghost use Rattle.field_merge.specs.Contents.{is_united, content};
 ghost use Rattle.field_merge.specs.Merging.{join};
 ghost use Rattle.field_merge.specs.declared.content.Content.{Content};
 
@@ -26,4 +30,20 @@ pub fn slots_of_a_merge()
     ensures f1xx { (a b : Content) → ((join a b).f1xx ≡ a.f1xx) ⊎ ((join a b).f1xx ≡ b.f1xx) }
     ensures f240 { (a b : Content) → ((join a b).f240 ≡ a.f240) ⊎ ((join a b).f240 ≡ b.f240) }
     ensures f245 { (a b : Content) → ((join a b).f245 ≡ a.f245) ⊎ ((join a b).f245 ≡ b.f245) }
+{}
+
+/// The united fields of a record's content are those of the record's fields that are united.
+pub fn united_fields_of_a_record()
+    ensures { (library : List ℕ) (r : Record) (field : Field)
+        → Contains (content library r).united field ↔ (Contains r.fields field × IsTrue (is_united field)) }
+{}
+
+/// The fields in the slots of a record's content are fields of the record; the title too, where the record can be loaded.
+pub fn slots_of_a_record()
+    ensures f005 { (library : List ℕ) (r : Record) → IfSome (content library r).f005 (λ s. Contains r.fields s.field) }
+    ensures f010 { (library : List ℕ) (r : Record) → IfSome (content library r).f010 (λ s. Contains r.fields s.field) }
+    ensures f040 { (library : List ℕ) (r : Record) → IfSome (content library r).f040 (λ s. Contains r.fields s.field) }
+    ensures f1xx { (library : List ℕ) (r : Record) → IfSome (content library r).f1xx (λ s. Contains r.fields s.field) }
+    ensures f240 { (library : List ℕ) (r : Record) → IfSome (content library r).f240 (λ s. Contains r.fields s.field) }
+    ensures f245 { (library : List ℕ) (r : Record) → IsTrue (is_loadable r) → Contains r.fields (content library r).f245.field }
 {}

@@ -18,3 +18,5 @@ pub mod merging;
 pub mod parts;
 pub mod rank;
 pub mod slot;
+#[cfg(test)]
+mod tests;

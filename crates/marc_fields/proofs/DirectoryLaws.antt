@@ -1,5 +1,5 @@
 -- What reading a directory shows.
-use Rattle.std.proofs.Common.{◌≡◌, ℕ, zero, suc, ◌+◌, ◌-◌, ◌<◌, ◌≤◌, Bool, true, false, List, [], ◌∷◌, ◌++◌, take, drop, map, refl, sym, ◌∙◌, ap, arith, append_assoc, add-one, None, Some, Ok, Err}
+use Rattle.std.proofs.Common.{◌≡◌, ℕ, zero, suc, ◌+◌, ◌-◌, ◌<◌, ◌≤◌, ◌*◌, Bool, true, false, List, [], ◌∷◌, ◌++◌, length, take, drop, map, refl, sym, ◌∙◌, ap, arith, append_assoc, add-one, None, Some, Ok, Err}
 use Rattle.std.proofs.lemmas.Bool.{and_from}
 use Rattle.std.proofs.lemmas.Bool.Decides.{nat_tests}
 use Rattle.std.proofs.lemmas.Grind.{flat_map-append}
@@ -9,11 +9,10 @@ use Rattle.std.specs.List.{flat_map, list_all}
 use Rattle.std.specs.Prelude.{if◌then◌else◌, nat_le}
 use Rattle.marc_leader.specs.Entry.{entry_of}
 use Rattle.marc_leader.specs.declared.entry.Entry.{Entry}
-use Rattle.marc_leader.specs.declared.entry.EntryRule.{EntryRule}
 use Rattle.marc_leader.specs.declared.entry.EntryRule.TheVariants.{Digits, Tag}
 use Rattle.union_base.specs.Fields.{is_tag}
-use Rattle.marc_fields.specs.Directories.{is_formed}
-use Rattle.marc_fields.specs.Rows.{least_where_not, fails}
+use Rattle.marc_fields.specs.Directories.{is_formed, AreRead, directory_failure_from}
+use Rattle.marc_fields.specs.Rows.{least_where_not}
 use Rattle.marc_fields.specs.Rules.{entry_in, entry_texts, has_digits, has_tag, directory_failure}
 use Rattle.marc_fields.specs.Spelling.{entry_bytes}
 use Rattle.marc_fields.specs.declared.rules.Rule.TheVariants.{EntryDigits, Tag as TagRule}
@@ -62,15 +61,16 @@ pub row-none : (passes : List ℕ → Bool) (i n : ℕ) (rest text : List ℕ) �
 row-none passes i n rest text some is none =
     ap passes is ∙ least-none passes i (take 12 rest) _ (sym (ap (least_where_not passes i) (texts-step n rest some)) ∙ none)
 
--- an entry that is refused though its numbers are digits has no tag
-entry_refused : (d t : Bool) (text : List ℕ) (why : EntryRule) → d ≡ true
-    → Err why ≡ (if d then (if t then Ok (entry_in text) else Err Tag) else Err Digits) → t ≡ false
-entry_refused true true text why digits is = cc
-entry_refused true false text why digits is = refl
-entry_refused false t text why digits is = cc
+-- what an entry that is refused has not
+digits_refused : (d t : Bool) (text : List ℕ) → Err Digits ≡ (if d then (if t then Ok (entry_in text) else Err Tag) else Err Digits) → d ≡ false
+digits_refused true true text is = cc
+digits_refused true false text is = cc
+digits_refused false t text is = refl
 
-pub has_tag-refused : (text : List ℕ) (why : EntryRule) → has_digits text ≡ true → Err why ≡ entry_of text → has_tag text ≡ false
-has_tag-refused text why digits is = entry_refused (has_digits text) (has_tag text) text why digits is
+tag_refused : (d t : Bool) (text : List ℕ) → Err Tag ≡ (if d then (if t then Ok (entry_in text) else Err Tag) else Err Digits) → t ≡ false
+tag_refused true true text is = cc
+tag_refused true false text is = refl
+tag_refused false t text is = cc
 
 -- an entry that was read has a tag, and is the one that stands there
 entry_read : (d t : Bool) (text : List ℕ) (e : Entry) → Ok e ≡ (if d then (if t then Ok (entry_in text) else Err Tag) else Err Digits)
@@ -114,13 +114,45 @@ formed-more old new e all tag short more =
     small : (n : ℕ) → n ≤ 9999 → nat_le n 9999 ≡ true
     small n h = grind (arith, nat_tests)
 
--- the rules on a directory, one after the other
-pub directory_failure-digits : (texts : List (List ℕ)) (place : ℕ) → least_where_not has_digits 1 texts ≡ Some place
-    → directory_failure texts ≡ Some (record { rule = EntryDigits; place = place })
-unfolding directory_failure
-directory_failure-digits texts place is = rw is refl
+-- the first of the texts has not all digits
+pub failure-digits : (before n : ℕ) (directory : List ℕ) → 0 < n → Err Digits ≡ entry_of (take 12 directory)
+    → directory_failure_from (before + 1) (entry_texts n directory) ≡ Some (record { rule = EntryDigits; place = before + 1 })
+failure-digits before n directory some is =
+    let text = take 12 directory in
+    rw (row-here has_digits before n directory text some refl (digits_refused (has_digits text) (has_tag text) text is)) refl
 
-pub directory_failure-tags : (texts : List (List ℕ)) → least_where_not has_digits 1 texts ≡ None
-    → directory_failure texts ≡ fails TagRule (least_where_not has_tag 1 texts)
+-- the first of the texts has no tag, and all have digits
+pub failure-tag : (before n : ℕ) (directory : List ℕ) → 0 < n → Err Tag ≡ entry_of (take 12 directory)
+    → least_where_not has_digits (before + 1) (entry_texts n directory) ≡ None
+    → directory_failure_from (before + 1) (entry_texts n directory) ≡ Some (record { rule = TagRule; place = before + 1 })
+failure-tag before n directory some is none =
+    let text = take 12 directory in
+    rw (none, row-here has_tag before n directory text some refl (tag_refused (has_digits text) (has_tag text) text is)) refl
+
+-- the rules on a directory are those on its entries from the first on
+pub directory_failure-from : (texts rest : List (List ℕ)) (i : ℕ) → least_where_not has_digits 1 texts ≡ least_where_not has_digits i rest
+    → least_where_not has_tag 1 texts ≡ least_where_not has_tag i rest → directory_failure_from i rest ≡ directory_failure texts
 unfolding directory_failure
-directory_failure-tags texts none = rw none refl
+directory_failure-from texts rest i digits tags = rw (digits, tags) refl
+
+-- no texts are left
+empty : {A : Type 0} (xs : List A) → length xs ≡ 0 → xs ≡ []
+empty [] none = refl
+empty (x ∷ xs) none = absurd (omega arith)
+
+-- all texts were read
+pub directory-read : (directory rest : List ℕ) (count n i : ℕ) (entries : List Entry) → n ≡ 0 → length rest ≡ 12 * n
+    → least_where_not has_digits 1 (entry_texts count directory) ≡ least_where_not has_digits i (entry_texts n rest)
+    → least_where_not has_tag 1 (entry_texts count directory) ≡ least_where_not has_tag i (entry_texts n rest)
+    → directory ≡ flat_map entry_bytes entries ++ rest → map entry_in (entry_texts count directory) ≡ entries ++ map entry_in (entry_texts n rest)
+    → list_all is_formed entries ≡ true → (directory_failure (entry_texts count directory) ≡ None) × AreRead directory count entries
+directory-read directory rest count n i entries zero_is size digits tags spelled are formed =
+    let left : length rest ≡ 0 = omega arith in
+    let none : entry_texts n rest ≡ [] = ap (λ k. entry_texts k rest) zero_is in (
+      sym (directory_failure-from (entry_texts count directory) (entry_texts n rest) i digits tags) ∙ ap (directory_failure_from i) none,
+      record {
+        spelled = spelled ∙ (ap (λ t. flat_map entry_bytes entries ++ t) (empty rest left) ∙ append-nil (flat_map entry_bytes entries));
+        are = sym (are ∙ (ap (λ ts. entries ++ map entry_in ts) none ∙ append-nil entries));
+        formed = formed;
+      },
+    )

@@ -1,11 +1,14 @@
 -- What is known of a directory whose entries were read.
-use Rattle.std.specs.Prelude.{◌≡◌, ℕ, Bool, true, ◌&&◌, nat_le, List, map, None}
+use Rattle.std.specs.Prelude.{◌≡◌, ℕ, Bool, true, ◌&&◌, nat_le, List, map, Option, None}
 use Rattle.std.specs.List.{list_all, flat_map}
 use Rattle.marc_leader.specs.declared.entry.Entry.{Entry}
 use Rattle.union_base.specs.Fields.{is_tag}
 use Rattle.union_base.specs.declared.field.Field.{Field}
-use Rattle.marc_fields.specs.Rules.{entry_in, entry_texts, tiling_failure}
+use Rattle.marc_fields.specs.Rows.{least_where_not, fails, or_then}
+use Rattle.marc_fields.specs.Rules.{entry_in, entry_texts, has_digits, has_tag, tiling_failure}
 use Rattle.marc_fields.specs.Spelling.{entry_bytes, longest_field, AreEntriesOf}
+use Rattle.marc_fields.specs.declared.rules.Failure.{Failure}
+use Rattle.marc_fields.specs.declared.rules.Rule.TheVariants.{EntryDigits, Tag}
 
 -- the entry has a tag, and a length of four digits
 abbrev pub is_formed : Entry → Bool
@@ -23,3 +26,7 @@ pub record AreDecoded (directory bytes : List ℕ) (count : ℕ) (fields : List 
   pub read : AreRead directory count entries
   pub tiled : tiling_failure bytes entries ≡ None
   pub lie : AreEntriesOf bytes entries fields
+
+-- the rules on a directory, for entries counted from that number on
+abbrev pub directory_failure_from : ℕ → List (List ℕ) → Option Failure
+directory_failure_from i texts = or_then (fails EntryDigits (least_where_not has_digits i texts)) (fails Tag (least_where_not has_tag i texts))

@@ -1,13 +1,13 @@
 -- UTF-8 of a field's bytes and of its texts.
-use Rattle.std.proofs.Common.{◌≡◌, ℕ, zero, suc, ◌+◌, ◌<◌, true, not, ◌&&◌, List, [], ◌∷◌, ◌++◌, length, get_or, drop, refl, sym, ◌∙◌, ap, subst, arith, length-append, drop-drop}
+use Rattle.std.proofs.Common.{◌≡◌, ℕ, zero, suc, ◌+◌, ◌<◌, true, not, ◌&&◌, List, [], ◌∷◌, ◌++◌, length, get_or, drop, refl, sym, ◌∙◌, ap, subst, arith, length-append, drop-drop, ◌-◌, ◌≤◌, length-drop, take}
 use Rattle.std.proofs.Math.Seq.{take-append_seam, drop-append_seam, get_or-append_seam}
 use Rattle.std.proofs.lemmas.Bool.{and_parts, and_from}
 use Rattle.std.proofs.lemmas.Bool.Decides.{nat_tests}
-use Rattle.std.proofs.lemmas.List.{append-nil}
-use Rattle.std.proofs.lemmas.Str.{IsUtf8-from_is_utf8, is_utf8-from_IsUtf8, IsUtf8-take, IsUtf8-drop, IsUtf8-nil, IsUtf8-append, IsUtf8-from_ascii, IsCharBoundary-before_ascii, IsCharBoundary-after_ascii}
+use Rattle.std.proofs.lemmas.List.{append-nil, get_or-take, get_or-drop, length-take}
+use Rattle.std.proofs.lemmas.Str.{IsUtf8-from_is_utf8, is_utf8-from_IsUtf8, IsUtf8-take, IsUtf8-drop, IsUtf8-nil, IsUtf8-append, IsUtf8-from_ascii, IsCharBoundary-before_ascii, IsCharBoundary-after_ascii, IsUtf8-between}
 use Rattle.std.specs.List.{flat_map, list_all}
 use Rattle.std.specs.Prelude.{◌==◌, nat_le}
-use Rattle.std.specs.Str.{IsUtf8, IsAscii, is_utf8}
+use Rattle.std.specs.Str.{IsUtf8, IsAscii, is_utf8, IsCharBoundary}
 use Rattle.marc_leader.specs.declared.entry.Entry.{Entry}
 use Rattle.union_base.specs.Fields.{is_subfield, is_subfield_code, is_indicator, is_text, spelled_subfield, spelled as body_bytes, fits_tag, is_field, is_tag, is_control_tag}
 use Rattle.union_base.specs.declared.body.Body.{Body}
@@ -15,6 +15,8 @@ use Rattle.union_base.specs.declared.body.Body.TheVariants.{Control, Data}
 use Rattle.union_base.specs.declared.field.Field.{Field}
 use Rattle.union_base.specs.declared.subfield.Subfield.{Subfield}
 use Rattle.marc_fields.specs.Spelling.{AreEntriesOf}
+use Rattle.marc_fields.specs.Rules.{is_tile, range_of, text_of}
+use Rattle.marc_fields.proofs.FieldReading.{tile-parts}
 use Rattle.marc_fields.proofs.NoFailure.{text-spelled}
 use Rattle.marc_parts.specs.Loads.{is_utf8_subfield, is_utf8_body, is_utf8_field}
 use Rattle.marc_rules.specs.Contents.{is_plain, is_plain_at, is_utf8_at}
@@ -109,3 +111,21 @@ utf8-fields bytes (e ∷ entries) (f ∷ fields) are all =
     let both = and_parts (is_utf8_at bytes e) (list_all (is_utf8_at bytes) entries) all in
     let here : is_utf8 (body_bytes f.body) ≡ true = sym (ap is_utf8 (text-spelled bytes e f are.0)) ∙ both.0 in
     and_from _ _ (utf8_body f.tag f.body f.well_formed here) (utf8-fields bytes entries fields are.1 both.1)
+
+-- a field of UTF-8 data that begins with a character is UTF-8
+pub utf8-tile : (bytes : List ℕ) (e : Entry) → IsUtf8 bytes → is_tile bytes e ≡ true → IsCharBoundary bytes e.start → is_utf8_at bytes e ≡ true
+utf8-tile bytes e u is begins =
+    let tile = tile-parts bytes e is in
+    let text = text_of bytes e in
+    let last = e.start + (e.length - 1) in
+    let room : e.length - 1 ≤ length (drop e.start bytes) = omega (arith, length-drop e.start bytes, tile.inside) in
+    let size : length text ≡ e.length - 1 = omega (arith, length-take (e.length - 1) (drop e.start bytes), room) in
+    let in_range : get_or (range_of bytes e) (e.length - 1) 0 ≡ 0x1E
+    = ap (λ t. get_or t (e.length - 1) 0) tile.parts
+    ∙ (ap (λ n. get_or (text ++ 0x1E ∷ []) n 0) (sym size) ∙ get_or-append_seam text 0x1E [] 0) in
+    let there : get_or bytes last 0 ≡ 0x1E
+    = sym (get_or-take e.length (drop e.start bytes) (e.length - 1) 0 (omega (arith, tile.some)) ∙ get_or-drop e.start bytes (e.length - 1) 0) ∙ in_range in
+    let below : last < length bytes = omega (arith, tile.inside, tile.some) in
+    let ends = IsCharBoundary-before_ascii bytes last below (omega (arith, there)) in
+    let Is : ℕ → Type 0 = λ n. IsUtf8 (take n (drop e.start bytes)) in
+    is_utf8-from_IsUtf8 text (subst Is (omega arith) (IsUtf8-between bytes e.start last u (omega arith) begins ends))

@@ -1,7 +1,7 @@
 //! The rules on status and character coding.
-ghost use Rattle.std.specs.Prelude.{⊤, ◌≡◌, ◌≤◌, true, length};
+ghost use Rattle.std.specs.Prelude.{⊤, ◌≡◌, ◌≤◌, true, length, None};
 ghost use Rattle.std.specs.List.{list_all};
-ghost use Rattle.std.specs.Str.{is_utf8};
+ghost use Rattle.std.specs.Str.{is_utf8, IsCharBoundary};
 ghost use Rattle.marc_fields.specs.Rows.{Answers, least_where_not};
 ghost use Rattle.marc_fields.specs.Rules.{is_tile};
 ghost use Rattle.marc_rules.specs.Contents.{is_status, is_plain, is_plain_at, is_utf8_at, coding_failure, content_failure};
@@ -53,12 +53,41 @@ fn first_coded(entries: &[Entry], bytes: &[u8]) -> Option<u32>
     None
 }
 
+/// Whether the entry's field begins with a byte that may begin a character in UTF-8.
+fn begins_character(entry: &Entry, bytes: &[u8]) -> bool
+    requires { is_tile bytes.now entry.now ≡ true }
+    ensures { result ≡ true → IsCharBoundary bytes.now entry.now.start }
+{
+    let first = bytes[entry.start as usize];
+    first < 0x80 || 0xC0 <= first
+}
+
+/// Whether the data are UTF-8 as a whole and no field begins within a character, so that each field is UTF-8. One look at
+/// the whole costs less than one at each field.
+fn are_utf8_together(entries: &[Entry], bytes: &[u8]) -> bool
+    requires { list_all (is_tile bytes.now) entries.now ≡ true }
+    ensures { result ≡ true → least_where_not (is_utf8_at bytes.now) 1 entries.now ≡ None }
+{
+    if !are_utf8(bytes) {
+        return false;
+    }
+    for entry in entries {
+        if !begins_character(entry, bytes) {
+            return false;
+        }
+    }
+    true
+}
+
 /// The number of the first entry whose field is not UTF-8.
 fn first_not_utf8(entries: &[Entry], bytes: &[u8]) -> Option<u32>
     requires few { length entries.now ≤ 9999 }
     requires tiles { list_all (is_tile bytes.now) entries.now ≡ true }
     ensures { result ≡ least_where_not (is_utf8_at bytes.now) 1 entries.now }
 {
+    if are_utf8_together(entries, bytes) {
+        return None;
+    }
     for (i, entry) in entries.iter().enumerate() {
         if !are_utf8(text_in(entry, bytes)) {
             return Some(i as u32 + 1);

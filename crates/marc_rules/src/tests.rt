@@ -412,6 +412,8 @@ const BASE_ADDRESS: &[(&[u8], u32)] = &[
         b"00208nam b22x0109 a 4500001006600000008000600066245000800072500000600080005000200086700000200088245000800090\x1Exxxxxxxxxxxxxxxxxxxxxxxxxxxxxxxxxxxxxxxxxxxxxxxxxxxxxxxxxxxxxxxxx\x1Eshort\x1E00\x1FaCat\x1E  \x1Fax\x1Ey\x1Ex\x1E00\x1FaDog\x1E\x1D",
         0,
     ),
+    // The base address is in the leader.
+    (b"00026nam a2200024 a 4500\x1E\x1D", 0),
 ];
 
 /// Frames that break this rule first, each with the place.
@@ -840,6 +842,16 @@ const TILING: &[(&[u8], u32)] = &[
     // At once: Tiling, ControlNumber, Fixed008.
     (
         b"00174nam a2200085 a 4500001006600000008000600066245999900072500000600080005000200086\x1Exxxxxxxxxxxxxxxxxxxxxxxxxxxxxxxxxxxxxxxxxxxxxxxxxxxxxxxxxxxxxxxxx\x1Eshort\x1E00\x1FaCat\x1E  \x1Fax\x1Ey\x1E\x1D",
+        3,
+    ),
+    // Data that no entry has.
+    (
+        b"00102nam a2200049 a 4500001000300000008004100003\x1Eid\x1E240101s1999    xx                  eng d\x1E00\x1FaCat\x1E\x1D",
+        3,
+    ),
+    // An empty range.
+    (
+        b"00114nam a2200061 a 4500001000300000008004100003245000000044\x1Eid\x1E240101s1999    xx                  eng d\x1E00\x1FaCat\x1E\x1D",
         3,
     ),
 ];
@@ -1675,6 +1687,34 @@ fn frames_are_accepted_or_refused_by_rule_and_place(rt: HostRuntime) -> Result<(
                 Some((rule, *place))
             );
         }
+    }
+    Ok(())
+}
+
+/// A frame with so many entries of one field, of 13 bytes, and as many bytes as the leader says.
+fn crowded_frame(alloc: Global, front: &[u8], entries: usize) -> Result<Vec<u8>, Fail> {
+    let mut frame = Vec::new(alloc);
+    frame.extend_from_slice(front)?;
+    for _ in 0..entries {
+        frame.extend_from_slice(b"500001300000")?;
+    }
+    frame.extend_from_slice(b"\x1E  \x1Faaaaaaaaa\x1E\x1D")?;
+    Ok(frame)
+}
+
+/// The second entry shares its bytes with the first. The longest of these frames has 99,999 bytes.
+#[test]
+fn crowded_frames_are_refused_at_the_second_entry(rt: HostRuntime) -> Result<(), Fail> {
+    for (front, entries) in [
+        (b"00063nam a2200049 a 4500", 2),
+        (b"12039nam a2212025 a 4500", 1_000),
+        (b"99999nam a2299985 a 4500", 8_330),
+    ] {
+        let frame = crowded_frame(rt.alloc(), front, entries)?;
+        assert_eq!(rt;
+            failure(rt.alloc(), Cut::Whole, &frame)?,
+            Some((Rule::Tiling, 2))
+        );
     }
     Ok(())
 }

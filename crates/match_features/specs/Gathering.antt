@@ -93,5 +93,5 @@ features library r = record {
   dates = set_of texts_cmp (date_in (text_under (codes "008") r.fields));
   names = set_of texts_cmp (flat_map name_in r.fields);
   kept = kept_sets (control_of library r) (types_of r) (flat_map isbns_in r.fields) (flat_map title_in r.fields)
-    (date_in (text_under (codes "008") r.fields)) (flat_map name_in r.fields) refl;
+      (date_in (text_under (codes "008") r.fields)) (flat_map name_in r.fields) refl;
 }

@@ -1,5 +1,6 @@
 -- The keys that features are looked up by.
-use Rattle.std.specs.Prelude.{ℕ, Bool, ◌||◌, List, ◌++◌, map, Contains}
+use Rattle.std.specs.Prelude.{ℕ, Bool, false, nat_eq, ◌&&◌, ◌||◌, List, ◌++◌, map, Contains}
+use Rattle.std.specs.Cmp.Lexicographic.{pointwise}
 use Rattle.union_base.specs.SortedLists.{have_common}
 use Rattle.match_features.specs.declared.features.Features.{Features}
 use Rattle.match_features.specs.declared.keys.FeatureKey.{FeatureKey}
@@ -22,3 +23,15 @@ HasKey x (Title title) = Contains x.titles title
 abbrev pub share_key : Features → Features → Bool
 share_key x y =
     have_common pairs_cmp x.control y.control || have_common texts_cmp x.isbns y.isbns || have_common texts_cmp x.titles y.titles
+
+-- keys of one kind compare as equal where their texts do, and keys of two kinds never
+abbrev pub key_eq : FeatureKey → FeatureKey → Bool
+key_eq (Control a b) (Control c d) = pointwise nat_eq a c && pointwise nat_eq b d
+key_eq (Isbn a) (Isbn b) = pointwise nat_eq a b
+key_eq (Title a) (Title b) = pointwise nat_eq a b
+key_eq (Control a b) (Isbn c) = false
+key_eq (Control a b) (Title c) = false
+key_eq (Isbn a) (Control b c) = false
+key_eq (Isbn a) (Title b) = false
+key_eq (Title a) (Control b c) = false
+key_eq (Title a) (Isbn b) = false

@@ -4,4 +4,7 @@ pub mod Gathering
 pub mod Joining
 pub mod JoinLaws
 pub mod Meeting
+pub mod MemberLaws
+pub mod MeetLaws
 pub mod Keys
+pub mod KeyLaws

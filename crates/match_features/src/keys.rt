@@ -1,7 +1,14 @@
-//! The keys that features are looked up by.
-use union_base::bytes::Bytes;
+//! The keys that features are looked up by, as `specs/Keys.antt` has them.
+ghost use Rattle.std.specs.Prelude.{◌≡◌, ◌≢◌, ◌↔◌, ◌++◌, IfOk, OnOk, Contains, AllPairs, map};
+ghost use Rattle.match_features.specs.Keys.{control_key, keys, HasKey};
 
-/// What features are looked up by (this project's own). Two that meet have a key in common.
+use crate::features::Features;
+use std::alloc::Global;
+use union_base::bytes::Bytes;
+use union_base::copied::Copied;
+use union_base::memory::Memory;
+
+/// What features are looked up by (this project's own). Features that meet have a key in common.
 #[derive(Debug, PartialEq, Eq, Hash, Drop)]
 pub enum FeatureKey {
     /// A control pair: the source and the number.
@@ -10,4 +17,72 @@ pub enum FeatureKey {
     Isbn([u8; 13]),
     /// A title in normal form.
     Title(Bytes),
+}
+
+impl Copied for FeatureKey {
+    fn copied(&self, alloc: Global) -> Result<FeatureKey, Memory> {
+        match self {
+            FeatureKey::Control(source, number) => Ok(FeatureKey::Control(
+                source.copied(alloc)?,
+                number.copied(alloc)?,
+            )),
+            FeatureKey::Isbn(isbn) => Ok(FeatureKey::Isbn(*isbn)),
+            FeatureKey::Title(title) => Ok(FeatureKey::Title(title.copied(alloc)?)),
+        }
+    }
+}
+
+/// The keys of the features, each once: those of the control pairs, then of the ISBNs, then of the titles.
+///
+/// Answers `Memory` where memory ran out.
+pub fn feature_keys(alloc: Global, features: &Features) -> Result<Vec<FeatureKey>, Memory>
+    ensures value { IfOk result (λ found. found.items ≡ keys features.now) }
+    ensures had { IfOk result (λ found. (k : FeatureKey) → Contains found.items k ↔ HasKey features.now k) }
+    ensures once { IfOk result (λ found. AllPairs (λ j k. j ≢ k) found.items) }
+{
+    let control = features.control.as_slice();
+    let isbns = features.isbns.as_slice();
+    let titles = features.titles.as_slice();
+    let room = control.len().saturating_add(isbns.len());
+    let mut found = Vec::with_capacity(alloc, room.saturating_add(titles.len()))?;
+    push_control_keys(alloc, &mut found, control)?;
+    push_isbn_keys(&mut found, isbns)?;
+    push_title_keys(alloc, &mut found, titles)?;
+    Ok(found)
+}
+
+fn push_control_keys(
+    alloc: Global,
+    found: &mut Vec<FeatureKey>,
+    control: &[(Bytes, Bytes)],
+) -> Result<(), Memory>
+    ensures { OnOk result (found.new.items ≡ found.old.items ++ map control_key control.now) }
+{
+    for (source, number) in control {
+        let key = FeatureKey::Control(source.copied(alloc)?, number.copied(alloc)?);
+        found.push(key)?;
+    }
+    Ok(())
+}
+
+fn push_isbn_keys(found: &mut Vec<FeatureKey>, isbns: &[[u8; 13]]) -> Result<(), Memory>
+    ensures { OnOk result (found.new.items ≡ found.old.items ++ map FeatureKey.Isbn isbns.now) }
+{
+    for isbn in isbns {
+        found.push(FeatureKey::Isbn(*isbn))?;
+    }
+    Ok(())
+}
+
+fn push_title_keys(
+    alloc: Global,
+    found: &mut Vec<FeatureKey>,
+    titles: &[Bytes],
+) -> Result<(), Memory>
+    ensures { OnOk result (found.new.items ≡ found.old.items ++ map FeatureKey.Title titles.now) }
+{
+    for title in titles {
+        found.push(FeatureKey::Title(title.copied(alloc)?))?;
+    }
+    Ok(())
 }

@@ -1,1 +1,64 @@
-//! Laws.
+//! What resolving editions asks of features: merging is a union, meeting is kept by it, and features that meet have a key in
+//! common.
+//!
+//! Each function here does nothing when it runs: its contract is the law. The same laws stand as the lemmas
+//! `features_join_laws`, `features_match_laws`, `features_key_laws`, `features_keys`,
+//! `features_keys_once` and `features_keys_exact` in `specs/`.
+ghost use Rattle.std.specs.Prelude.{◌≡◌, ◌≢◌, ◌↔◌, ◌⊎◌, IsTrue, Contains, AllPairs};
+ghost use Rattle.match_features.specs.declared.features.Features.{Features};
+ghost use Rattle.match_features.specs.declared.keys.FeatureKey.{FeatureKey};
+ghost use Rattle.match_features.specs.Joining.{join};
+ghost use Rattle.match_features.specs.Meeting.{meet};
+ghost use Rattle.match_features.specs.Keys.{keys, HasKey, share_key, key_eq};
+
+/// Merging is idempotent, commutative and associative.
+pub fn merging_is_a_union()
+    ensures idempotent { (x : Features) → join x x ≡ x }
+    ensures commutative { (x y : Features) → join x y ≡ join y x }
+    ensures associative { (x y z : Features) → join (join x y) z ≡ join x (join y z) }
+{}
+
+/// Features meet themselves.
+pub fn meeting_is_reflexive()
+    ensures { (x : Features) → IsTrue (meet x x) }
+{}
+
+/// Two features meet in either order, or in neither.
+pub fn meeting_is_symmetric()
+    ensures { (x y : Features) → IsTrue (meet x y) → IsTrue (meet y x) }
+{}
+
+/// What meets one of two meets what they merge to.
+pub fn meeting_is_representative()
+    ensures { (x y z : Features) → IsTrue (meet x y) → IsTrue (meet x (join y z)) }
+{}
+
+/// Features that meet have a key in common.
+pub fn meeting_shares_a_key()
+    ensures { (x y : Features) → IsTrue (meet x y) → (k : FeatureKey) × HasKey x k × HasKey y k }
+{}
+
+/// What two merge to has the keys of both, and no other.
+pub fn merging_keeps_keys()
+    ensures { (x y : Features) (k : FeatureKey) → HasKey (join x y) k ↔ (HasKey x k ⊎ HasKey y k) }
+{}
+
+/// Whether two have a key in common is what the test says.
+pub fn shared_keys_are_told()
+    ensures { (x y : Features) → IsTrue (share_key x y) ↔ ((k : FeatureKey) × HasKey x k × HasKey y k) }
+{}
+
+/// The keys that `feature_keys` answers are those that features have.
+pub fn keys_are_had()
+    ensures { (x : Features) (k : FeatureKey) → Contains (keys x) k ↔ HasKey x k }
+{}
+
+/// None of them stands twice.
+pub fn keys_stand_once()
+    ensures { (x : Features) → AllPairs (λ j k. j ≢ k) (keys x) }
+{}
+
+/// Keys that compare as equal are one key.
+pub fn keys_are_exact()
+    ensures { (j k : FeatureKey) → IsTrue (key_eq j k) → j ≡ k }
+{}

@@ -40,11 +40,7 @@ pub fn features_of(alloc: Global, library: &LibraryCode, rec: &Record) -> Result
 }
 
 /// The features with these lists, sorted and rid of repeats.
-fn of_lists(
-    found: Findings,
-    types: Vec<[u8; 2]>,
-    dates: Vec<[u8; 4]>,
-) -> Result<Features, Memory>
+fn of_lists(found: Findings, types: Vec<[u8; 2]>, dates: Vec<[u8; 4]>) -> Result<Features, Memory>
     requires { IsTrue (has_some found.control.items) }
     ensures control { IfOk result (λ made. made.control ≡ set_of pairs_cmp found.control.items) }
     ensures types { IfOk result (λ made. made.types ≡ set_of texts_cmp types.items) }
@@ -82,7 +78,11 @@ fn first_pairs(
     let number = Bytes::of(alloc, control_number(rec))?;
     let mut pairs = Vec::new(alloc);
     pairs.push((source, number))?;
-    if let Some(found) = pair(alloc, text_under(b"003", fields), text_under(b"001", fields))? {
+    if let Some(found) = pair(
+        alloc,
+        text_under(b"003", fields),
+        text_under(b"001", fields),
+    )? {
         pairs.push(found)?;
     }
     Ok(pairs)

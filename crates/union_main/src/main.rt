@@ -11,7 +11,7 @@ use union_io::file_shelf::FileShelf;
 use union_io::gate::OpenGate;
 use union_io::writer_sink::{ErrSink, OutSink};
 use union_program::run::union_run;
-use union_program::status::Status;
+use union_words::status::Status;
 
 /// A word in no form that the program has. It stands for words that are no UTF-8.
 const NO_WORD: &[u8; 1] = b"\xFF";

@@ -1,42 +1,34 @@
--- The export of a plain record is no longer than a frame may be.
-use Rattle.std.proofs.Common.{◌≡◌, ℕ, ◌+◌, ◌*◌, ◌≤◌, Bool, true, false, ◌&&◌, cond, nat_le, List, [], ◌∷◌, ◌++◌, length, refl, ap, ◌∙◌, arith, length-append}
+-- The export of a record whose frame is no longer than this stage takes fits in a frame.
+use Rattle.std.proofs.Common.{◌≡◌, ℕ, ◌+◌, ◌*◌, ◌≤◌, Bool, true, false, ◌&&◌, cond, nat_le, List, [], ◌∷◌, ◌++◌, length, refl, ap, sym, ◌∙◌, arith, length-append}
 use Rattle.std.proofs.lemmas.Bool.{le-leb, leb-true}
+use Rattle.std.proofs.lemmas.List.Folds.{list_all-append}
 use Rattle.std.specs.declared.cmp.Ordering.TheVariants.{Less, Equal, Greater}
 use Rattle.std.specs.Ordering.{match_ordering}
-use Rattle.std.specs.Prelude.{codes, ◌-◌, ◌==◌, not, slice_index, filter, Some, None}
+use Rattle.std.specs.Prelude.{codes, ◌==◌, not, filter, find, Some, None}
 use Rattle.std.specs.List.{list_all, flat_map}
+use Rattle.std.specs.Option.{option_map_or}
 use Rattle.union_base.specs.Both.{both_true, true_both}
 use Rattle.union_base.specs.Fields.{is_field, spelled}
 use Rattle.union_base.specs.FieldOrder.{field_cmp}
 use Rattle.union_base.specs.SortedLists.{put, union}
 use Rattle.union_base.specs.LibraryCodes.{is_library_code, longest-is_library_code}
 use Rattle.union_base.specs.declared.body.Body.{Body}
-use Rattle.union_base.specs.declared.body.Body.TheVariants.{Control}
+use Rattle.union_base.specs.declared.body.Body.TheVariants.{Control, Data}
 use Rattle.union_base.specs.declared.field.Field.{Field}
 use Rattle.marc_fields.specs.Spelling.{stored, is_short, frame_size, longest_frame}
-use Rattle.marc_fields.specs.Spelling.{spelling}
-use Rattle.marc_fields.proofs.SpellingLaws.{length-spelling}
 use Rattle.marc_fields.specs.declared.encoding.EncodeRefusal.TheVariants.{FieldTooLong, RecordTooLong}
 use Rattle.marc_fields.specs.Appending.{too_long}
-use Rattle.union_program.specs.Plain.{text_under, is_plain_record, are_plain_codes, are_plain_fields, is_printing, is_printing_field, is_control_number}
 use Rattle.marc_fields.specs.declared.marc_record.Record.{Record}
-use Rattle.union_program.proofs.FrameLaws.{chosen}
+use Rattle.marc_parts.specs.Parts.{has_tag, text_under, control_text, control_number}
+use Rattle.marc_parts.specs.Trimmed.{trimmed}
+use Rattle.union_program.proofs.ControlLaws.{length-trimmed}
 use Rattle.union_program.specs.Exported.{field_of, own_fields, is_kept, contributor, joined_id, exported}
 
-longest_number : (text : List ℕ) → is_control_number text ≡ true → length text ≤ 64
-longest_number text number =
-    let size = nat_le 1 (length text) && nat_le (length text) 64 in
-    let blanks = not (slice_index text 0 == 0x20) && not (slice_index text (length text - 1) == 0x20) in
-    let front = (both_true (size && is_printing text) blanks number).0 in
-    leb-true (length text) 64 (both_true (nat_le 1 (length text)) (nat_le (length text) 64) (both_true size (is_printing text) front).0).1
-
--- the control number of a plain record has 64 bytes at most
-longest-control : (r : Record) → is_plain_record r ≡ true → length (text_under (codes "001") r.fields) ≤ 64
-longest-control r plain =
-    let fields = (both_true (are_plain_codes r.leader) (are_plain_fields r.fields) plain).1 in
-    let needed = (both_true (list_all is_printing_field r.fields) _ fields).1 in
-    let texts = (both_true _ (is_control_number (text_under (codes "001") r.fields) && _) needed).1 in
-    longest_number (text_under (codes "001") r.fields) (both_true (is_control_number (text_under (codes "001") r.fields)) _ texts).0
+-- the first of two tests in a row, where both hold
+chosen : {X : Type 0} (a b : Bool) (x y z : X) → a ≡ true → b ≡ true → cond a (cond b x y) z ≡ x
+chosen true true x y z p q = refl
+chosen true false x y z p q = cc
+chosen false b x y z p q = cc
 
 -- the bytes that fields take in a frame: an entry of the directory and the stored bytes of each
 pub total : List Field → ℕ
@@ -84,17 +76,81 @@ total-field_of tag body =
       | false ↦ λ e. omega arith
     ] refl
 
-total-own_fields : (library control : List ℕ) → length library ≤ 16 → length control ≤ 64 → total (own_fields library control) ≤ 211
-total-own_fields library control l c =
+control_text-size : (body : Body) → length (control_text body) ≤ length (spelled body)
+control_text-size (Control text) = omega arith
+control_text-size (Data ind1 ind2 subfields) = omega arith
+
+-- the text of a control field is a part of what the fields take
+text_under-size : (tag : List ℕ) (fields : List Field) → length (text_under tag fields) ≤ total fields
+unfolding total
+text_under-size tag [] = omega arith
+text_under-size tag (f ∷ fields) =
+    elim (has_tag tag f) as (λ t. length (option_map_or (λ (f : Field). control_text f.body) (cond t (Some f) (find (has_tag tag) fields)) [])
+        ≤ (12 + length (stored f)) + total fields) [
+      | true ↦ omega (arith, control_text-size f.body, length-append (spelled f.body) (0x1E ∷ []))
+      | false ↦ omega (arith, text_under-size tag fields)
+    ]
+
+control_number-size : (r : Record) → length (control_number r) ≤ total r.fields
+control_number-size r = omega (arith, length-trimmed (text_under (codes "001") r.fields), text_under-size (codes "001") r.fields)
+
+-- each of the fields is short
+short_put : (f : Field) (xs : List Field) → is_short f ≡ true → list_all is_short xs ≡ true → list_all is_short (put field_cmp f xs) ≡ true
+short_put f [] here all = true_both (is_short f) true here refl
+short_put f (x ∷ xs) here all =
+    let both = both_true (is_short x) (list_all is_short xs) all in
+    elim (field_cmp f x) as (λ r. list_all is_short (match_ordering r (f ∷ x ∷ xs) (x ∷ xs) (x ∷ put field_cmp f xs)) ≡ true) [
+      | Less ↦ true_both (is_short f) (list_all is_short (x ∷ xs)) here all
+      | Equal ↦ all
+      | Greater ↦ true_both (is_short x) (list_all is_short (put field_cmp f xs)) both.0 (short_put f xs here both.1)
+    ]
+
+short_union : (xs : List Field) → list_all is_short xs ≡ true → list_all is_short (union field_cmp [] xs) ≡ true
+short_union [] all = refl
+short_union (x ∷ xs) all =
+    let both = both_true (is_short x) (list_all is_short xs) all in
+    short_put x (union field_cmp [] xs) both.0 (short_union xs both.1)
+
+are_short : (fields : List Field) → total fields ≤ 9999 → list_all is_short fields ≡ true
+unfolding total
+are_short [] h = refl
+are_short (f ∷ fs) h = true_both (is_short f) (list_all is_short fs) (le-leb (length (stored f)) 9999 (omega arith)) (are_short fs (omega arith))
+
+short_append : (xs ys : List Field) → list_all is_short xs ≡ true → list_all is_short ys ≡ true → list_all is_short (xs ++ ys) ≡ true
+short_append xs ys one other = list_all-append is_short xs ys ∙ true_both (list_all is_short xs) (list_all is_short ys) one other
+
+-- what the catalogue's own fields take
+record OwnSizes (library control : List ℕ) : Type 0 where
+  first : total (field_of (codes "001") (Control (joined_id library control))) ≤ 30 + length control
+  second : total (field_of (codes "003") (Control (codes "UNION"))) ≤ 18
+  third : total (field_of (codes "993") (contributor library control)) ≤ 35 + length control
+
+own_sizes : (library control : List ℕ) → length library ≤ 16 → OwnSizes library control
+own_sizes library control l =
+    let one : total (field_of (codes "001") (Control (joined_id library control))) ≤ 13 + length (joined_id library control)
+    = total-field_of (codes "001") (Control (joined_id library control)) in
+    let two : total (field_of (codes "003") (Control (codes "UNION"))) ≤ 18 = total-field_of (codes "003") (Control (codes "UNION")) in
+    let three : total (field_of (codes "993") (contributor library control)) ≤ 13 + length (spelled (contributor library control))
+    = total-field_of (codes "993") (contributor library control) in
+    let id : length (joined_id library control) ≡ length library + (1 + length control)
+    = length-append library (0x2E ∷ control) ∙ ap (λ n. length library + n) (omega arith) in
+    let holding : length (spelled (contributor library control)) ≡ 6 + (length library + length control) = simp length-append (omega arith) in
+    record { first = omega arith; second = two; third = omega arith }
+
+own_total : (library control : List ℕ) → OwnSizes library control → total (own_fields library control) ≤ 83 + (length control + length control)
+own_total library control sizes =
     let first = field_of (codes "001") (Control (joined_id library control)) in
     let second = field_of (codes "003") (Control (codes "UNION")) in
     let third = field_of (codes "993") (contributor library control) in
-    let one : total first ≤ 13 + length (joined_id library control) = total-field_of (codes "001") (Control (joined_id library control)) in
-    let two : total second ≤ 18 = total-field_of (codes "003") (Control (codes "UNION")) in
-    let three : total third ≤ 13 + length (spelled (contributor library control)) = total-field_of (codes "993") (contributor library control) in
-    let id : length (joined_id library control) ≡ length library + (1 + length control) = length-append library (0x2E ∷ control) ∙ ap (λ n. length library + n) (omega arith) in
-    let holding : length (spelled (contributor library control)) ≡ 6 + (length library + length control) = simp length-append (omega arith) in
-    omega (arith, total-append first (second ++ third), total-append second third)
+    omega (arith, total-append first (second ++ third), total-append second third, sizes.first, sizes.second, sizes.third)
+
+own_short : (library control : List ℕ) → OwnSizes library control → length control ≤ 9000 → list_all is_short (own_fields library control) ≡ true
+own_short library control sizes c =
+    let first = field_of (codes "001") (Control (joined_id library control)) in
+    let second = field_of (codes "003") (Control (codes "UNION")) in
+    let third = field_of (codes "993") (contributor library control) in
+    short_append first (second ++ third) (are_short first (omega (arith, sizes.first)))
+    (short_append second third (are_short second (omega (arith, sizes.second))) (are_short third (omega (arith, sizes.third))))
 
 -- the frame is the leader, two terminators, and what the fields take
 frame_size-total : (fields : List Field) → 12 * length fields + length (flat_map stored fields) ≡ total fields
@@ -102,30 +158,20 @@ unfolding total
 frame_size-total [] = refl
 frame_size-total (f ∷ fs) = omega (arith, frame_size-total fs, length-append (stored f) (flat_map stored fs))
 
-are_short : (fields : List Field) → total fields ≤ 9999 → list_all is_short fields ≡ true
-unfolding total
-are_short [] h = refl
-are_short (f ∷ fs) h = true_both (is_short f) (list_all is_short fs) (le-leb (length (stored f)) 9999 (omega arith)) (are_short fs (omega arith))
+not_too_long : (r : Record) → list_all is_short r.fields ≡ true → total r.fields ≤ 99900 → too_long r ≡ None
+not_too_long r short small =
+    chosen (list_all is_short r.fields) (nat_le (frame_size r) longest_frame) None (Some RecordTooLong) (Some FieldTooLong) short
+    (le-leb (frame_size r) 99999 (omega (arith, frame_size-total r.fields)))
 
-not_too_long : (r : Record) → total r.fields ≤ 9300 → too_long r ≡ None
-not_too_long r h =
-    chosen (list_all is_short r.fields) (nat_le (frame_size r) longest_frame) None (Some RecordTooLong) (Some FieldTooLong)
-    (are_short r.fields (omega arith)) (le-leb (frame_size r) 99999 (omega (arith, frame_size-total r.fields)))
-
--- the export of a plain record can be written
-pub exported-fits : (library : List ℕ) (r : Record) → is_library_code library ≡ true → is_plain_record r ≡ true → length (spelling r) ≤ 9000
-    → too_long (exported library r) ≡ None
-exported-fits library r code plain short =
-    let control = text_under (codes "001") r.fields in
-    let fields : List Field = filter is_kept r.fields ++ own_fields library control in
-    let own : total (own_fields library control) ≤ 211 = total-own_fields library control (longest-is_library_code library code) (longest-control r plain) in
-    let size : frame_size r ≤ 9000 = omega (arith, length-spelling r) in
-    not_too_long (exported library r) (omega (
-      arith,
-      total-union fields,
-      total-append (filter is_kept r.fields) (own_fields library control),
-      total-filter r.fields,
-      frame_size-total r.fields,
-      own,
-      size,
-    ))
+-- the export of a record that is no longer than this stage takes can be written
+pub exported-fits : (library : List ℕ) (r : Record) → is_library_code library ≡ true → frame_size r ≤ 9000 → too_long (exported library r) ≡ None
+exported-fits library r code small =
+    let control = control_number r in
+    let kept : List Field = filter is_kept r.fields in
+    let own : List Field = own_fields library control in
+    let sizes = own_sizes library control (longest-is_library_code library code) in
+    let fields : total r.fields ≤ 9000 = omega (arith, frame_size-total r.fields) in
+    let number : length control ≤ 9000 = omega (arith, control_number-size r) in
+    let rest : total kept ≤ 9000 = omega (arith, total-filter r.fields) in
+    not_too_long (exported library r) (short_union (kept ++ own) (short_append kept own (are_short kept (omega arith)) (own_short library control sizes number)))
+    (omega (arith, total-union (kept ++ own), total-append kept own, own_total library control sizes))

@@ -1,7 +1,10 @@
+pub mod StreamLaws
+pub mod TallyLaws
+pub mod SizeLaws
+pub mod ControlLaws
 pub mod ExportedLaws
 pub mod ExportedSizes
-pub mod CutLaws
-pub mod ReadingLaws
+pub mod CurrentLaws
+pub mod LoadingLaws
+pub mod PreparedLaws
 pub mod NoteLaws
-pub mod RunLaws
-pub mod FrameLaws

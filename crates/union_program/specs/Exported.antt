@@ -9,8 +9,7 @@ use Rattle.union_base.specs.declared.body.Body.TheVariants.{Control, Data}
 use Rattle.union_base.specs.declared.field.Field.{Field}
 use Rattle.marc_leader.specs.Codes.{Codes}
 use Rattle.marc_fields.specs.declared.marc_record.Record.{Record}
-use Rattle.marc_fields.specs.Spelling.{spelling}
-use Rattle.union_program.specs.Plain.{has_tag, text_under, IsPlain}
+use Rattle.marc_parts.specs.Parts.{has_tag, control_number}
 
 -- the field with this tag and this content, where they make one
 unfoldable pub field_of : List ℕ → Body → List Field
@@ -50,9 +49,5 @@ exported_codes leader = record leader { status = 0x6E; coding = 0x61; last = 0x3
 abbrev pub exported : List ℕ → Record → Record
 exported library r = record {
   leader = exported_codes r.leader;
-  fields = set_of field_cmp (filter is_kept r.fields ++ own_fields library (text_under (codes "001") r.fields));
+  fields = set_of field_cmp (filter is_kept r.fields ++ own_fields library (control_number r));
 }
-
--- the text is the export of the library's stream, which is one plain record
-abbrev pub IsExport : List ℕ → List ℕ → List ℕ → Type 0
-IsExport library stream text = (r : Record) × IsPlain stream r × (text ≡ spelling (exported library r))

@@ -1,7 +1,11 @@
+pub mod Streams
+pub mod Reports
+pub mod Tallies
 pub mod Exported
-pub mod Plain
+pub mod Currents
+pub mod Exports
+pub mod Loadings
+pub mod Stops
 pub mod Readings
 pub mod Runs
-pub mod Statuses
-pub mod Texts
-pub mod Words
+pub mod Prepared

@@ -1,15 +1,44 @@
--- What a run of the program leaves behind.
-use Rattle.std.specs.Prelude.{ℕ, ◌<◌, ◌⊎◌, Bool, true, false, List, length}
+-- What a run of the program leaves behind, and what each status says.
+use Rattle.std.specs.Prelude.{◌≡◌, ◌≢◌, ℕ, ◌<◌, ◌≤◌, ◌⊎◌, Bool, true, false, if◌then◌else◌, IsTrue, List, [], ◌∷◌, length, Some, IfSome}
 use Rattle.std.specs.declared.option.Option.{Option}
-use Rattle.std.specs.Io.KnownBytes.{Appends}
+use Rattle.std.specs.Io.KnownBytes.{Appends, Keeps}
+use Rattle.iso2709_frame.specs.Frames.{frames}
 use Rattle.union_io.specs.Causes.{Rose}
 use Rattle.union_io.specs.Writing.{AppendsFront}
-use Rattle.marc_fields.specs.declared.marc_record.Record.{Record}
-use Rattle.union_program.specs.Plain.{IsPlain}
-use Rattle.union_program.specs.Exported.{IsExport}
-use Rattle.union_program.specs.declared.reading.TheConstants.{LARGEST_INPUT}
-use Rattle.union_program.specs.declared.status.Status.{Status}
-use Rattle.union_program.specs.declared.status.Status.TheVariants.{Done, DoneWithRefusals, Usage, OpenFault, ReadFault, WriteFault, TooLong, Memory, NotBuilt}
+use Rattle.union_words.specs.Texts.{early_text}
+use Rattle.union_words.specs.declared.input.Input.{Input}
+use Rattle.union_words.specs.declared.input.Input.TheVariants.{Library}
+use Rattle.union_words.specs.declared.status.Status.{Status}
+use Rattle.union_words.specs.declared.status.Status.TheVariants.{Done, DoneWithRefusals, Usage, OpenFault, ReadFault, WriteFault, TooLong, Memory, NotBuilt}
+use Rattle.union_program.specs.Streams.{Frame}
+use Rattle.union_program.specs.Reports.{refused, check_text}
+use Rattle.union_program.specs.Exports.{is_taken, IsExport, IsReport}
+use Rattle.union_program.specs.Readings.{Inflow, HasFailed, IsOverfull}
+use Rattle.library_stream.specs.declared.frame_reader.TheConstants.{LARGEST_SOURCE}
+use Rattle.union_program.specs.declared.refused.RefusedFrame.{RefusedFrame}
+
+-- an output: what was written on it before the run and after it, where that is told, and how often it failed
+pub record Outflow : Type 0 where
+  pub old : Option (List ℕ)
+  pub new : Option (List ℕ)
+  pub before : ℕ
+  pub after : ℕ
+
+-- something failed there in the run
+abbrev pub HasFailedAt : Outflow → Type 0
+HasFailedAt output = Rose output.before output.after
+
+-- the run came to its end
+abbrev pub is_done : Status → Bool
+is_done Done = true
+is_done DoneWithRefusals = true
+is_done Usage = false
+is_done (OpenFault input) = false
+is_done (ReadFault input) = false
+is_done WriteFault = false
+is_done (TooLong input) = false
+is_done Memory = false
+is_done NotBuilt = false
 
 -- the run ended before it wrote to its output
 abbrev pub is_early : Status → Bool
@@ -23,30 +52,75 @@ is_early (TooLong input) = true
 is_early Memory = true
 is_early NotBuilt = true
 
--- the run ended at its input
-abbrev pub ends_input : Status → Bool
-ends_input Done = false
-ends_input DoneWithRefusals = false
-ends_input Usage = false
-ends_input (OpenFault input) = true
-ends_input (ReadFault input) = true
-ends_input WriteFault = false
-ends_input (TooLong input) = false
-ends_input Memory = true
-ends_input NotBuilt = true
+-- how a run ends that came to its end
+abbrev pub end_with : List RefusedFrame → Status
+end_with [] = Done
+end_with (frame ∷ rest) = DoneWithRefusals
+
+abbrev pub end_of : List ℕ → Status
+end_of stream = end_with (refused (frames stream))
 
 -- the text was written, or a front of it and then a write failed
-abbrev pub IsNoted : Option (List ℕ) → Option (List ℕ) → ℕ → ℕ → List ℕ → Type 0
-IsNoted old new before now text = Appends old new text ⊎ (AppendsFront old new text × Rose before now)
+abbrev pub IsNoted : Outflow → List ℕ → Type 0
+IsNoted output text = Appends output.old output.new text ⊎ (AppendsFront output.old output.new text × HasFailedAt output)
 
--- this stage does not take the stream: it has more bytes than the largest input, or is not one plain record
-abbrev pub IsNotTaken : List ℕ → Type 0
-IsNotTaken stream = (LARGEST_INPUT < length stream) ⊎ ((r : Record) → IsPlain stream r → ⊥)
+-- the statuses that come of an input which cannot be read to its end
+pub record EndsAtInput (input : Input) (flow : Inflow) (status : Status) : Type 0 where
+  pub open_fault : (i : Input) → status ≡ OpenFault i → (i ≡ input) × HasFailed flow
+  pub read_fault : (i : Input) → status ≡ ReadFault i → (i ≡ input) × HasFailed flow
+  pub too_long : (i : Input) → status ≡ TooLong i → (i ≡ input) × IsOverfull flow
+  pub too_long_where : (bytes : List ℕ) → flow.told ≡ Some bytes → LARGEST_SOURCE < length bytes → ¬ HasFailed flow
+      → (status ≡ TooLong input) ⊎ (status ≡ Memory)
 
--- the export of the stream was written
-abbrev pub WritesExport : Option (List ℕ) → Option (List ℕ) → List ℕ → List ℕ → Type 0
-WritesExport old new library stream = (text : List ℕ) × IsExport library stream text × Appends old new text
+-- `check` of a library's file
+pub record IsCheck (library : List ℕ) (file : Inflow) (out : Outflow) (status : Status) : Type 0 where
+  pub input : EndsAtInput (Library library) file status
+  pub write_fault : status ≡ WriteFault → HasFailedAt out
+  pub others : (status ≢ Usage) × (status ≢ NotBuilt)
 
--- a front of the export of the stream was written
-abbrev pub WritesPart : Option (List ℕ) → Option (List ℕ) → List ℕ → List ℕ → Type 0
-WritesPart old new library stream = (text : List ℕ) × IsExport library stream text × AppendsFront old new text
+  -- all of the text, none of it, or a front of it
+  pub done : IsTrue (is_done status)
+      → IfSome file.told (λ bytes. (status ≡ end_of bytes) × Appends out.old out.new (check_text library (frames bytes)))
+  pub untouched : IsTrue (is_early status) → Keeps out.old out.new
+  pub part : status ≡ WriteFault → IfSome file.told (λ bytes. AppendsFront out.old out.new (check_text library (frames bytes)))
+
+  -- where nothing fails it is done, or memory ran out
+  pub complete : (bytes : List ℕ) → file.told ≡ Some bytes → length bytes ≤ LARGEST_SOURCE → ¬ HasFailed file → ¬ HasFailedAt out
+      → (status ≡ end_of bytes) ⊎ (status ≡ Memory)
+
+-- `export` of a library's file
+pub record IsExportRun (library : List ℕ) (file : Inflow) (out notes : Outflow) (status : Status) : Type 0 where
+  pub input : EndsAtInput (Library library) file status
+  pub write_fault : status ≡ WriteFault → HasFailedAt out ⊎ HasFailedAt notes
+  pub other : status ≢ Usage
+
+  -- all of the text, none of it, or a front of it
+  pub done : IsTrue (is_done status) → IfSome file.told (λ bytes. (status ≡ end_of bytes)
+      × ((text : List ℕ) × IsExport library bytes text × Appends out.old out.new text)
+      × ((text : List ℕ) × IsReport library bytes text × Appends notes.old notes.new text))
+  pub untouched : IsTrue (is_early status) → Keeps out.old out.new
+  pub part : status ≡ WriteFault → IfSome file.told (λ bytes. ((text : List ℕ) × IsExport library bytes text × AppendsFront out.old out.new text)
+      × ((text : List ℕ) × IsReport library bytes text × AppendsFront notes.old notes.new text))
+
+  -- what this stage takes
+  pub not_built : status ≡ NotBuilt → IfSome file.told (λ bytes. (length bytes ≤ LARGEST_SOURCE) × (is_taken (frames bytes) ≡ false))
+  pub not_built_where : (bytes : List ℕ) → file.told ≡ Some bytes → length bytes ≤ LARGEST_SOURCE → is_taken (frames bytes) ≡ false
+      → ¬ HasFailed file → (status ≡ NotBuilt) ⊎ (status ≡ Memory)
+
+  -- where nothing fails it is done, or memory ran out
+  pub complete : (bytes : List ℕ) → file.told ≡ Some bytes → length bytes ≤ LARGEST_SOURCE → is_taken (frames bytes) ≡ true
+      → ¬ HasFailed file → ¬ HasFailedAt out → ¬ HasFailedAt notes → (status ≡ end_of bytes) ⊎ (status ≡ Memory)
+
+-- a text of the program's own
+pub record IsTold (text : List ℕ) (out : Outflow) (status : Status) : Type 0 where
+  pub kinds : (status ≡ Done) ⊎ (status ≡ WriteFault)
+  pub done : status ≡ Done → Appends out.old out.new text
+  pub part : status ≡ WriteFault → AppendsFront out.old out.new text
+  pub write_fault : status ≡ WriteFault → HasFailedAt out
+
+-- two texts, one on each output: all of both, or a front of each and then a write failed
+pub record Written (out_text notes_text : List ℕ) (end : Status) (out notes : Outflow) (status : Status) : Type 0 where
+  pub kinds : (status ≡ end) ⊎ (status ≡ WriteFault)
+  pub done : status ≢ WriteFault → Appends out.old out.new out_text × Appends notes.old notes.new notes_text
+  pub part : status ≡ WriteFault → AppendsFront out.old out.new out_text × AppendsFront notes.old notes.new notes_text
+  pub write_fault : status ≡ WriteFault → HasFailedAt out ⊎ HasFailedAt notes

@@ -1,59 +1,113 @@
-//! The export of a stream, as this stage has it.
-ghost use Rattle.std.specs.Prelude.{◌≡◌, ◌≤◌, List, ℕ, length, IsTrue, IfOk, MatchOption};
-ghost use Rattle.marc_fields.specs.Spelling.{spelling};
-ghost use Rattle.marc_fields.specs.declared.marc_record.Record.{Record};
-ghost use Rattle.union_program.specs.Plain.{IsPlain, is_plain_record, longest_plain};
-ghost use Rattle.union_program.specs.Exported.{IsExport, exported};
+//! `export`: the records of a library that are current, as this stage has them.
+//!
+//! A library's source is read piece by piece to its end before anything is written. Memory grows with the exports of the
+//! current records and with the refused frames.
+ghost use Rattle.std.specs.Prelude.{◌≡◌, ◌++◌, ◌<◌, ◌≤◌, ◌+◌, ℕ, List, length, true, false, IsTrue, IfOk, IfSome, OnOk, MatchOption};
+ghost use Rattle.iso2709_frame.specs.Frames.{frames};
+ghost use Rattle.union_program.specs.Exports.{is_taken, report_line};
+ghost use Rattle.union_program.specs.Prepared.{IsPrepared};
+ghost use Rattle.union_program.specs.Reports.{refused_lines};
+ghost use Rattle.union_program.specs.Loadings.{IsLoaded};
+ghost use Rattle.union_program.specs.Readings.{Reads};
+ghost use Rattle.union_program.specs.Runs.{is_done};
+ghost use Rattle.union_program.specs.Streams.{Frame};
 
-use crate::exporting::exported;
-use crate::plain::is_plain_record;
-use crate::sole::sole_record;
-use marc_fields::encoding::{EncodeRefusal, encode};
-use marc_fields::marc_record::Record;
-use std::alloc::Global;
+use crate::check::end_with;
+use crate::lines::{add_counted, add_refused_lines};
+use crate::loading::Loading;
+use crate::loads::load_frame;
+use crate::prepared::Prepared;
+use crate::stop::Stop;
+use library_stream::answer::Next;
+use library_stream::frame_reader::{FrameReader, LARGEST_SOURCE};
+use std::alloc::{AllocError, Global};
 use union_base::library_code::LibraryCode;
-use union_base::memory::Memory;
+use union_io::source::Source;
 
-/// The export of the library's stream, where that is one plain record; else None.
-pub fn export_of(
+/// Loads the frames of a source.
+fn load_frames<S: Source>(
     alloc: Global,
     library: &LibraryCode,
-    stream: &[u8],
-) -> Result<Option<Vec<u8>>, Memory>
-    ensures { IfOk result (λ found. MatchOption found ((r : Record) → IsPlain stream.now r → ⊥)
-        (λ text. IsExport library.now stream.now text.items)) }
+    source: &mut S,
+) -> Result<Loading, Stop>
+    ensures name { S.name source.new ≡ S.name source.old }
+    ensures reads { Reads result (record { told = S.left source.old; before = S.faults source.old; after = S.faults source.new })
+        (λ loading bytes. IsLoaded library.now (frames bytes) loading) }
 {
-    let Some(rec) = plain_record(alloc, stream)? else {
-        return Ok(None);
-    };
-    Ok(Some(export_text(alloc, library, rec)?))
-}
-
-/// The record of a stream that is one plain record; else None.
-fn plain_record(alloc: Global, stream: &[u8]) -> Result<Option<Record>, Memory>
-    ensures { IfOk result (λ found. MatchOption found ((r : Record) → IsPlain stream.now r → ⊥) (λ r. IsPlain stream.now r)) }
-{
-    let Some(rec) = sole_record(alloc, stream)? else {
-        return Ok(None);
-    };
-    if !is_plain_record(&rec) {
-        return Ok(None);
+    let mut reader = FrameReader::open(alloc, LARGEST_SOURCE)?;
+    let mut loading = Loading::new(alloc);
+    loop {
+        match reader.next(source) {
+            Next::Frame(cut) => load_frame(alloc, library, &mut loading, cut, reader.frame())?,
+            Next::End => return Ok(loading),
+            Next::TooLong => return Err(Stop::TooLong),
+            Next::Failed => return Err(Stop::Failed),
+        }
     }
-    Ok(Some(rec))
 }
 
-/// The frame of the exported record.
-fn export_text(alloc: Global, library: &LibraryCode, rec: Record) -> Result<Vec<u8>, Memory>
-    requires plain { IsTrue (is_plain_record rec) }
-    requires short { length (spelling rec) ≤ longest_plain }
-    ensures { IfOk result (λ text. text.items ≡ spelling (exported library.now rec)) }
+/// Adds `LIB frames F added A replaced R removed 0 absent 0 refused N`.
+fn add_report_line(text: &mut Vec<u8>, library: &[u8], loading: &Loading) -> Result<(), AllocError>
+    ensures { OnOk result (text.new.items ≡ text.old.items
+        ++ report_line library.now loading.now.tally.frames loading.now.currents.added loading.now.currents.replaced 0 0
+        (length loading.now.tally.refused.items)) }
 {
-    let rec = exported(alloc, library, rec)?;
+    text.extend_from_slice(library)?;
+    add_counted(text, b"frames", loading.tally.frames)?;
+    add_counted(text, b"added", loading.currents.added)?;
+    add_counted(text, b"replaced", loading.currents.replaced)?;
+    add_counted(text, b"removed", 0)?;
+    add_counted(text, b"absent", 0)?;
+    add_counted(text, b"refused", loading.tally.refused.as_slice().len() as u64)?;
+    text.push(b'\n')?;
+    Ok(())
+}
+
+/// The report of a library of which these frames were loaded.
+fn report_text(alloc: Global, library: &[u8], loading: &Loading) -> Result<Vec<u8>, AllocError>
+    ensures { IfOk result (λ text. text.items ≡ refused_lines library.now loading.now.tally.refused.items
+        ++ report_line library.now loading.now.tally.frames loading.now.currents.added loading.now.currents.replaced 0 0
+        (length loading.now.tally.refused.items)) }
+{
     let mut text = Vec::new(alloc);
-    match encode(&rec, &mut text) {
-        Ok(()) => Ok(text),
-        Err(EncodeRefusal::Memory) => Err(Memory),
-        Err(EncodeRefusal::FieldTooLong) => unreachable!(),
-        Err(EncodeRefusal::RecordTooLong) => unreachable!(),
+    add_refused_lines(&mut text, library, loading.tally.refused.as_slice())?;
+    add_report_line(&mut text, library, loading)?;
+    Ok(text)
+}
+
+/// What is written of the loaded frames, all of which this stage takes.
+fn prepare(alloc: Global, library: &LibraryCode, loading: &Loading) -> Result<Prepared, AllocError>
+    ensures prepared { IfOk result (λ prepared. (all : List Frame) → IsLoaded library.now all loading.now → loading.now.beyond ≡ false
+        → IsPrepared library.now all prepared) }
+    ensures end { IfOk result (λ prepared. IsTrue (is_done prepared.end)) }
+{
+    let report = report_text(alloc, library.bytes(), loading)?;
+    let out = loading.currents.joined(alloc)?;
+    Ok(Prepared {
+        out,
+        report,
+        end: end_with(loading.tally.refused.as_slice()),
+    })
+}
+
+/// What is written of a library's source; None where this stage does not take it.
+pub fn export_source<S: Source>(
+    alloc: Global,
+    library: &LibraryCode,
+    source: &mut S,
+) -> Result<Option<Prepared>, Stop>
+    ensures name { S.name source.new ≡ S.name source.old }
+    ensures reads { Reads result (record { told = S.left source.old; before = S.faults source.old; after = S.faults source.new })
+        (λ found bytes. MatchOption found (is_taken (frames bytes) ≡ false)
+        (λ prepared. (is_taken (frames bytes) ≡ true) × IsPrepared library.now (frames bytes) prepared)) }
+    ensures end { IfOk result (λ found. IfSome found (λ prepared. IsTrue (is_done prepared.end))) }
+{
+    match load_frames(alloc, library, source) {
+        Ok(loading) if loading.beyond => Ok(None),
+        Ok(loading) => match prepare(alloc, library, &loading) {
+            Ok(prepared) => Ok(Some(prepared)),
+            Err(AllocError) => Err(Stop::Memory),
+        },
+        Err(stop) => Err(stop),
     }
 }

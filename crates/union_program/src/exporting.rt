@@ -3,14 +3,16 @@ ghost use Rattle.std.specs.Prelude.{◌≡◌, ◌≤◌, ◌++◌, ◌∷◌, [
 ghost use Rattle.union_base.specs.Fields.{is_field, is_text};
 ghost use Rattle.union_base.specs.declared.body.Body.TheVariants.{Control, Data};
 ghost use Rattle.union_base.specs.LibraryCodes.{is_library_code};
-ghost use Rattle.marc_fields.specs.Spelling.{spelling};
+ghost use Rattle.marc_fields.specs.Spelling.{spelling, frame_size};
 ghost use Rattle.marc_fields.specs.Appending.{too_long};
-ghost use Rattle.union_program.specs.Plain.{is_plain_record, longest_plain};
+ghost use Rattle.union_program.specs.Exports.{exported_text};
+ghost use Rattle.union_program.specs.declared.limits.TheConstants.{LONGEST_TAKEN};
 ghost use Rattle.union_program.specs.Exported.{field_of, joined_id, subfield, contributor, own_fields, is_kept, exported_codes, exported};
 
-use crate::plain::{has_tag, text_under};
+use marc_fields::encoding::{EncodeRefusal, encode};
 use marc_fields::marc_record::Record;
 use marc_leader::codes::LeaderCodes;
+use marc_parts::parts::{control_number, has_tag};
 use std::alloc::Global;
 use union_base::body::Body;
 use union_base::bytes::Bytes;
@@ -25,15 +27,29 @@ use union_base::subfield::Subfield;
 /// The name under which the catalogue's control numbers stand (MARC 21, field 003).
 const CATALOGUE: &[u8; 5] = b"UNION";
 
-/// The exported record of a plain record of this library.
-pub fn exported(alloc: Global, library: &LibraryCode, rec: Record) -> Result<Record, Memory>
-    requires plain { IsTrue (is_plain_record rec) }
-    requires short { length (spelling rec) ≤ longest_plain }
+/// The frame of the exported record of a record of this library.
+pub fn exported_text(alloc: Global, library: &LibraryCode, rec: Record) -> Result<Vec<u8>, Memory>
+    requires { frame_size rec ≤ LONGEST_TAKEN }
+    ensures { IfOk result (λ text. text.items ≡ exported_text library.now rec) }
+{
+    let rec = exported(alloc, library, rec)?;
+    let mut text = Vec::new(alloc);
+    match encode(&rec, &mut text) {
+        Ok(()) => Ok(text),
+        Err(EncodeRefusal::Memory) => Err(Memory),
+        Err(EncodeRefusal::FieldTooLong) => unreachable!(),
+        Err(EncodeRefusal::RecordTooLong) => unreachable!(),
+    }
+}
+
+/// The exported record of a record of this library.
+fn exported(alloc: Global, library: &LibraryCode, rec: Record) -> Result<Record, Memory>
+    requires { frame_size rec ≤ LONGEST_TAKEN }
     ensures value { IfOk result (λ r. r ≡ exported library.now rec) }
     ensures fits { IfOk result (λ r. too_long r ≡ None) }
 {
     let library = library.bytes();
-    let control = Bytes::of(alloc, text_under(b"001", rec.fields.as_slice()))?;
+    let control = Bytes::of(alloc, control_number(&rec))?;
     let Record { leader, fields } = rec;
     let mut all = kept(fields.into_vec());
     push_own_fields(alloc, library, &control, &mut all)?;

@@ -1,41 +1,158 @@
 //! The top call.
 //!
 //! It does all that the program does, over whatever shelf of files and outputs it is handed. Each answer other than
-//! `Done` has its cause in a clause, and `Done` has the whole result.
-ghost use Rattle.std.specs.Prelude.{◌≡◌, ◌≢◌, ◌↔◌, ◌⊎◌, ◌<◌, ◌≤◌, ℕ, List, length, IfSome, IfOk, IfErr, IsSomeAnd, IsTrue, Some, None};
-ghost use Rattle.std.specs.Io.KnownBytes.{Appends, Keeps};
-ghost use Rattle.union_io.specs.Causes.{Rose};
+//! `Done` and `DoneWithRefusals` has its cause in a clause, and those two have the whole result.
+ghost use Rattle.std.specs.Prelude.{◌≡◌, ◌≢◌, ◌↔◌, ◌∷◌, [], ℕ, List, IsTrue, IfOk, IfSome, Some, None, MatchOption, slice_get, true, false};
+ghost use Rattle.std.specs.Io.KnownBytes.{Keeps};
+ghost use Rattle.iso2709_frame.specs.Frames.{frames};
 ghost use Rattle.union_io.specs.Counts.{SameElsewhere};
 ghost use Rattle.union_io.specs.Files.{told_of};
-ghost use Rattle.marc_fields.specs.declared.marc_record.Record.{Record};
-ghost use Rattle.union_program.specs.declared.input.Input.{Input};
-ghost use Rattle.union_program.specs.Words;
-ghost use Rattle.union_io.specs.Writing.{AppendsFront};
-ghost use Rattle.union_program.specs.Exported.{IsExport};
-ghost use Rattle.union_program.specs.Plain.{IsPlain};
-ghost use Rattle.union_program.specs.Readings.{Matches};
-ghost use Rattle.union_program.specs.Runs.{is_early, ends_input, IsNoted, IsNotTaken, WritesExport, WritesPart};
-ghost use Rattle.union_program.specs.Texts.{early_text, report_of_one};
+ghost use Rattle.union_words.specs.Meanings.{file_meaning, libraries_meaning};
+ghost use Rattle.union_words.specs.Texts.{early_text};
+ghost use Rattle.union_words.specs.Words;
+ghost use Rattle.union_program.specs.Prepared.{IsPrepared};
+ghost use Rattle.union_program.specs.Runs.{is_early, is_done, IsNoted, IsCheck, IsExportRun, IsTold, Written};
 
-use crate::export::export_of;
-use crate::input::Input;
-use crate::notes::{put_early, put_report};
-use crate::reading::{LARGEST_INPUT, Reading, read_all};
-use crate::status::Status;
-use crate::words::job_of;
+use crate::notes::put_early;
+use crate::prepared::Prepared;
+use crate::shelved::{check_file, export_file};
 use std::alloc::Global;
 use union_base::bytes::Bytes;
-use union_base::library_code::LibraryCode;
 use union_base::memory::Memory;
 use union_io::failed::Failed;
 use union_io::gate::Gate;
-use union_io::shelf::{OpenFail, Shelf};
+use union_io::shelf::Shelf;
 use union_io::sink::{Sink, put_all};
+use union_words::input::Input;
+use union_words::job::{Job, MOST_LIBRARIES};
+use union_words::libraries::Libraries;
+use union_words::library_file::LibraryFile;
+use union_words::status::Status;
+use union_words::texts::{HELP, VERSION, help_text, version_text};
+
+/// Whether a run that ends so ended before it wrote to its output. Takes no memory.
+fn is_early(status: &Status) -> bool
+    ensures { result ≡ is_early status.now }
+{
+    match status {
+        Status::Done | Status::DoneWithRefusals | Status::WriteFault => false,
+        Status::Usage
+        | Status::OpenFault(_)
+        | Status::ReadFault(_)
+        | Status::TooLong(_)
+        | Status::Memory
+        | Status::NotBuilt => true,
+    }
+}
+
+/// Ends a run with this status: one that ended early has one line on the second output.
+fn end<N: Sink>(notes: &mut N, status: Status) -> Status
+    ensures same { result ≡ status }
+    ensures noted { IsTrue (is_early status)
+        → IsNoted (record { old = N.written notes.old; new = N.written notes.new; before = N.faults notes.old; after = N.faults notes.new })
+        (early_text status) }
+    ensures quiet { is_early status ≡ false → Keeps (N.written notes.old) (N.written notes.new) }
+{
+    if is_early(&status) {
+        put_early(notes, &status);
+    }
+    status
+}
+
+/// Writes a text of the program's own.
+fn tell<O: Sink>(out: &mut O, text: &[u8]) -> Status
+    ensures { IsTold text.now
+        (record { old = O.written out.old; new = O.written out.new; before = O.faults out.old; after = O.faults out.new }) result }
+{
+    match put_all(out, text) {
+        Ok(()) => Status::Done,
+        Err(Failed) => Status::WriteFault,
+    }
+}
+
+/// Checks the file of a library.
+fn run_check<F: Shelf, O: Sink>(
+    alloc: Global,
+    file: &LibraryFile<'_>,
+    shelf: &mut F,
+    out: &mut O,
+) -> Status
+    ensures run { IsCheck file.now.library (record {
+        told = told_of (F.files shelf.old) file.now.path.now;
+        before = F.faults shelf.old file.now.path.now;
+        after = F.faults shelf.new file.now.path.now })
+        (record { old = O.written out.old; new = O.written out.new; before = O.faults out.old; after = O.faults out.new })
+        result }
+    ensures others { SameElsewhere (F.faults shelf.old) (F.faults shelf.new) file.now.path.now }
+{
+    match Bytes::of(alloc, file.path) {
+        Ok(path) => check_file(alloc, &file.library, &path, shelf, out),
+        Err(Memory) => Status::Memory,
+    }
+}
+
+/// Writes the export and the report.
+fn write_export<O: Sink, N: Sink>(prepared: &Prepared, out: &mut O, notes: &mut N) -> Status
+    requires { IsTrue (is_done prepared.now.end) }
+    ensures { Written prepared.now.out.items prepared.now.report.items prepared.now.end
+        (record { old = O.written out.old; new = O.written out.new; before = O.faults out.old; after = O.faults out.new })
+        (record { old = N.written notes.old; new = N.written notes.new; before = N.faults notes.old; after = N.faults notes.new })
+        result }
+{
+    match put_all(out, prepared.out.as_slice()) {
+        Ok(()) => match put_all(notes, prepared.report.as_slice()) {
+            Ok(()) => prepared.end,
+            Err(Failed) => Status::WriteFault,
+        },
+        Err(Failed) => Status::WriteFault,
+    }
+}
+
+/// Exports the file of a library.
+fn run_export<F: Shelf, O: Sink, N: Sink>(
+    alloc: Global,
+    file: &LibraryFile<'_>,
+    shelf: &mut F,
+    out: &mut O,
+    notes: &mut N,
+) -> Status
+    ensures run { IsExportRun file.now.library (record {
+        told = told_of (F.files shelf.old) file.now.path.now;
+        before = F.faults shelf.old file.now.path.now;
+        after = F.faults shelf.new file.now.path.now })
+        (record { old = O.written out.old; new = O.written out.new; before = O.faults out.old; after = O.faults out.new })
+        (record { old = N.written notes.old; new = N.written notes.new; before = N.faults notes.old; after = N.faults notes.new })
+        result }
+    ensures noted { IsTrue (is_early result)
+        → IsNoted (record { old = N.written notes.old; new = N.written notes.new; before = N.faults notes.old; after = N.faults notes.new })
+        (early_text result) }
+    ensures others { SameElsewhere (F.faults shelf.old) (F.faults shelf.new) file.now.path.now }
+{
+    let path = match Bytes::of(alloc, file.path) {
+        Ok(path) => path,
+        Err(Memory) => return end(notes, Status::Memory),
+    };
+    match export_file(alloc, &file.library, &path, shelf) {
+        Ok(Some(prepared)) => write_export(&prepared, out, notes),
+        Ok(None) => end(notes, Status::NotBuilt),
+        Err(stop) => end(notes, stop.status(Input::Library(file.library))),
+    }
+}
+
+/// The one library that the words name.
+fn sole_library<'a>(libraries: &Libraries<'a>) -> LibraryFile<'a>
+    ensures { slice_get (libraries_meaning libraries.now) 0 ≡ Some (file_meaning result) }
+{
+    // There is at least one, as the count says.
+    let _count = libraries.len();
+    libraries.at(0)
+}
 
 /// Does what the words behind the program's name say.
 ///
-/// This stage has one form of words, `export LIB=PATH`, and takes an input that is one plain record; the record's export
-/// goes to `out` and the library's report to `notes`. The runtime and the gate are not used yet.
+/// `check LIB=PATH` tells which frames of a library's file are refused; `export LIB=PATH` exports the library's current
+/// records on `out` and reports on `notes`; `--help` and `--version` write a text of the program's own on `out`. The runtime
+/// and the gate are not used yet.
 pub fn union_run<R, F: Shelf, O: Sink, N: Sink, G: Gate>(
     _rt: &R,
     alloc: Global,
@@ -45,136 +162,49 @@ pub fn union_run<R, F: Shelf, O: Sink, N: Sink, G: Gate>(
     notes: &mut N,
     _gate: &G,
 ) -> Status
-    // when each status comes
-    ensures usage { (result ≡ Status.Usage) ↔ (Words.job_of words.now ≡ None) }
-    ensures open_fault { (i : Input) → result ≡ Status.OpenFault i → IsSomeAnd (Words.job_of words.now) (λ job.
-        (i ≡ Input.Library job.library) × Rose (F.faults shelf.old job.path) (F.faults shelf.new job.path)) }
-    ensures read_fault { (i : Input) → result ≡ Status.ReadFault i → IsSomeAnd (Words.job_of words.now) (λ job.
-        (i ≡ Input.Library job.library) × Rose (F.faults shelf.old job.path) (F.faults shelf.new job.path)) }
-    ensures not_built { result ≡ Status.NotBuilt → IsSomeAnd (Words.job_of words.now) (λ job.
-        IfSome (told_of (F.files shelf.old) job.path) IsNotTaken) }
-    ensures write_fault { result ≡ Status.WriteFault
-        → Rose (O.faults out.old) (O.faults out.new) ⊎ Rose (N.faults notes.old) (N.faults notes.new) }
-    ensures no_refusals { result ≢ Status.DoneWithRefusals }
-    ensures no_limit { (i : Input) → result ≢ Status.TooLong i }
+    ensures usage { (result ≡ Status.Usage) ↔ (Words.job_of MOST_LIBRARIES words.now ≡ None) }
 
-    // what was done
-    ensures done { result ≡ Status.Done → IsSomeAnd (Words.job_of words.now) (λ job.
-        IfSome (told_of (F.files shelf.old) job.path) (λ stream. WritesExport (O.written out.old) (O.written out.new) job.library stream)) }
-    ensures reported { result ≡ Status.Done → IsSomeAnd (Words.job_of words.now) (λ job.
-        Appends (N.written notes.old) (N.written notes.new) (report_of_one job.library)) }
+    // what each form of words does
+    ensures check { (file : Words.LibraryFile) → Words.job_of MOST_LIBRARIES words.now ≡ Some (Words.Check file)
+        → IsCheck file.library (record {
+            told = told_of (F.files shelf.old) file.path; before = F.faults shelf.old file.path; after = F.faults shelf.new file.path })
+        (record { old = O.written out.old; new = O.written out.new; before = O.faults out.old; after = O.faults out.new })
+        result }
+    ensures export { (file : Words.LibraryFile) → Words.job_of MOST_LIBRARIES words.now ≡ Some (Words.Export (file ∷ []))
+        → IsExportRun file.library (record {
+            told = told_of (F.files shelf.old) file.path; before = F.faults shelf.old file.path; after = F.faults shelf.new file.path })
+        (record { old = O.written out.old; new = O.written out.new; before = O.faults out.old; after = O.faults out.new })
+        (record { old = N.written notes.old; new = N.written notes.new; before = N.faults notes.old; after = N.faults notes.new })
+        result }
+    ensures help { Words.job_of MOST_LIBRARIES words.now ≡ Some Words.Help → IsTold HELP.now
+        (record { old = O.written out.old; new = O.written out.new; before = O.faults out.old; after = O.faults out.new }) result }
+    ensures version { Words.job_of MOST_LIBRARIES words.now ≡ Some Words.Version → IsTold VERSION.now
+        (record { old = O.written out.old; new = O.written out.new; before = O.faults out.old; after = O.faults out.new }) result }
 
-    // what stands after the other statuses
-    ensures untouched { IsTrue (is_early result) → Keeps (O.written out.old) (O.written out.new) }
+    // the second output, where that is no report
     ensures noted { IsTrue (is_early result)
-        → IsNoted (N.written notes.old) (N.written notes.new) (N.faults notes.old) (N.faults notes.new) (early_text result) }
-    ensures part { result ≡ Status.WriteFault → IsSomeAnd (Words.job_of words.now) (λ job.
-        IfSome (told_of (F.files shelf.old) job.path) (λ stream. WritesPart (O.written out.old) (O.written out.new) job.library stream)) }
-    ensures others { (job : Words.LibraryFile) → Words.job_of words.now ≡ Some job
-        → SameElsewhere (F.faults shelf.old) (F.faults shelf.new) job.path }
+        → IsNoted (record { old = N.written notes.old; new = N.written notes.new; before = N.faults notes.old; after = N.faults notes.new })
+        (early_text result) }
+    ensures quiet { is_early result ≡ false → ((libraries : List Words.LibraryFile)
+        → Words.job_of MOST_LIBRARIES words.now ≢ Some (Words.Export libraries)) → Keeps (N.written notes.old) (N.written notes.new) }
 
-    // Where no count rises, each input has the status that is its own, or memory ran out.
-    ensures complete { (job : Words.LibraryFile) (stream : List ℕ) (r : Record) → Words.job_of words.now ≡ Some job
-        → told_of (F.files shelf.old) job.path ≡ Some stream → length stream ≤ LARGEST_INPUT → IsPlain stream r
-        → ¬ Rose (F.faults shelf.old job.path) (F.faults shelf.new job.path)
-        → ¬ Rose (O.faults out.old) (O.faults out.new) → ¬ Rose (N.faults notes.old) (N.faults notes.new)
-        → (result ≡ Status.Done) ⊎ (result ≡ Status.Memory) }
-    ensures not_built_where { (job : Words.LibraryFile) (stream : List ℕ) → Words.job_of words.now ≡ Some job
-        → told_of (F.files shelf.old) job.path ≡ Some stream → IsNotTaken stream
-        → ¬ Rose (F.faults shelf.old job.path) (F.faults shelf.new job.path)
-        → (result ≡ Status.NotBuilt) ⊎ (result ≡ Status.Memory) }
+    // A run of words in no form writes nothing else, and of files only the one that the words name can be at fault.
+    ensures unused { Words.job_of MOST_LIBRARIES words.now ≡ None → Keeps (O.written out.old) (O.written out.new) }
+    ensures check_others { (file : Words.LibraryFile) → Words.job_of MOST_LIBRARIES words.now ≡ Some (Words.Check file)
+        → SameElsewhere (F.faults shelf.old) (F.faults shelf.new) file.path }
+    ensures export_others { (file : Words.LibraryFile) → Words.job_of MOST_LIBRARIES words.now ≡ Some (Words.Export (file ∷ []))
+        → SameElsewhere (F.faults shelf.old) (F.faults shelf.new) file.path }
 {
-    match job_of(words) {
-        None => {
-            put_early(notes, &Status::Usage);
-            Status::Usage
+    match Job::read(words, MOST_LIBRARIES) {
+        None => end(notes, Status::Usage),
+        Some(Job::Check(file)) => {
+            let status = run_check(alloc, &file, shelf, out);
+            end(notes, status)
         }
-        Some(file) => match prepare(alloc, file.library, file.path, shelf) {
-            Ok(text) => write_export(&file.library, text.as_slice(), out, notes),
-            Err(status) => {
-                put_early(notes, &status);
-                status
-            }
-        },
-    }
-}
-
-/// The export of the library's file, or the status of a run that ends before it writes.
-fn prepare<F: Shelf>(
-    alloc: Global,
-    library: LibraryCode,
-    path: &[u8],
-    shelf: &mut F,
-) -> Result<Vec<u8>, Status>
-    ensures export { IfOk result (λ text. IfSome (told_of (F.files shelf.old) path.now) (λ stream. IsExport library stream text.items)) }
-    ensures kinds { IfErr result (λ status. IsTrue (ends_input status)) }
-    ensures open_fault { (i : Input) → result ≡ Err (Status.OpenFault i)
-        → (i ≡ Input.Library library) × Rose (F.faults shelf.old path.now) (F.faults shelf.new path.now) }
-    ensures read_fault { (i : Input) → result ≡ Err (Status.ReadFault i)
-        → (i ≡ Input.Library library) × Rose (F.faults shelf.old path.now) (F.faults shelf.new path.now) }
-    ensures not_built { result ≡ Err Status.NotBuilt → IfSome (told_of (F.files shelf.old) path.now) IsNotTaken }
-    ensures others { SameElsewhere (F.faults shelf.old) (F.faults shelf.new) path.now }
-    ensures complete { (stream : List ℕ) (r : Record) → told_of (F.files shelf.old) path.now ≡ Some stream
-        → length stream ≤ LARGEST_INPUT → IsPlain stream r → ¬ Rose (F.faults shelf.old path.now) (F.faults shelf.new path.now)
-        → IfErr result (λ status. status ≡ Status.Memory) }
-    ensures not_built_where { (stream : List ℕ) → told_of (F.files shelf.old) path.now ≡ Some stream → IsNotTaken stream
-        → ¬ Rose (F.faults shelf.old path.now) (F.faults shelf.new path.now)
-        → (result ≡ Err Status.NotBuilt) ⊎ (result ≡ Err Status.Memory) }
-{
-    let path = match Bytes::of(alloc, path) {
-        Ok(path) => path,
-        Err(Memory) => return Err(Status::Memory),
-    };
-    match read_file(alloc, &path, shelf) {
-        Ok(Reading::Whole(content)) => match export_of(alloc, &library, content.as_slice()) {
-            Ok(Some(text)) => Ok(text),
-            Ok(None) => Err(Status::NotBuilt),
-            Err(Memory) => Err(Status::Memory),
-        },
-        Ok(Reading::TooLong) => Err(Status::NotBuilt),
-        Ok(Reading::Failed) => Err(Status::ReadFault(Input::Library(library))),
-        Ok(Reading::Memory) => Err(Status::Memory),
-        Err(OpenFail::Failed) => Err(Status::OpenFault(Input::Library(library))),
-        Err(OpenFail::Memory) => Err(Status::Memory),
-    }
-}
-
-/// What came of reading the file to its end. The opened source is given back.
-fn read_file<F: Shelf>(alloc: Global, path: &Bytes, shelf: &mut F) -> Result<Reading, OpenFail>
-    ensures matches { IfOk result (Matches (told_of (F.files shelf.old) path.now)) }
-    ensures open_failed { result ≡ Err OpenFail.Failed → Rose (F.faults shelf.old path.now) (F.faults shelf.new path.now) }
-    ensures read_failed { result ≡ Ok Reading.Failed → Rose (F.faults shelf.old path.now) (F.faults shelf.new path.now) }
-    ensures others { SameElsewhere (F.faults shelf.old) (F.faults shelf.new) path.now }
-{
-    match shelf.open(alloc, path) {
-        Ok(mut source) => {
-            let reading = read_all(alloc, &mut source);
-            shelf.give_back(source);
-            Ok(reading)
+        Some(Job::Export(libraries)) => {
+            run_export(alloc, &sole_library(&libraries), shelf, out, notes)
         }
-        Err(fail) => Err(fail),
-    }
-}
-
-/// Writes the export and the library's report: the status is `Done` or `WriteFault`.
-fn write_export<O: Sink, N: Sink>(
-    library: &LibraryCode,
-    text: &[u8],
-    out: &mut O,
-    notes: &mut N,
-) -> Status
-    ensures kinds { (result ≡ Status.Done) ⊎ (result ≡ Status.WriteFault) }
-    ensures done { result ≡ Status.Done → Appends (O.written out.old) (O.written out.new) text.now }
-    ensures reported { result ≡ Status.Done → Appends (N.written notes.old) (N.written notes.new) (report_of_one library.now) }
-    ensures part { result ≡ Status.WriteFault → AppendsFront (O.written out.old) (O.written out.new) text.now }
-    ensures write_fault { result ≡ Status.WriteFault
-        → Rose (O.faults out.old) (O.faults out.new) ⊎ Rose (N.faults notes.old) (N.faults notes.new) }
-{
-    match put_all(out, text) {
-        Err(Failed) => Status::WriteFault,
-        Ok(()) => match put_report(notes, library) {
-            Ok(()) => Status::Done,
-            Err(Failed) => Status::WriteFault,
-        },
+        Some(Job::Help) => tell(out, help_text()),
+        Some(Job::Version) => tell(out, version_text()),
     }
 }

@@ -7,5 +7,5 @@ use Rattle.marc_fields.proofs.directory.first_undigited.Given as goal
 abbrev pub invariant-loop-i : goal.invariant-loop-i
 invariant-loop-i l = record {
   size : length l.rest ≡ 12 * (l.count - l.i);
-  row : least_where_not has_digits 1 (entry_texts l.count l.directory) ≡ least_where_not has_digits (l.i + 1) (entry_texts (l.count - l.i) l.rest);
+  row : least_where_not has_digits (l.before + 1) (entry_texts l.count l.directory) ≡ least_where_not has_digits (l.before + l.i + 1) (entry_texts (l.count - l.i) l.rest);
 }

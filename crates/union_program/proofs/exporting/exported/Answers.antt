@@ -1,5 +1,13 @@
+use Rattle.std.specs.Prelude.{codes}
+use Rattle.marc_parts.specs.Parts.{text_under}
+use Rattle.union_program.proofs.ControlLaws.{is_text-trimmed, is_text-under}
 use Rattle.union_program.proofs.ExportedSizes.{exported-fits}
 use Rattle.union_program.proofs.exporting.exported.Goals as goal
+
+pub push_own_fields-requires-clause-control : goal.push_own_fields-requires-clause-control
+push_own_fields-requires-clause-control c =
+    rw (c.in_ok-control.ensures, c.control_number.ensures)
+    (is_text-trimmed (text_under (codes "001") c.args.rec.fields) (is_text-under (codes "001") c.args.rec.fields))
 
 pub returns-clause-fits : goal.returns-clause-fits
 returns-clause-fits c =
@@ -11,8 +19,7 @@ returns-clause-fits c =
       c.kept-all.ensures,
       c.into_vec.ensures,
       c.in_ok-control.ensures,
-      c.text_under.ensures,
-      c.as_slice.ensures,
+      c.control_number.ensures,
       c.bytes-library.ensures.value,
     )
-    (exported-fits c.args.library.now c.args.rec c.bytes-library.ensures.code c.requires.plain c.requires.short)
+    (exported-fits c.args.library.now c.args.rec c.bytes-library.ensures.code c.requires)

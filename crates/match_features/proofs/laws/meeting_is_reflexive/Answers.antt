@@ -1,0 +1,5 @@
+use Rattle.match_features.specs.MeetLaws.{features_match_laws}
+use Rattle.match_features.proofs.laws.meeting_is_reflexive.Goals as goal
+
+pub returns : goal.returns
+returns c = features_match_laws.reflexive

@@ -1,0 +1,12 @@
+-- The status of a run whose input was not read to its end.
+use Rattle.union_program.specs.declared.stop.Stop.{Stop}
+use Rattle.union_program.specs.declared.stop.Stop.TheVariants.{NotOpened as StopNotOpened, TooLong as StopTooLong, Failed as StopFailed, Memory as StopMemory}
+use Rattle.union_words.specs.declared.input.Input.{Input}
+use Rattle.union_words.specs.declared.status.Status.{Status}
+use Rattle.union_words.specs.declared.status.Status.TheVariants.{OpenFault, ReadFault, TooLong, Memory}
+
+abbrev pub stopped_with : Stop → Input → Status
+stopped_with StopNotOpened input = OpenFault input
+stopped_with StopTooLong input = TooLong input
+stopped_with StopFailed input = ReadFault input
+stopped_with StopMemory input = Memory

@@ -1,0 +1,12 @@
+-- What a count of frames says.
+use Rattle.std.specs.Prelude.{◌≡◌, ℕ, List, length}
+use Rattle.union_program.specs.Streams.{Frame}
+use Rattle.union_program.specs.Reports.{loads, withdrawals, refused}
+use Rattle.union_program.specs.declared.tally.Tally.{Tally}
+
+-- these frames were counted, and no others
+pub record IsTally (all : List Frame) (tally : Tally) : Type 0 where
+  pub frames : tally.frames ≡ length all
+  pub loads : tally.loads ≡ loads all
+  pub withdrawals : tally.withdrawals ≡ withdrawals all
+  pub refused : tally.refused.items ≡ refused all

@@ -1,0 +1,6 @@
+pub mod Lines
+pub mod Meanings
+pub mod Numbers
+pub mod Statuses
+pub mod Texts
+pub mod Words

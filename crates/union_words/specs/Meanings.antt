@@ -1,0 +1,21 @@
+-- What the code's jobs stand for.
+use Rattle.std.specs.Prelude.{List}
+use Rattle.union_words.specs.declared.library_file.LibraryFile.{LibraryFile as FileInPlace}
+use Rattle.union_words.specs.declared.libraries.Libraries.{Libraries}
+use Rattle.union_words.specs.declared.job.Job.{Job as JobInPlace}
+use Rattle.union_words.specs.declared.job.Job.TheVariants.{Check as CheckInPlace, Export as ExportInPlace, Help as HelpInPlace, Version as VersionInPlace}
+use Rattle.union_words.specs.Words.{LibraryFile, Job, Check, Export, Help, Version, libraries_of}
+
+-- the library and the path that the code borrows
+abbrev pub file_meaning : FileInPlace → LibraryFile
+file_meaning file = record { library = file.library; path = file.path.now }
+
+-- the libraries that the words name
+abbrev pub libraries_meaning : Libraries → List LibraryFile
+libraries_meaning libraries = libraries_of libraries.words.now
+
+abbrev pub job_meaning : JobInPlace → Job
+job_meaning (CheckInPlace file) = Check (file_meaning file)
+job_meaning (ExportInPlace libraries) = Export (libraries_meaning libraries)
+job_meaning HelpInPlace = Help
+job_meaning VersionInPlace = Version

@@ -1,0 +1,87 @@
+-- The forms of words that the program has, and what each asks for.
+use Rattle.std.specs.Prelude.{ℕ, Bool, true, ◌&&◌, ◌==◌, not, nat_eq, nat_le, List, [], ◌∷◌, length, map, Option, Some, None, if◌then◌else◌, codes}
+use Rattle.std.specs.List.{list_all, list_any, before_first, after_first}
+use Rattle.std.specs.Cmp.Lexicographic.{pointwise}
+use Rattle.std.specs.Str.{is_utf8}
+use Rattle.union_base.specs.LibraryCodes.{is_library_code}
+
+-- a library and the path of its file
+pub record LibraryFile : Type 0 where
+  pub library : List ℕ
+  pub path : List ℕ
+
+-- what the words ask for
+pub data Job : Type 0 where
+  Check : (file : LibraryFile) → Job
+  Export : (libraries : List LibraryFile) → Job
+  Help : Job
+  Version : Job
+
+-- the two texts are one
+abbrev pub is_text : List ℕ → List ℕ → Bool
+is_text a b = pointwise nat_eq a b
+
+-- a path is UTF-8 and at least one byte
+abbrev pub is_path : List ℕ → Bool
+is_path text = nat_le 1 (length text) && is_utf8 text
+
+-- what stands before the first `=`: all where there is none
+abbrev pub code_text : List ℕ → List ℕ
+code_text word = before_first (λ b. b == 0x3D) word
+
+-- what stands behind the first `=`: nothing where there is none
+abbrev pub path_text : List ℕ → List ℕ
+path_text word = after_first (λ b. b == 0x3D) word
+
+-- a word `LIB=PATH`
+abbrev pub is_library_word : List ℕ → Bool
+is_library_word word = is_library_code (code_text word) && is_path (path_text word)
+
+-- the library and the path of a word `LIB=PATH`
+abbrev pub library_of : List ℕ → LibraryFile
+library_of word = record { library = code_text word; path = path_text word }
+
+-- the two words name one library
+abbrev pub name_one_library : List ℕ → List ℕ → Bool
+name_one_library a b = is_text (code_text a) (code_text b)
+
+-- no library is named twice
+abbrev pub have_distinct_codes : List (List ℕ) → Bool
+have_distinct_codes [] = true
+have_distinct_codes (word ∷ rest) = not (list_any (name_one_library word) rest) && have_distinct_codes rest
+
+-- the words are one or more words `LIB=PATH`, and no library is named twice
+abbrev pub are_libraries : List (List ℕ) → Bool
+are_libraries words = nat_le 1 (length words) && (list_all is_library_word words && have_distinct_codes words)
+
+-- the libraries that the words name, in their order
+abbrev pub libraries_of : List (List ℕ) → List LibraryFile
+libraries_of words = map library_of words
+
+-- `LIB=PATH` behind `check`
+abbrev pub check_job : List (List ℕ) → Option Job
+check_job (word ∷ []) = (if is_library_word word then Some (Check (library_of word)) else None)
+check_job [] = None
+check_job (word ∷ more ∷ rest) = None
+
+-- one to `most` words `LIB=PATH` behind `export`
+abbrev pub export_job : ℕ → List (List ℕ) → Option Job
+export_job most words = (if nat_le (length words) most && are_libraries words then Some (Export (libraries_of words)) else None)
+
+-- what a word that stands alone asks for
+abbrev pub lone_job : List ℕ → Option Job
+lone_job word =
+    (if is_text word (codes "--help") then Some Help
+    else (if is_text word (codes "--version") then Some Version else None))
+
+-- what a command with words behind it asks for
+abbrev pub command_job : ℕ → List ℕ → List (List ℕ) → Option Job
+command_job most command words =
+    (if is_text command (codes "check") then check_job words
+    else (if is_text command (codes "export") then export_job most words else None))
+
+-- what the words behind the program's name ask for: None where they are in no form that the program has
+abbrev pub job_of : ℕ → List (List ℕ) → Option Job
+job_of most [] = None
+job_of most (word ∷ []) = lone_job word
+job_of most (command ∷ word ∷ rest) = command_job most command (word ∷ rest)
