@@ -14,7 +14,7 @@ yes_le m n h = grind (arith, nat_tests)
 pub no_le : (m n : ℕ) → n < m → nat_le m n ≡ false
 no_le m n h = grind (arith, nat_tests)
 
-is_le : (m n : ℕ) → nat_le m n ≡ true → m ≤ n
+pub is_le : (m n : ℕ) → nat_le m n ≡ true → m ≤ n
 is_le m n h = grind (arith, nat_tests)
 
 -- the first field fits, or nothing does

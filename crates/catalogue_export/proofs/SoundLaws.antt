@@ -39,12 +39,28 @@ module _ (c : Content) (sound : is_sound c ≡ true) where
   pub sound-ids : list_all is_id c.contributors ≡ true
   sound-ids = ids_and_fixed.0
 
-  fixed_text : (length c.fixed.text ≡ 40) × (is_text c.fixed.text ≡ true)
-  fixed_text =
+  codes_and_text : (are_edition_codes c.fixed.codes ≡ true)
+      × (((length c.fixed.text == 40) && (is_text c.fixed.text && is_utf8 c.fixed.text)) ≡ true)
+  codes_and_text =
       let f = c.fixed in
-      let parts = both_true (are_edition_codes f.codes) ((length f.text == 40) && (is_text f.text && is_utf8 f.text)) ids_and_fixed.1 in
-      let sized = both_true (length f.text == 40) (is_text f.text && is_utf8 f.text) parts.1 in
-      (same_number (length f.text) 40 sized.0, (both_true (is_text f.text) (is_utf8 f.text) sized.1).0)
+      both_true (are_edition_codes f.codes) ((length f.text == 40) && (is_text f.text && is_utf8 f.text)) ids_and_fixed.1
+
+  pub sound-codes : are_edition_codes c.fixed.codes ≡ true
+  sound-codes = codes_and_text.0
+
+  pub sound-size : (length c.fixed.text == 40) ≡ true
+  sound-size = (both_true (length c.fixed.text == 40) (is_text c.fixed.text && is_utf8 c.fixed.text) codes_and_text.1).0
+
+  texts : (is_text c.fixed.text ≡ true) × (is_utf8 c.fixed.text ≡ true)
+  texts =
+      let sized = both_true (length c.fixed.text == 40) (is_text c.fixed.text && is_utf8 c.fixed.text) codes_and_text.1 in
+      both_true (is_text c.fixed.text) (is_utf8 c.fixed.text) sized.1
+
+  pub sound-utf8 : is_utf8 c.fixed.text ≡ true
+  sound-utf8 = texts.1
+
+  fixed_text : (length c.fixed.text ≡ 40) × (is_text c.fixed.text ≡ true)
+  fixed_text = (same_number (length c.fixed.text) 40 sound-size, texts.0)
 
   pub sound-fixed : is_text c.fixed.text ≡ true
   sound-fixed = fixed_text.1
@@ -53,7 +69,10 @@ module _ (c : Content) (sound : is_sound c ≡ true) where
   unfolding is_sound
   slots_and_united = both_true (are_slots c) (are_united c.united) (both_true (list_all is_id c.contributors && is_fixed_part c.fixed) _ sound).1
 
-  sound-slots : (((is_slot_or_none (has_tag (codes "005")) c.f005 ≡ true) × (is_slot_or_none (has_tag (codes "010")) c.f010 ≡ true))
+  pub sound-united : (list_all is_storable c.united ≡ true) × (list_all is_united c.united ≡ true)
+  sound-united = both_true (list_all is_storable c.united) (list_all is_united c.united) slots_and_united.1
+
+  pub sound-slots : (((is_slot_or_none (has_tag (codes "005")) c.f005 ≡ true) × (is_slot_or_none (has_tag (codes "010")) c.f010 ≡ true))
       × ((is_slot_or_none (has_tag (codes "040")) c.f040 ≡ true) × (is_slot_or_none is_main_entry c.f1xx ≡ true)))
       × ((is_slot_or_none (has_tag (codes "240")) c.f240 ≡ true) × (is_slot (has_tag (codes "245")) c.f245 ≡ true))
   sound-slots =
@@ -96,12 +115,12 @@ field_of-short : (tag : List ℕ) (body : Body) → length (spelled body) ≤ 99
 unfolding field_of
 field_of-short tag body few = field_of-short_by tag body few (is_field tag body) refl
 
-code_size : (id : RecordId) → is_id id ≡ true → length id.library ≤ 16
+pub code_size : (id : RecordId) → is_id id ≡ true → length id.library ≤ 16
 code_size id h =
     let code = (both_true (is_library_code id.library) (has_number_shape id.control) h).0 in
     is_le (length id.library) 16 (both_true (nat_le 1 (length id.library)) (nat_le (length id.library) 16) (both_true (nat_le 1 (length id.library) && nat_le (length id.library) 16) (list_all may_stand id.library) code).0).1
 
-number_size : (id : RecordId) → is_id id ≡ true → length id.control ≤ 64
+pub number_size : (id : RecordId) → is_id id ≡ true → length id.control ≤ 64
 number_size id h =
     let number = (both_true (is_library_code id.library) (has_number_shape id.control) h).1 in
     is_le (length id.control) 64 (both_true (nat_le 1 (length id.control)) (nat_le (length id.control) 64) (both_true (nat_le 1 (length id.control) && nat_le (length id.control) 64) (list_all is_printable id.control) number).0).1
@@ -132,7 +151,7 @@ last_boundary-bound text (suc at) =
       | false ↦ omega (arith, last_boundary-bound text at)
     ]
 
-front_within-bound : (most : ℕ) (text : List ℕ) → length (front_within most text) ≤ most
+pub front_within-bound : (most : ℕ) (text : List ℕ) → length (front_within most text) ≤ most
 unfolding front_within
 front_within-bound most text =
     elim (nat_le (length text) most) as (λ r. nat_le (length text) most ≡ r → length (if r then text else take (last_boundary text most) text) ≤ most) [
@@ -161,7 +180,7 @@ all_storable-short (f ∷ fields) h =
 module _ (c : Content) (sound : is_sound c ≡ true) where
   -- each field of a sound content is short
   pub united-short : list_all is_short c.united ≡ true
-  united-short = all_storable-short c.united (both_true (list_all is_storable c.united) (list_all is_united c.united) (slots_and_united c sound).1).0
+  united-short = all_storable-short c.united (sound-united c sound).0
 
   slot_fields-short : list_all is_short (slot_fields c) ≡ true
   slot_fields-short =

@@ -40,7 +40,7 @@ module _ {X : Type 0} (lt : X → X → Bool) where
     )
 
     -- what is less than nothing in a list is less than nothing above it
-    Floor-lower : (x y : X) (ys : List X) → lt y x ≡ false → Floor y ys → Floor x ys
+    pub Floor-lower : (x y : X) (ys : List X) → lt y x ≡ false → Floor y ys → Floor x ys
     Floor-lower x y [] e floor = tt
     Floor-lower x y (z ∷ zs) e floor = (order.chain z y x floor.0 e, Floor-lower x y zs e floor.1)
 
@@ -60,7 +60,7 @@ module _ {X : Type 0} (lt : X → X → Bool) where
           | false ↦ λ e. ((e, Floor-lower x y ys e rising.0), rising)
         ] refl
 
-    Rising-in_order : (xs : List X) → Rising (in_order xs)
+    pub Rising-in_order : (xs : List X) → Rising (in_order xs)
     Rising-in_order [] = tt
     Rising-in_order (x ∷ xs) = Rising-put x (in_order xs) (Rising-in_order xs)
 

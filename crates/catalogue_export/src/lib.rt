@@ -12,5 +12,6 @@ pub mod edition;
 pub mod editions;
 mod fields;
 mod fitting;
+pub mod laws;
 #[cfg(test)]
 mod tests;
