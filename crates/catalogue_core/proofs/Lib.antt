@@ -1,3 +1,4 @@
 mod KeyTexts
 mod EditionTexts
 mod Apart
+mod Runs

@@ -15,10 +15,10 @@ pub fn sorted_by_least(mut editions: Vec<Edition>) -> Result<Vec<Edition>, Memor
     ensures same { IfOk result (λ sorted. IsPermutation editions.items sorted.items) }
     ensures ascending { IfOk result (λ sorted. IsSorted edition_cmp sorted.items) }
 {
-    editions.sort_by(|a: &Edition, b: &Edition| -> Ordering
-        ensures { result ≡ edition_cmp a.now b.now }
-    {
-        a.least().cmp(b.least())
-    })?;
+    editions.sort_by(
+        |a: &Edition, b: &Edition| -> Ordering
+            ensures { result ≡ edition_cmp a.now b.now }
+        { a.least().cmp(b.least()) },
+    )?;
     Ok(editions)
 }
