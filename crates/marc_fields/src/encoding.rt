@@ -50,8 +50,8 @@ fn subfields_size(before: usize, subfields: &[Subfield]) -> usize
     size
 }
 
-/// How many bytes the field has with its terminator, at most one more than a field may have.
-fn stored_size(body: &Body) -> usize
+/// How many bytes the field has with its terminator, at most one more than a field may have. Takes no memory.
+pub fn stored_size(body: &Body) -> usize
     ensures { result ≡ min (length (spelled body.now) + 1) 10000 }
 {
     match body {

@@ -146,8 +146,9 @@ fn uniform_title(alloc: Global, uniform: Option<&Field>) -> Result<Bytes, Memory
     }
 }
 
-/// The record's library and control number, joined by a point.
-fn own_name(alloc: Global, id: &RecordId) -> Result<Bytes, Memory>
+/// The record's own name: its library's code and its control number there, joined by a point. Answers `Memory` where memory
+/// ran out.
+pub fn own_name(alloc: Global, id: &RecordId) -> Result<Bytes, Memory>
     ensures { IfOk result (λ b. b ≡ own_name id.now) }
 {
     joined(alloc, id.library.bytes(), b".", id.control.bytes())

@@ -1,0 +1,4 @@
+mod KeyTexts
+mod EditionTexts
+mod Apart
+mod Runs

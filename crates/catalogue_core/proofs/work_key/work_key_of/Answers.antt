@@ -1,0 +1,10 @@
+use Rattle.std.proofs.Common.{sym, ap, ◌∙◌}
+use Rattle.std.specs.Prelude.{filter}
+use Rattle.catalogue_core.specs.EditionKeys.{is_added_entry}
+use Rattle.catalogue_core.proofs.Runs.{filter-all}
+use Rattle.catalogue_core.proofs.work_key.work_key_of.Goals as goal
+
+pub key_with-requires : goal.key_with-requires
+key_with-requires c =
+    sym (filter-all is_added_entry c.added_run-run.result.now (sym c.are_added_entries.ensures ∙ c.if-are_added_entries.true))
+    ∙ c.added_run-run.ensures ∙ ap (filter is_added_entry) c.as_slice.ensures.value

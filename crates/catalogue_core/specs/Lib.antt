@@ -1,0 +1,17 @@
+pub mod Linked
+pub mod Sound
+pub mod ListLaws
+pub mod LinkedLaws
+pub mod SoundLaws
+pub mod Joining
+pub mod Equal
+pub mod JoinLaws
+pub mod Matching
+pub mod MatchLaws
+pub mod ExactKeys
+pub mod RecordLaws
+pub mod Records
+pub mod RecordsLaws
+pub mod Ids
+pub mod EditionKeys
+pub mod Resolutions

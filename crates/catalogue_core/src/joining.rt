@@ -1,0 +1,28 @@
+//! What editions merge to, as `specs/Joining.antt` has it.
+ghost use Rattle.catalogue_core.specs.Joining.{join};
+ghost use Rattle.catalogue_core.specs.JoinLaws.{edition_join_laws};
+
+use crate::edition::Edition;
+use merge_laws::join::Join;
+use std::alloc::Global;
+use union_base::memory::Memory;
+
+impl Join for Edition {
+    ghost join = { join };
+
+    fn joined(&self, alloc: Global, other: &Edition) -> Result<Edition, Memory> {
+        Ok(Edition {
+            features: self.features.joined(alloc, &other.features)?,
+            content: self.content.joined(alloc, &other.content)?,
+        })
+    }
+
+    fn copied(&self, alloc: Global) -> Result<Edition, Memory> {
+        Ok(Edition {
+            features: self.features.copied(alloc)?,
+            content: Join::copied(&self.content, alloc)?,
+        })
+    }
+
+    ghost join_laws = { edition_join_laws };
+}

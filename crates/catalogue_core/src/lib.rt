@@ -1,0 +1,17 @@
+//! Editions: what the records of several libraries that describe one edition come to together.
+//!
+//! An [`edition::Edition`] is the features by which it is matched and the content that it shows. The edition of one record
+//! has those of the record; editions that match merge to the union of their features and the merge of their contents.
+//!
+//! Guarantee: editions keep the laws of `Join`, so what a list of records resolves to does not depend on their order.
+//! Cost: merging and matching walk sorted lists side by side.
+#![tactic(auto)]
+
+pub mod edition;
+pub mod ids;
+pub mod joining;
+pub mod laws;
+pub mod matching;
+pub mod ordering;
+pub mod records;
+pub mod work_key;

@@ -1,0 +1,44 @@
+//! The edition of one record, as `specs/Records.antt` has it.
+ghost use Rattle.std.specs.Prelude.{◌≡◌, Some, IfOk, IsTrue};
+ghost use Rattle.std.specs.List.{list_all};
+ghost use Rattle.marc_fields.specs.Spelling.{is_short};
+ghost use Rattle.marc_parts.specs.Parts.{control_number};
+ghost use Rattle.marc_parts.specs.Loads.{is_loadable};
+ghost use Rattle.catalogue_core.specs.Records.{IsEditionOf, edition};
+
+use crate::edition::Edition;
+use field_merge::making::content_of;
+use marc_fields::marc_record::Record;
+use marc_parts::parts::control_number;
+use match_features::of_record::features_of;
+use std::alloc::Global;
+use union_base::bytes::Bytes;
+use union_base::library_code::LibraryCode;
+use union_base::memory::Memory;
+
+/// The edition of a record that the library loads: the features and the content of that record. Each accepted record that
+/// is no withdrawal can be loaded, and a frame can store its fields (`laws::accepted_can_be_loaded`).
+///
+/// Answers `Memory` where memory ran out.
+pub fn edition_of(alloc: Global, library: &LibraryCode, rec: &Record) -> Result<Edition, Memory>
+    requires loadable { IsTrue (is_loadable rec.now) }
+    requires short { IsTrue (list_all is_short rec.now.fields) }
+    ensures parts { IfOk result (λ e. IsEditionOf library.now rec.now e) }
+    ensures value { IfOk result (λ e. edition library.now rec.now ≡ Some e) }
+{
+    rec.leader.prints();
+    let _code = library.bytes();
+    Ok(Edition {
+        features: features_of(alloc, library, rec)?,
+        content: content_of(alloc, library, rec)?,
+    })
+}
+
+/// The record's control number: its field 001 without the blanks at its ends (MARC 21, 001), empty where there is none.
+///
+/// Answers `Memory` where memory ran out.
+pub fn control_of(alloc: Global, rec: &Record) -> Result<Bytes, Memory>
+    ensures { IfOk result (λ number. number ≡ control_number rec.now) }
+{
+    Bytes::of(alloc, control_number(rec))
+}

@@ -1,0 +1,13 @@
+pub mod FieldLaws
+pub mod StableLaws
+pub mod TagOrderLaws
+pub mod FittingLaws
+pub mod SoundLaws
+pub mod CountLaws
+pub mod EntryLaws
+pub mod PlaceLaws
+pub mod SpelledLaws
+pub mod WholeLaws
+pub mod NumberShapeLaws
+pub mod ExportedParts
+pub mod ExportedProof

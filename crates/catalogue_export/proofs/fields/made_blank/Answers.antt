@@ -1,0 +1,5 @@
+use Rattle.catalogue_export.proofs.FieldLaws.{field_of-is}
+use Rattle.catalogue_export.proofs.fields.made_blank.Goals as goal
+
+pub returns : goal.returns
+returns c = field_of-is _

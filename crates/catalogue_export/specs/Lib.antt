@@ -1,0 +1,5 @@
+pub mod Fitting
+pub mod TagOrder
+pub mod Exported
+pub mod ExportedLaws
+pub mod Editions

@@ -1,0 +1,148 @@
+//! The fields that the catalogue writes itself.
+ghost use Rattle.std.specs.Prelude.{◌≡◌, ◌<◌, ◌≤◌, ◌∷◌, [], IfOk, IsTrue, codes, length};
+ghost use Rattle.union_base.specs.Fields.{is_field, is_text};
+ghost use Rattle.union_base.specs.declared.body.Body.TheVariants.{Control, Data};
+ghost use Rattle.workset_keys.specs.WorkKeys.{own_name};
+ghost use Rattle.catalogue_core.specs.Sound.{is_id};
+ghost use Rattle.catalogue_export.specs.Exported.{field_of, control_field, blank_field, subfield, last_boundary, begins_character, front_within, key_field, contributor_field};
+
+use std::alloc::Global;
+use union_base::body::Body;
+use union_base::bytes::Bytes;
+use union_base::copied::Copied;
+use union_base::field::Field;
+use union_base::memory::Memory;
+use union_base::record_id::RecordId;
+use union_base::sequence::Sequence;
+use union_base::subfield::Subfield;
+use workset_keys::work_key::own_name;
+
+/// The name under which the catalogue's control numbers stand (MARC 21, 003).
+const CATALOGUE: &[u8; 5] = b"UNION";
+
+/// The longest work key that is shown, in bytes (this project's own).
+const LONGEST_KEY: usize = 9_000;
+
+/// 001, the control number in the catalogue: `LIB.CTL`.
+pub(crate) fn number_field(alloc: Global, id: &RecordId) -> Result<Field, Memory>
+    requires { IsTrue (is_id id.now) }
+    ensures { IfOk result (λ f. control_field (codes "001") (own_name id.now) ≡ f ∷ []) }
+{
+    Ok(made_control(b"001", own_name(alloc, id)?))
+}
+
+/// 003, the name of the catalogue.
+pub(crate) fn catalogue_field(alloc: Global) -> Result<Field, Memory>
+    ensures { IfOk result (λ f. control_field (codes "003") (codes "UNION") ≡ f ∷ []) }
+{
+    let text = Bytes::of(alloc, CATALOGUE)?;
+    Ok(made_control(b"003", text))
+}
+
+/// 008, the fixed-length data elements.
+pub(crate) fn fixed_field(alloc: Global, text: &Bytes) -> Result<Field, Memory>
+    requires { IsTrue (is_text text.now) }
+    ensures { IfOk result (λ f. control_field (codes "008") text.now ≡ f ∷ []) }
+{
+    Ok(made_control(b"008", text.copied(alloc)?))
+}
+
+/// 991, the work key, as far as it is shown.
+pub(crate) fn key_field(alloc: Global, key: &[u8]) -> Result<Field, Memory>
+    requires { IsTrue (is_text key.now) }
+    ensures { IfOk result (λ f. key_field key.now ≡ f ∷ []) }
+{
+    let subfields = key_subfields(alloc, front_within(key, LONGEST_KEY))?;
+    Ok(made_blank(b"991", subfields))
+}
+
+fn key_subfields(alloc: Global, key: &[u8]) -> Result<Sequence<Subfield>, Memory>
+    ensures { IfOk result (λ all. all ≡ subfield 0x61 key.now ∷ []) }
+{
+    let mut subfields = Vec::with_capacity(alloc, 1)?;
+    subfields.push(Subfield {
+        code: b'a',
+        text: Bytes::of(alloc, key)?,
+    })?;
+    Ok(Sequence::from(subfields))
+}
+
+/// 993, a contributor: its library in $a and its control number there in $b.
+pub(crate) fn contributor_field(alloc: Global, id: &RecordId) -> Result<Field, Memory>
+    requires { IsTrue (is_id id.now) }
+    ensures { IfOk result (λ f. contributor_field id.now ≡ f ∷ []) }
+{
+    let subfields = contributor_subfields(alloc, id)?;
+    Ok(made_blank(b"993", subfields))
+}
+
+fn contributor_subfields(alloc: Global, id: &RecordId) -> Result<Sequence<Subfield>, Memory>
+    ensures { IfOk result (λ all. all ≡ subfield 0x61 id.now.library ∷ subfield 0x62 id.now.control ∷ []) }
+{
+    let mut subfields = Vec::with_capacity(alloc, 2)?;
+    subfields.push(Subfield {
+        code: b'a',
+        text: Bytes::of(alloc, id.library.bytes())?,
+    })?;
+    subfields.push(Subfield {
+        code: b'b',
+        text: id.control.copied(alloc)?,
+    })?;
+    Ok(Sequence::from(subfields))
+}
+
+/// The longest front of the text of at most so many bytes that ends between two characters.
+fn front_within(text: &[u8], most: usize) -> &[u8]
+    ensures { result.now ≡ front_within most text.now }
+{
+    if text.len() <= most {
+        text
+    } else {
+        &text[..last_boundary(text, most)]
+    }
+}
+
+/// The greatest place up to that one at which a character begins.
+fn last_boundary(text: &[u8], place: usize) -> usize
+    requires { place < length text.now }
+    ensures value { result ≡ last_boundary text.now place }
+    ensures bound { result ≤ place }
+{
+    let mut at = place;
+    while at > 0 && !begins_character(text[at]) {
+        at -= 1;
+    }
+    at
+}
+
+fn begins_character(byte: u8) -> bool
+    ensures { result ≡ begins_character byte }
+{
+    byte < 0x80 || 0xC0 <= byte
+}
+
+/// A control field.
+fn made_control(tag: &[u8; 3], text: Bytes) -> Field
+    requires { IsTrue (is_field tag.now (Control text)) }
+    ensures { field_of tag.now (Control text) ≡ result ∷ [] }
+{
+    Field {
+        tag: *tag,
+        body: Body::Control { text },
+    }
+}
+
+/// A data field with blank indicators.
+fn made_blank(tag: &[u8; 3], subfields: Sequence<Subfield>) -> Field
+    requires { IsTrue (is_field tag.now (Data 0x20 0x20 subfields)) }
+    ensures { field_of tag.now (Data 0x20 0x20 subfields) ≡ result ∷ [] }
+{
+    Field {
+        tag: *tag,
+        body: Body::Data {
+            ind1: b' ',
+            ind2: b' ',
+            subfields,
+        },
+    }
+}

@@ -1,0 +1,31 @@
+//! What holds of the record that is shown of an edition, for whoever reasons about one. Each function is empty, and its clause
+//! is the law.
+ghost use Rattle.catalogue_export.specs.ExportedLaws.{ExportedIsWhole, ExportedBreaksNoRule, ExportedIsAccepted, ExportedIsNumberedTooLong, NumbersEndInNoBlank};
+
+/// The bytes that are shown of an edition are a whole frame: no more than a frame may have, and the only record terminator
+/// among them is the last.
+pub fn exported_is_whole()
+    ensures { ExportedIsWhole }
+{}
+
+/// The bytes that are shown of an edition break none of the rules on a record that is sent to the catalogue, where the library
+/// code and the control number of its first contributor have at most 63 bytes together. The work key is to be UTF-8.
+pub fn exported_breaks_no_rule()
+    ensures { ExportedBreaksNoRule }
+{}
+
+/// So the record is one that the catalogue accepts.
+pub fn exported_is_accepted()
+    ensures { ExportedIsAccepted }
+{}
+
+/// Where they have more, its 001 has more bytes than a control number may have. That is the first rule that they break, at the
+/// place of the 001, which stands first but for fields 000 of the contributors.
+pub fn exported_is_numbered_too_long()
+    ensures { ExportedIsNumberedTooLong }
+{}
+
+/// The laws count no blanks at the end of a control number; the control number of a record has none.
+pub fn control_number_ends_in_no_blank()
+    ensures { NumbersEndInNoBlank }
+{}

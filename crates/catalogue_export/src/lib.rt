@@ -1,0 +1,17 @@
+//! What the catalogue writes of its editions.
+//!
+//! An edition is shown as one record: the catalogue's own number and name, the edition's slots, its work key, a field for each
+//! contributor, and the united fields, as many of them in this order as a frame has room for.
+//!
+//! Guarantee: `edition::edition_bytes` and `editions::append_editions` append exactly the bytes that specs/Exported.antt and
+//! specs/Editions.antt define. Cost: each field is copied once, the fields of an edition are sorted once by their tags, and
+//! each record is written once.
+#![tactic(auto)]
+
+pub mod edition;
+pub mod editions;
+mod fields;
+mod fitting;
+pub mod laws;
+#[cfg(test)]
+mod tests;
