@@ -1,32 +1,19 @@
 -- One frame more is loaded.
 use Rattle.std.proofs.Common.{◌≡◌, ℕ, ◌+◌, ◌≤◌, Bool, true, false, not, ◌||◌, List, [], ◌∷◌, ◌++◌, append-nil, refl, sym, ap, subst, ◌∙◌, arith}
-<<<<<<< HEAD
 use Rattle.std.specs.Prelude.{filter, length, nat_lt, None}
-=======
-use Rattle.std.specs.Prelude.{filter, length, nat_lt, Some, None}
->>>>>>> 05866e5ce408b90d179073ad0942e88bfa0d1bf8
 use Rattle.std.proofs.lemmas.Bool.Decides.{nat_tests}
 use Rattle.std.specs.List.{list_any}
 use Rattle.std.proofs.lemmas.List.Elements.{filter-append}
 use Rattle.std.proofs.lemmas.List.Folds.{list_any-append}
 use Rattle.marc_fields.specs.Spelling.{Spells}
 use Rattle.marc_fields.specs.declared.marc_record.Record.{Record}
-<<<<<<< HEAD
 use Rattle.union_program.proofs.TallyLaws.{accepted-one_more, passed_one, failed_one}
-=======
-use Rattle.marc_fields.specs.declared.rules.Failure.{Failure}
-use Rattle.union_program.proofs.TallyLaws.{accepted-one_more, accepted-refused_more, passed_one, failed_one}
->>>>>>> 05866e5ce408b90d179073ad0942e88bfa0d1bf8
 use Rattle.union_program.specs.Streams.{Frame, failure_of, accepted, AreSpelled}
 use Rattle.union_program.specs.Exports.{is_beyond}
 use Rattle.union_program.specs.Loadings.{IsCurrent, IsLoaded}
 use Rattle.union_program.specs.Tallies.{IsTally}
 use Rattle.union_program.specs.declared.currents.Currents.{Currents}
 use Rattle.union_program.specs.declared.loading.Loading.{Loading}
-<<<<<<< HEAD
-=======
-use Rattle.union_program.specs.declared.tally.Tally.{Tally}
->>>>>>> 05866e5ce408b90d179073ad0942e88bfa0d1bf8
 
 abbrev is_within : List ℕ → Bool
 is_within frame = not (is_beyond frame)
@@ -93,24 +80,6 @@ loaded-within library all frame r old new before none spells within counted more
       few = omega (arith, more, before.few, one_more);
     }
 
-<<<<<<< HEAD
-=======
--- a refused frame
-pub loaded-refused : (library : List ℕ) (all : List Frame) (frame : Frame) (failure : Failure) (old new : Loading) → IsLoaded library all old
-    → failure_of frame ≡ Some failure → IsTally (all ++ frame ∷ []) new.tally → new.tally.frames ≡ old.tally.frames + 1 → new.beyond ≡ old.beyond
-    → new.currents ≡ old.currents → IsLoaded library (all ++ frame ∷ []) new
-loaded-refused library all frame failure old new before fails counted more flag same =
-    let frames = accepted-refused_more all frame failure fails in
-    record {
-      tally = counted;
-      beyond = flag ∙ (before.beyond ∙ sym (ap (list_any is_beyond) frames));
-      records = before.records;
-      spelled = subst (λ fs. AreSpelled fs before.records) (sym (ap (filter is_within) frames)) before.spelled;
-      current = subst (IsCurrent library before.records) (sym same) before.current;
-      few = subst (λ (c : Currents). c.added + c.replaced ≤ new.tally.frames) (sym same) (omega (arith, more, before.few));
-    }
-
->>>>>>> 05866e5ce408b90d179073ad0942e88bfa0d1bf8
 within_size : (n : ℕ) (d : Bool) → (nat_lt 9000 n || d) ≡ false → n ≤ 9000
 within_size n true h = grind (arith, nat_tests)
 within_size n false h = grind (arith, nat_tests)

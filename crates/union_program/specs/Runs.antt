@@ -1,26 +1,14 @@
 -- What a run of the program leaves behind, and what each status says.
-<<<<<<< HEAD
 use Rattle.std.specs.Prelude.{◌≡◌, ◌≢◌, ℕ, ◌<◌, ◌≤◌, ◌⊎◌, Bool, true, false, IsTrue, List, [], ◌∷◌, length, Some, IfSome}
-=======
-use Rattle.std.specs.Prelude.{◌≡◌, ◌≢◌, ℕ, ◌<◌, ◌≤◌, ◌⊎◌, Bool, true, false, if◌then◌else◌, IsTrue, List, [], ◌∷◌, length, Some, IfSome}
->>>>>>> 05866e5ce408b90d179073ad0942e88bfa0d1bf8
 use Rattle.std.specs.declared.option.Option.{Option}
 use Rattle.std.specs.Io.KnownBytes.{Appends, Keeps}
 use Rattle.iso2709_frame.specs.Frames.{frames}
 use Rattle.union_io.specs.Causes.{Rose}
 use Rattle.union_io.specs.Writing.{AppendsFront}
-<<<<<<< HEAD
-=======
-use Rattle.union_words.specs.Texts.{early_text}
->>>>>>> 05866e5ce408b90d179073ad0942e88bfa0d1bf8
 use Rattle.union_words.specs.declared.input.Input.{Input}
 use Rattle.union_words.specs.declared.input.Input.TheVariants.{Library}
 use Rattle.union_words.specs.declared.status.Status.{Status}
 use Rattle.union_words.specs.declared.status.Status.TheVariants.{Done, DoneWithRefusals, Usage, OpenFault, ReadFault, WriteFault, TooLong, Memory, NotBuilt}
-<<<<<<< HEAD
-=======
-use Rattle.union_program.specs.Streams.{Frame}
->>>>>>> 05866e5ce408b90d179073ad0942e88bfa0d1bf8
 use Rattle.union_program.specs.Reports.{refused, check_text}
 use Rattle.union_program.specs.Exports.{is_taken, IsExport, IsReport}
 use Rattle.union_program.specs.Readings.{Inflow, HasFailed, IsOverfull}
@@ -78,11 +66,7 @@ IsNoted output text = Appends output.old output.new text ⊎ (AppendsFront outpu
 pub record EndsAtInput (input : Input) (flow : Inflow) (status : Status) : Type 0 where
   pub open_fault : (i : Input) → status ≡ OpenFault i → (i ≡ input) × HasFailed flow
   pub read_fault : (i : Input) → status ≡ ReadFault i → (i ≡ input) × HasFailed flow
-<<<<<<< HEAD
   pub too_long : (i : Input) → status ≡ TooLong i → (i ≡ input) × IsOverfull flow × (flow.after ≡ flow.before)
-=======
-  pub too_long : (i : Input) → status ≡ TooLong i → (i ≡ input) × IsOverfull flow
->>>>>>> 05866e5ce408b90d179073ad0942e88bfa0d1bf8
   pub too_long_where : (bytes : List ℕ) → flow.told ≡ Some bytes → LARGEST_SOURCE < length bytes → ¬ HasFailed flow
       → (status ≡ TooLong input) ⊎ (status ≡ Memory)
 
@@ -91,7 +75,6 @@ pub record IsCheck (library : List ℕ) (file : Inflow) (out : Outflow) (status 
   pub input : EndsAtInput (Library library) file status
   pub write_fault : status ≡ WriteFault → HasFailedAt out
   pub others : (status ≢ Usage) × (status ≢ NotBuilt)
-<<<<<<< HEAD
   -- all of the text, none of it, or a front of it
   pub done : IsTrue (is_done status)
       → IfSome file.told (λ bytes. (status ≡ end_of bytes) × Appends out.old out.new (check_text library (frames bytes)))
@@ -101,28 +84,11 @@ pub record IsCheck (library : List ℕ) (file : Inflow) (out : Outflow) (status 
   pub complete : (bytes : List ℕ) → file.told ≡ Some bytes → length bytes ≤ LARGEST_SOURCE → ¬ HasFailed file → ¬ HasFailedAt out
       → (status ≡ end_of bytes) ⊎ (status ≡ Memory)
 
-=======
-
-  -- all of the text, none of it, or a front of it
-  pub done : IsTrue (is_done status)
-      → IfSome file.told (λ bytes. (status ≡ end_of bytes) × Appends out.old out.new (check_text library (frames bytes)))
-  pub untouched : IsTrue (is_early status) → Keeps out.old out.new
-  pub part : status ≡ WriteFault → IfSome file.told (λ bytes. AppendsFront out.old out.new (check_text library (frames bytes)))
-
-  -- where nothing fails it is done, or memory ran out
-  pub complete : (bytes : List ℕ) → file.told ≡ Some bytes → length bytes ≤ LARGEST_SOURCE → ¬ HasFailed file → ¬ HasFailedAt out
-      → (status ≡ end_of bytes) ⊎ (status ≡ Memory)
-
->>>>>>> 05866e5ce408b90d179073ad0942e88bfa0d1bf8
 -- `export` of a library's file
 pub record IsExportRun (library : List ℕ) (file : Inflow) (out notes : Outflow) (status : Status) : Type 0 where
   pub input : EndsAtInput (Library library) file status
   pub write_fault : status ≡ WriteFault → HasFailedAt out ⊎ HasFailedAt notes
   pub other : status ≢ Usage
-<<<<<<< HEAD
-=======
-
->>>>>>> 05866e5ce408b90d179073ad0942e88bfa0d1bf8
   -- all of the text, none of it, or a front of it
   pub done : IsTrue (is_done status) → IfSome file.told (λ bytes. (status ≡ end_of bytes)
       × ((text : List ℕ) × IsExport library bytes text × Appends out.old out.new text)
@@ -130,18 +96,10 @@ pub record IsExportRun (library : List ℕ) (file : Inflow) (out notes : Outflow
   pub untouched : IsTrue (is_early status) → Keeps out.old out.new
   pub part : status ≡ WriteFault → IfSome file.told (λ bytes. ((text : List ℕ) × IsExport library bytes text × AppendsFront out.old out.new text)
       × ((text : List ℕ) × IsReport library bytes text × AppendsFront notes.old notes.new text))
-<<<<<<< HEAD
-=======
-
->>>>>>> 05866e5ce408b90d179073ad0942e88bfa0d1bf8
   -- what this stage takes
   pub not_built : status ≡ NotBuilt → IfSome file.told (λ bytes. (length bytes ≤ LARGEST_SOURCE) × (is_taken (frames bytes) ≡ false))
   pub not_built_where : (bytes : List ℕ) → file.told ≡ Some bytes → length bytes ≤ LARGEST_SOURCE → is_taken (frames bytes) ≡ false
       → ¬ HasFailed file → (status ≡ NotBuilt) ⊎ (status ≡ Memory)
-<<<<<<< HEAD
-=======
-
->>>>>>> 05866e5ce408b90d179073ad0942e88bfa0d1bf8
   -- where nothing fails it is done, or memory ran out
   pub complete : (bytes : List ℕ) → file.told ≡ Some bytes → length bytes ≤ LARGEST_SOURCE → is_taken (frames bytes) ≡ true
       → ¬ HasFailed file → ¬ HasFailedAt out → ¬ HasFailedAt notes → (status ≡ end_of bytes) ⊎ (status ≡ Memory)

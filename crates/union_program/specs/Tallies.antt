@@ -1,9 +1,5 @@
 -- What a count of frames says.
-<<<<<<< HEAD
 use Rattle.std.specs.Prelude.{◌≡◌, List, length}
-=======
-use Rattle.std.specs.Prelude.{◌≡◌, ℕ, List, length}
->>>>>>> 05866e5ce408b90d179073ad0942e88bfa0d1bf8
 use Rattle.union_program.specs.Streams.{Frame}
 use Rattle.union_program.specs.Reports.{loads, withdrawals, refused}
 use Rattle.union_program.specs.declared.tally.Tally.{Tally}

@@ -60,16 +60,7 @@ impl Tally {
 }
 
 /// Counts a frame by the first rule that it breaks, or by its status.
-<<<<<<< HEAD
 pub fn count_frame(alloc: Global, tally: &mut Tally, cut: Cut, frame: &[u8]) -> Result<(), Memory>
-=======
-pub fn count_frame(
-    alloc: Global,
-    tally: &mut Tally,
-    cut: Cut,
-    frame: &[u8],
-) -> Result<(), Memory>
->>>>>>> 05866e5ce408b90d179073ad0942e88bfa0d1bf8
     requires whole { cut ≡ Cut.Whole → IsWhole frame.now }
     requires room { tally.old.frames < u64.MAX }
     ensures counted { OnOk result ((all : List Frame) → IsTally all tally.old → IsTally (all ++ (cut, frame.now) ∷ []) tally.new) }

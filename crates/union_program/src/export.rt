@@ -58,15 +58,11 @@ fn add_report_line(text: &mut Vec<u8>, library: &[u8], loading: &Loading) -> Res
     add_counted(text, b"replaced", loading.currents.replaced)?;
     add_counted(text, b"removed", 0)?;
     add_counted(text, b"absent", 0)?;
-<<<<<<< HEAD
     add_counted(
         text,
         b"refused",
         loading.tally.refused.as_slice().len() as u64,
     )?;
-=======
-    add_counted(text, b"refused", loading.tally.refused.as_slice().len() as u64)?;
->>>>>>> 05866e5ce408b90d179073ad0942e88bfa0d1bf8
     text.push(b'\n')?;
     Ok(())
 }

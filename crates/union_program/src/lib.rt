@@ -17,8 +17,5 @@ pub mod run;
 pub mod shelved;
 pub mod stop;
 pub mod tally;
-<<<<<<< HEAD
 #[cfg(test)]
 mod tests;
-=======
->>>>>>> 05866e5ce408b90d179073ad0942e88bfa0d1bf8

@@ -78,16 +78,10 @@ fn run_check<F: Shelf, O: Sink>(
     out: &mut O,
 ) -> Status
     ensures run { IsCheck file.now.library (record {
-<<<<<<< HEAD
       told = told_of (F.files shelf.old) file.now.path.now;
       before = F.faults shelf.old file.now.path.now;
       after = F.faults shelf.new file.now.path.now;
     })
-=======
-        told = told_of (F.files shelf.old) file.now.path.now;
-        before = F.faults shelf.old file.now.path.now;
-        after = F.faults shelf.new file.now.path.now })
->>>>>>> 05866e5ce408b90d179073ad0942e88bfa0d1bf8
         (record { old = O.written out.old; new = O.written out.new; before = O.faults out.old; after = O.faults out.new })
         result }
     ensures others { SameElsewhere (F.faults shelf.old) (F.faults shelf.new) file.now.path.now }
@@ -124,16 +118,10 @@ fn run_export<F: Shelf, O: Sink, N: Sink>(
     notes: &mut N,
 ) -> Status
     ensures run { IsExportRun file.now.library (record {
-<<<<<<< HEAD
       told = told_of (F.files shelf.old) file.now.path.now;
       before = F.faults shelf.old file.now.path.now;
       after = F.faults shelf.new file.now.path.now;
     })
-=======
-        told = told_of (F.files shelf.old) file.now.path.now;
-        before = F.faults shelf.old file.now.path.now;
-        after = F.faults shelf.new file.now.path.now })
->>>>>>> 05866e5ce408b90d179073ad0942e88bfa0d1bf8
         (record { old = O.written out.old; new = O.written out.new; before = O.faults out.old; after = O.faults out.new })
         (record { old = N.written notes.old; new = N.written notes.new; before = N.faults notes.old; after = N.faults notes.new })
         result }
@@ -181,26 +169,18 @@ pub fn union_run<R, F: Shelf, O: Sink, N: Sink, G: Gate>(
     // what each form of words does
     ensures check { (file : Words.LibraryFile) → Words.job_of MOST_LIBRARIES words.now ≡ Some (Words.Check file)
         → IsCheck file.library (record {
-<<<<<<< HEAD
           told = told_of (F.files shelf.old) file.path;
           before = F.faults shelf.old file.path;
           after = F.faults shelf.new file.path;
         })
-=======
-            told = told_of (F.files shelf.old) file.path; before = F.faults shelf.old file.path; after = F.faults shelf.new file.path })
->>>>>>> 05866e5ce408b90d179073ad0942e88bfa0d1bf8
         (record { old = O.written out.old; new = O.written out.new; before = O.faults out.old; after = O.faults out.new })
         result }
     ensures export { (file : Words.LibraryFile) → Words.job_of MOST_LIBRARIES words.now ≡ Some (Words.Export (file ∷ []))
         → IsExportRun file.library (record {
-<<<<<<< HEAD
           told = told_of (F.files shelf.old) file.path;
           before = F.faults shelf.old file.path;
           after = F.faults shelf.new file.path;
         })
-=======
-            told = told_of (F.files shelf.old) file.path; before = F.faults shelf.old file.path; after = F.faults shelf.new file.path })
->>>>>>> 05866e5ce408b90d179073ad0942e88bfa0d1bf8
         (record { old = O.written out.old; new = O.written out.new; before = O.faults out.old; after = O.faults out.new })
         (record { old = N.written notes.old; new = N.written notes.new; before = N.faults notes.old; after = N.faults notes.new })
         result }

@@ -1,8 +1,4 @@
 use Rattle.std.proofs.Common.{◌∙◌, ap}
-<<<<<<< HEAD
-=======
-use Rattle.std.specs.List.{concat}
->>>>>>> 05866e5ce408b90d179073ad0942e88bfa0d1bf8
 use Rattle.union_program.specs.Runs.{end_with}
 use Rattle.union_program.proofs.PreparedLaws.{prepared_of}
 use Rattle.union_program.proofs.export.prepare.Goals as goal
