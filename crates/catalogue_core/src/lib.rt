@@ -14,4 +14,6 @@ pub mod laws;
 pub mod matching;
 pub mod ordering;
 pub mod records;
+#[cfg(test)]
+mod tests;
 pub mod work_key;
