@@ -67,7 +67,7 @@ code_low b is = grind (arith, nat_tests)
 printing_low : (b : ℕ) → is_printable b ≡ true → nat_lt b 128 ≡ true
 printing_low b is = grind (arith, nat_tests)
 
-low_utf8 : (t : List ℕ) → list_all (λ b. nat_lt b 128) t ≡ true → IsUtf8 t
+pub low_utf8 : (t : List ℕ) → list_all (λ b. nat_lt b 128) t ≡ true → IsUtf8 t
 low_utf8 t all = IsUtf8-from_ascii t (all_low t all)
 
 library-utf8 : (id : RecordId) → is_id id ≡ true → IsUtf8 id.library
@@ -80,7 +80,7 @@ control-utf8 id is =
     let number = (and_parts (is_library_code id.library) (has_number_shape id.control) is).1 in
     low_utf8 id.control (all_weaker is_printable (λ b. nat_lt b 128) printing_low id.control (and_parts _ (list_all is_printable id.control) number).1)
 
-own_name-utf8 : (id : RecordId) → is_id id ≡ true → is_utf8 (own_name id) ≡ true
+pub own_name-utf8 : (id : RecordId) → is_id id ≡ true → is_utf8 (own_name id) ≡ true
 own_name-utf8 id is =
     is_utf8-from_IsUtf8 (own_name id)
     (IsUtf8-append (id.library ++ codes ".") id.control (IsUtf8-append id.library (codes ".") (library-utf8 id is) (low_utf8 (codes ".") refl)) (control-utf8 id is))

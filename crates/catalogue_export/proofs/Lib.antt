@@ -11,3 +11,5 @@ pub mod WholeLaws
 pub mod NumberShapeLaws
 pub mod ExportedParts
 pub mod ExportedProof
+pub mod KeyLetters
+pub mod KeyUtf8

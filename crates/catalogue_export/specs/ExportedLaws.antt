@@ -12,7 +12,11 @@ use Rattle.marc_rules.specs.Accepted.{IsAccepted}
 use Rattle.marc_rules.specs.NineteenRules.{first_rule}
 use Rattle.field_merge.specs.declared.content.Content.{Content}
 use Rattle.catalogue_core.specs.Sound.{is_sound}
+use Rattle.catalogue_core.specs.Ids.{least}
+use Rattle.catalogue_core.specs.EditionKeys.{work_key_of}
+use Rattle.catalogue_core.specs.declared.edition.Edition.{Edition}
 use Rattle.catalogue_export.specs.Exported.{exported, edition_bytes}
+use Rattle.catalogue_export.specs.Editions.{edition_text}
 
 -- the bytes of a library's code and of a control number there, together; blanks at the end of a control number don't count
 abbrev pub name_size : RecordId → ℕ
@@ -46,3 +50,14 @@ ExportedIsNumberedTooLong =
     (c : Content) (id : RecordId) (ids : List RecordId) (key : List ℕ) → IsTrue (is_sound c) → c.contributors ≡ id ∷ ids → IsTrue (is_utf8 key)
     → 63 < name_size id
     → first_rule Whole (edition_bytes c key) ≡ Some (record { rule = ControlNumber; place = suc (how_many (codes "000") (exported c key).fields) })
+
+-- so the bytes that are written of an edition break no rule, where its least contributor's code and control number have at
+-- most 63 bytes together
+abbrev pub EditionIsAccepted : Type 0
+EditionIsAccepted = (e : Edition) → name_size (least e) ≤ 63 → first_rule Whole (edition_text e) ≡ None
+
+-- and where they have more, the first rule that those bytes break is that its 001 is too long
+abbrev pub EditionIsNumberedTooLong : Type 0
+EditionIsNumberedTooLong =
+    (e : Edition) → 63 < name_size (least e)
+    → first_rule Whole (edition_text e) ≡ Some (record { rule = ControlNumber; place = suc (how_many (codes "000") (exported e.content (work_key_of e)).fields) })

@@ -1,6 +1,6 @@
 //! What holds of the record that is shown of an edition, for whoever reasons about one. Each function is empty, and its clause
 //! is the law.
-ghost use Rattle.catalogue_export.specs.ExportedLaws.{ExportedIsWhole, ExportedBreaksNoRule, ExportedIsAccepted, ExportedIsNumberedTooLong, NumbersEndInNoBlank};
+ghost use Rattle.catalogue_export.specs.ExportedLaws.{ExportedIsWhole, ExportedBreaksNoRule, ExportedIsAccepted, ExportedIsNumberedTooLong, NumbersEndInNoBlank, EditionIsAccepted, EditionIsNumberedTooLong};
 
 /// The bytes that are shown of an edition are a whole frame: no more than a frame may have, and the only record terminator
 /// among them is the last.
@@ -28,4 +28,16 @@ pub fn exported_is_numbered_too_long()
 /// The laws count no blanks at the end of a control number; the control number of a record has none.
 pub fn control_number_ends_in_no_blank()
     ensures { NumbersEndInNoBlank }
+{}
+
+/// The bytes that are written of an edition, under its own work key, break none of the rules on a record that is sent to the
+/// catalogue, where the library code and the control number of its least contributor have at most 63 bytes together.
+pub fn edition_is_accepted()
+    ensures { EditionIsAccepted }
+{}
+
+/// Where they have more, the first rule that those bytes break is that the 001 has more bytes than a control number may have,
+/// at the place of the 001, which stands first but for fields 000 of the contributors.
+pub fn edition_is_numbered_too_long()
+    ensures { EditionIsNumberedTooLong }
 {}

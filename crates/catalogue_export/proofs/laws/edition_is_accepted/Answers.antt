@@ -1,0 +1,5 @@
+use Rattle.catalogue_export.proofs.KeyUtf8.{edition-accepted}
+use Rattle.catalogue_export.proofs.laws.edition_is_accepted.Goals as goal
+
+pub returns : goal.returns
+returns c = edition-accepted
