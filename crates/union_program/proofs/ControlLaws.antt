@@ -1,10 +1,10 @@
 -- The control number of a record is a text, and no longer than its field.
-use Rattle.std.proofs.Common.{◌≡◌, ℕ, ◌+◌, ◌≤◌, Bool, true, false, cond, List, [], ◌∷◌, length, refl, arith}
-use Rattle.std.specs.Prelude.{◌==◌, Some, find}
+use Rattle.std.proofs.Common.{◌≡◌, ℕ, ◌+◌, ◌≤◌, Bool, true, false, ◌&&◌, cond, List, [], ◌∷◌, length, refl, arith, ◌∙◌, ap}
+use Rattle.std.specs.Prelude.{◌==◌, Option, Some, None, find}
 use Rattle.std.specs.Option.{option_map_or}
 use Rattle.std.specs.List.{list_all}
 use Rattle.union_base.specs.Both.{both_true, true_both}
-use Rattle.union_base.specs.Fields.{is_text, is_text_byte, is_tag, is_control_tag, fits_tag}
+use Rattle.union_base.specs.Fields.{is_text, is_text_byte, is_tag, is_control_tag, fits_tag, is_field}
 use Rattle.union_base.specs.declared.body.Body.{Body}
 use Rattle.union_base.specs.declared.body.Body.TheVariants.{Control, Data}
 use Rattle.union_base.specs.declared.field.Field.{Field}

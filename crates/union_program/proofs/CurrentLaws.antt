@@ -1,17 +1,18 @@
 -- One record more, and the exports of the current records.
 use Rattle.std.proofs.Common.{◌≡◌, ℕ, ◌+◌, Bool, true, false, not, cond, List, [], ◌∷◌, ◌++◌, refl, sym, ap, ◌∙◌}
-use Rattle.std.specs.Prelude.{map, fold, count_by, is_some, Some}
+use Rattle.std.specs.Prelude.{map, fold, count_by, is_some, Option, Some, None}
+use Rattle.std.specs.declared.cmp.Ordering.{Ordering}
 use Rattle.std.specs.declared.cmp.Ordering.TheVariants.{Less, Equal, Greater}
 use Rattle.std.specs.Ordering.{match_ordering}
-use Rattle.std.specs.BTreeMap.{is_at}
+use Rattle.std.specs.BTreeMap.{is_at, insert_entry}
 use Rattle.std.specs.List.{concat, flat_map}
 use Rattle.std.specs.Map.{lookup}
 use Rattle.std.proofs.lemmas.List.Sums.{fold-append}
 use Rattle.union_base.specs.declared.record_id.RecordId.{RecordId}
 use Rattle.marc_fields.specs.declared.marc_record.Record.{Record}
 use Rattle.union_program.proofs.TallyLaws.{count_by-one_more}
-use Rattle.union_program.specs.Currents.{MapOf, id_cmp, id_of, is_current, put_under, load, current, meetings_from, meetings, added}
-use Rattle.union_program.specs.Exports.{exported_text}
+use Rattle.union_program.specs.Currents.{MapOf, id_cmp, id_of, is_current, put_under, load, current, meetings_from, meetings, added, replaced}
+use Rattle.union_program.specs.Exports.{exported_text, export_text}
 use Rattle.union_program.specs.Loadings.{texts_of, IsCurrent}
 use Rattle.union_program.specs.declared.currents.Currents.{Currents}
 
@@ -21,10 +22,10 @@ put_under-texts : (library : List ℕ) (all : MapOf Record) (id : RecordId) (r :
 put_under-texts library [] id r = refl
 put_under-texts library (e ∷ all) id r =
     elim (id_cmp id e.0) as (λ o. match_ordering o
-    ((id, exported_text library r) ∷ texts_of library (e ∷ all))
-    ((e.0, exported_text library r) ∷ texts_of library all)
-    ((e.0, exported_text library e.1) ∷ put_under (texts_of library all) id (exported_text library r))
-    ≡ texts_of library (match_ordering o ((id, r) ∷ e ∷ all) ((e.0, r) ∷ all) (e ∷ put_under all id r))) [
+        ((id, exported_text library r) ∷ texts_of library (e ∷ all))
+        ((e.0, exported_text library r) ∷ texts_of library all)
+        ((e.0, exported_text library e.1) ∷ put_under (texts_of library all) id (exported_text library r))
+        ≡ texts_of library (match_ordering o ((id, r) ∷ e ∷ all) ((e.0, r) ∷ all) (e ∷ put_under all id r))) [
       | Less ↦ refl
       | Equal ↦ refl
       | Greater ↦ ap (λ rest. (e.0, exported_text library e.1) ∷ rest) (put_under-texts library all id r)
@@ -35,7 +36,7 @@ is_current-texts : (library : List ℕ) (all : MapOf Record) (id : RecordId) →
 is_current-texts library [] id = refl
 is_current-texts library (e ∷ all) id =
     elim (is_at (id_cmp id) e.0) as (λ t. is_some (cond t (Some (exported_text library e.1)) (lookup (is_at (id_cmp id)) (texts_of library all)))
-    ≡ is_some (cond t (Some e.1) (lookup (is_at (id_cmp id)) all))) [
+        ≡ is_some (cond t (Some e.1) (lookup (is_at (id_cmp id)) all))) [
       | true ↦ refl
       | false ↦ is_current-texts library all id
     ]

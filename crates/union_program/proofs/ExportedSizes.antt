@@ -1,10 +1,10 @@
 -- The export of a record whose frame is no longer than this stage takes fits in a frame.
-use Rattle.std.proofs.Common.{◌≡◌, ℕ, ◌+◌, ◌*◌, ◌≤◌, Bool, true, false, cond, nat_le, List, [], ◌∷◌, ◌++◌, length, refl, ap, ◌∙◌, arith, length-append}
-use Rattle.std.proofs.lemmas.Bool.{le-leb}
+use Rattle.std.proofs.Common.{◌≡◌, ℕ, ◌+◌, ◌*◌, ◌≤◌, Bool, true, false, ◌&&◌, cond, nat_le, List, [], ◌∷◌, ◌++◌, length, refl, ap, sym, ◌∙◌, arith, length-append}
+use Rattle.std.proofs.lemmas.Bool.{le-leb, leb-true}
 use Rattle.std.proofs.lemmas.List.Folds.{list_all-append}
 use Rattle.std.specs.declared.cmp.Ordering.TheVariants.{Less, Equal, Greater}
 use Rattle.std.specs.Ordering.{match_ordering}
-use Rattle.std.specs.Prelude.{codes, filter, find, Some, None}
+use Rattle.std.specs.Prelude.{codes, ◌==◌, not, filter, find, Some, None}
 use Rattle.std.specs.List.{list_all, flat_map}
 use Rattle.std.specs.Option.{option_map_or}
 use Rattle.union_base.specs.Both.{both_true, true_both}
@@ -20,6 +20,7 @@ use Rattle.marc_fields.specs.declared.encoding.EncodeRefusal.TheVariants.{FieldT
 use Rattle.marc_fields.specs.Appending.{too_long}
 use Rattle.marc_fields.specs.declared.marc_record.Record.{Record}
 use Rattle.marc_parts.specs.Parts.{has_tag, text_under, control_text, control_number}
+use Rattle.marc_parts.specs.Trimmed.{trimmed}
 use Rattle.union_program.proofs.ControlLaws.{length-trimmed}
 use Rattle.union_program.specs.Exported.{field_of, own_fields, is_kept, contributor, joined_id, exported}
 
@@ -85,7 +86,7 @@ unfolding total
 text_under-size tag [] = omega arith
 text_under-size tag (f ∷ fields) =
     elim (has_tag tag f) as (λ t. length (option_map_or (λ (f : Field). control_text f.body) (cond t (Some f) (find (has_tag tag) fields)) [])
-    ≤ (12 + length (stored f)) + total fields) [
+        ≤ (12 + length (stored f)) + total fields) [
       | true ↦ omega (arith, control_text-size f.body, length-append (spelled f.body) (0x1E ∷ []))
       | false ↦ omega (arith, text_under-size tag fields)
     ]

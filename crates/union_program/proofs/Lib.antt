@@ -8,3 +8,8 @@ pub mod CurrentLaws
 pub mod LoadingLaws
 pub mod PreparedLaws
 pub mod NoteLaws
+pub mod InputLaws
+pub mod RunLaws
+pub mod EditionMapLaws
+pub mod BatchLaws
+pub mod DeliveryLaws

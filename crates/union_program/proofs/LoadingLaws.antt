@@ -1,19 +1,21 @@
 -- One frame more is loaded.
 use Rattle.std.proofs.Common.{◌≡◌, ℕ, ◌+◌, ◌≤◌, Bool, true, false, not, ◌||◌, List, [], ◌∷◌, ◌++◌, append-nil, refl, sym, ap, subst, ◌∙◌, arith}
-use Rattle.std.specs.Prelude.{filter, length, nat_lt, None}
+use Rattle.std.specs.Prelude.{filter, length, nat_lt, Some, None}
 use Rattle.std.proofs.lemmas.Bool.Decides.{nat_tests}
 use Rattle.std.specs.List.{list_any}
 use Rattle.std.proofs.lemmas.List.Elements.{filter-append}
 use Rattle.std.proofs.lemmas.List.Folds.{list_any-append}
 use Rattle.marc_fields.specs.Spelling.{Spells}
 use Rattle.marc_fields.specs.declared.marc_record.Record.{Record}
-use Rattle.union_program.proofs.TallyLaws.{accepted-one_more, passed_one, failed_one}
+use Rattle.marc_fields.specs.declared.rules.Failure.{Failure}
+use Rattle.union_program.proofs.TallyLaws.{accepted-one_more, accepted-refused_more, passed_one, failed_one}
 use Rattle.union_program.specs.Streams.{Frame, failure_of, accepted, AreSpelled}
 use Rattle.union_program.specs.Exports.{is_beyond}
 use Rattle.union_program.specs.Loadings.{IsCurrent, IsLoaded}
 use Rattle.union_program.specs.Tallies.{IsTally}
 use Rattle.union_program.specs.declared.currents.Currents.{Currents}
 use Rattle.union_program.specs.declared.loading.Loading.{Loading}
+use Rattle.union_program.specs.declared.tally.Tally.{Tally}
 
 abbrev is_within : List ℕ → Bool
 is_within frame = not (is_beyond frame)
@@ -78,6 +80,21 @@ loaded-within library all frame r old new before none spells within counted more
           (spelled-one_more (filter is_within (accepted all)) before.records frame.1 r before.spelled spells);
       current = loads before.records before.current;
       few = omega (arith, more, before.few, one_more);
+    }
+
+-- a refused frame
+pub loaded-refused : (library : List ℕ) (all : List Frame) (frame : Frame) (failure : Failure) (old new : Loading) → IsLoaded library all old
+    → failure_of frame ≡ Some failure → IsTally (all ++ frame ∷ []) new.tally → new.tally.frames ≡ old.tally.frames + 1 → new.beyond ≡ old.beyond
+    → new.currents ≡ old.currents → IsLoaded library (all ++ frame ∷ []) new
+loaded-refused library all frame failure old new before fails counted more flag same =
+    let frames = accepted-refused_more all frame failure fails in
+    record {
+      tally = counted;
+      beyond = flag ∙ (before.beyond ∙ sym (ap (list_any is_beyond) frames));
+      records = before.records;
+      spelled = subst (λ fs. AreSpelled fs before.records) (sym (ap (filter is_within) frames)) before.spelled;
+      current = subst (IsCurrent library before.records) (sym same) before.current;
+      few = subst (λ (c : Currents). c.added + c.replaced ≤ new.tally.frames) (sym same) (omega (arith, more, before.few));
     }
 
 within_size : (n : ℕ) (d : Bool) → (nat_lt 9000 n || d) ≡ false → n ≤ 9000

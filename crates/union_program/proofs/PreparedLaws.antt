@@ -6,9 +6,9 @@ use Rattle.std.specs.List.{list_any, concat}
 use Rattle.union_base.specs.declared.record_id.RecordId.{RecordId}
 use Rattle.union_program.proofs.CurrentLaws.{joined_texts}
 use Rattle.union_program.specs.Streams.{Frame, accepted, AreSpelled}
-use Rattle.union_program.specs.Reports.{refused_lines}
-use Rattle.union_program.specs.Currents.{current}
-use Rattle.union_program.specs.Exports.{is_beyond, report_line}
+use Rattle.union_program.specs.Reports.{refused, refused_lines}
+use Rattle.union_program.specs.Currents.{current, added, replaced}
+use Rattle.union_program.specs.Exports.{is_beyond, report_line, report_text}
 use Rattle.union_program.specs.Loadings.{IsLoaded}
 use Rattle.union_program.specs.Prepared.{IsPrepared}
 use Rattle.union_program.specs.Runs.{end_with}
@@ -28,7 +28,7 @@ all_within p (x ∷ xs) h =
 pub prepared_of : (library : List ℕ) (all : List Frame) (loading : Loading) (prepared : Prepared) → IsLoaded library all loading → loading.beyond ≡ false
     → prepared.out.items ≡ concat (values loading.currents.texts)
     → prepared.report.items ≡ refused_lines library loading.tally.refused.items
-    ++ report_line library loading.tally.frames loading.currents.added loading.currents.replaced 0 0 (length loading.tally.refused.items)
+        ++ report_line library loading.tally.frames loading.currents.added loading.currents.replaced 0 0 (length loading.tally.refused.items)
     → prepared.end ≡ end_with loading.tally.refused.items → IsPrepared library all prepared
 prepared_of library all loading prepared loaded taken out report end =
     let tally = loaded.tally in

@@ -7,5 +7,9 @@ pub mod Exports
 pub mod Loadings
 pub mod Stops
 pub mod Readings
+pub mod Inputs
 pub mod Runs
 pub mod Prepared
+pub mod Deliveries
+pub mod Merged
+pub mod Unions

@@ -1,5 +1,5 @@
 -- What is told of a library's frames.
-use Rattle.std.specs.Prelude.{ℕ, suc, Bool, not, List, [], ◌∷◌, ◌++◌, length, count_by, decimal, codes, Option, None, Some}
+use Rattle.std.specs.Prelude.{ℕ, suc, Bool, not, ◌==◌, List, [], ◌∷◌, ◌++◌, length, count_by, decimal, codes, Option, None, Some}
 use Rattle.std.specs.List.{flat_map}
 use Rattle.marc_fields.specs.declared.rules.Rule.{Rule}
 use Rattle.marc_fields.specs.declared.rules.Rule.TheVariants.{Truncated, TooLong, TooShort, LengthDigits, LengthDiffers, BaseAddress, LeaderCounts, EntryDigits, Tag, Tiling, Status, Coding, NotUtf8, ControlShape, DataShape, ControlNumber, Repeated, Fixed008, Title245}

@@ -58,11 +58,7 @@ fn add_report_line(text: &mut Vec<u8>, library: &[u8], loading: &Loading) -> Res
     add_counted(text, b"replaced", loading.currents.replaced)?;
     add_counted(text, b"removed", 0)?;
     add_counted(text, b"absent", 0)?;
-    add_counted(
-        text,
-        b"refused",
-        loading.tally.refused.as_slice().len() as u64,
-    )?;
+    add_counted(text, b"refused", loading.tally.refused.as_slice().len() as u64)?;
     text.push(b'\n')?;
     Ok(())
 }

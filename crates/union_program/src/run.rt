@@ -2,20 +2,19 @@
 //!
 //! It does all that the program does, over whatever shelf of files and outputs it is handed. Each answer other than
 //! `Done` and `DoneWithRefusals` has its cause in a clause, and those two have the whole result.
-ghost use Rattle.std.specs.Prelude.{◌≡◌, ◌≢◌, ◌↔◌, ◌∷◌, [], ℕ, List, IsTrue, IfOk, IfSome, Some, None, MatchOption, slice_get, true, false};
+ghost use Rattle.std.specs.Prelude.{◌≡◌, ◌≢◌, ◌↔◌, List, IsTrue, Some, None, false};
 ghost use Rattle.std.specs.Io.KnownBytes.{Keeps};
-ghost use Rattle.iso2709_frame.specs.Frames.{frames};
 ghost use Rattle.union_io.specs.Counts.{SameElsewhere};
 ghost use Rattle.union_io.specs.Files.{told_of};
-ghost use Rattle.union_words.specs.Meanings.{file_meaning, libraries_meaning};
+ghost use Rattle.union_words.specs.Meanings.{libraries_meaning};
 ghost use Rattle.union_words.specs.Texts.{early_text};
 ghost use Rattle.union_words.specs.Words;
-ghost use Rattle.union_program.specs.Prepared.{IsPrepared};
-ghost use Rattle.union_program.specs.Runs.{is_early, is_done, IsNoted, IsCheck, IsExportRun, IsTold, Written};
+ghost use Rattle.union_program.specs.Runs.{is_early, is_done, IsNoted, IsCheck, IsUnionRun, IsTold, Written};
 
 use crate::notes::put_early;
 use crate::prepared::Prepared;
-use crate::shelved::{check_file, export_file};
+use crate::reading::export_libraries;
+use crate::shelved::check_file;
 use std::alloc::Global;
 use union_base::bytes::Bytes;
 use union_base::memory::Memory;
@@ -23,7 +22,6 @@ use union_io::failed::Failed;
 use union_io::gate::Gate;
 use union_io::shelf::Shelf;
 use union_io::sink::{Sink, put_all};
-use union_words::input::Input;
 use union_words::job::{Job, MOST_LIBRARIES};
 use union_words::libraries::Libraries;
 use union_words::library_file::LibraryFile;
@@ -109,52 +107,35 @@ fn write_export<O: Sink, N: Sink>(prepared: &Prepared, out: &mut O, notes: &mut 
     }
 }
 
-/// Exports the file of a library.
+/// Exports the files of libraries.
 fn run_export<F: Shelf, O: Sink, N: Sink>(
     alloc: Global,
-    file: &LibraryFile<'_>,
+    libraries: &Libraries<'_>,
     shelf: &mut F,
     out: &mut O,
     notes: &mut N,
 ) -> Status
-    ensures run { IsExportRun file.now.library (record {
-      told = told_of (F.files shelf.old) file.now.path.now;
-      before = F.faults shelf.old file.now.path.now;
-      after = F.faults shelf.new file.now.path.now;
-    })
+    ensures run { IsUnionRun (libraries_meaning libraries.now)
+        (record { files = F.files shelf.old; before = F.faults shelf.old; after = F.faults shelf.new })
         (record { old = O.written out.old; new = O.written out.new; before = O.faults out.old; after = O.faults out.new })
         (record { old = N.written notes.old; new = N.written notes.new; before = N.faults notes.old; after = N.faults notes.new })
         result }
     ensures noted { IsTrue (is_early result)
         → IsNoted (record { old = N.written notes.old; new = N.written notes.new; before = N.faults notes.old; after = N.faults notes.new })
         (early_text result) }
-    ensures others { SameElsewhere (F.faults shelf.old) (F.faults shelf.new) file.now.path.now }
 {
-    let path = match Bytes::of(alloc, file.path) {
-        Ok(path) => path,
-        Err(Memory) => return end(notes, Status::Memory),
-    };
-    match export_file(alloc, &file.library, &path, shelf) {
+    match export_libraries(alloc, libraries, shelf) {
         Ok(Some(prepared)) => write_export(&prepared, out, notes),
         Ok(None) => end(notes, Status::NotBuilt),
-        Err(stop) => end(notes, stop.status(Input::Library(file.library))),
+        Err(status) => end(notes, status),
     }
-}
-
-/// The one library that the words name.
-fn sole_library<'a>(libraries: &Libraries<'a>) -> LibraryFile<'a>
-    ensures { slice_get (libraries_meaning libraries.now) 0 ≡ Some (file_meaning result) }
-{
-    // There is at least one, as the count says.
-    let _count = libraries.len();
-    libraries.at(0)
 }
 
 /// Does what the words behind the program's name say.
 ///
-/// `check LIB=PATH` tells which frames of a library's file are refused; `export LIB=PATH` exports the library's current
-/// records on `out` and reports on `notes`; `--help` and `--version` write a text of the program's own on `out`. The runtime
-/// and the gate are not used yet.
+/// `check LIB=PATH` tells which frames of a library's file are refused; `export LIB=PATH ..` exports the union catalogue of
+/// the libraries' current records on `out` and reports on `notes`; `--help` and `--version` write a text of the program's own
+/// on `out`. The runtime and the gate are not used yet.
 pub fn union_run<R, F: Shelf, O: Sink, N: Sink, G: Gate>(
     _rt: &R,
     alloc: Global,
@@ -175,12 +156,9 @@ pub fn union_run<R, F: Shelf, O: Sink, N: Sink, G: Gate>(
         })
         (record { old = O.written out.old; new = O.written out.new; before = O.faults out.old; after = O.faults out.new })
         result }
-    ensures export { (file : Words.LibraryFile) → Words.job_of MOST_LIBRARIES words.now ≡ Some (Words.Export (file ∷ []))
-        → IsExportRun file.library (record {
-          told = told_of (F.files shelf.old) file.path;
-          before = F.faults shelf.old file.path;
-          after = F.faults shelf.new file.path;
-        })
+    ensures export { (libraries : List Words.LibraryFile) → Words.job_of MOST_LIBRARIES words.now ≡ Some (Words.Export libraries)
+        → IsUnionRun libraries
+        (record { files = F.files shelf.old; before = F.faults shelf.old; after = F.faults shelf.new })
         (record { old = O.written out.old; new = O.written out.new; before = O.faults out.old; after = O.faults out.new })
         (record { old = N.written notes.old; new = N.written notes.new; before = N.faults notes.old; after = N.faults notes.new })
         result }
@@ -196,11 +174,10 @@ pub fn union_run<R, F: Shelf, O: Sink, N: Sink, G: Gate>(
     ensures quiet { is_early result ≡ false → ((libraries : List Words.LibraryFile)
         → Words.job_of MOST_LIBRARIES words.now ≢ Some (Words.Export libraries)) → Keeps (N.written notes.old) (N.written notes.new) }
 
-    // A run of words in no form writes nothing else, and of files only the one that the words name can be at fault.
+    // A run of words in no form writes nothing else, and of files only one that the words name can be at fault: of an
+    // export its own clauses say which.
     ensures unused { Words.job_of MOST_LIBRARIES words.now ≡ None → Keeps (O.written out.old) (O.written out.new) }
     ensures check_others { (file : Words.LibraryFile) → Words.job_of MOST_LIBRARIES words.now ≡ Some (Words.Check file)
-        → SameElsewhere (F.faults shelf.old) (F.faults shelf.new) file.path }
-    ensures export_others { (file : Words.LibraryFile) → Words.job_of MOST_LIBRARIES words.now ≡ Some (Words.Export (file ∷ []))
         → SameElsewhere (F.faults shelf.old) (F.faults shelf.new) file.path }
 {
     match Job::read(words, MOST_LIBRARIES) {
@@ -209,9 +186,7 @@ pub fn union_run<R, F: Shelf, O: Sink, N: Sink, G: Gate>(
             let status = run_check(alloc, &file, shelf, out);
             end(notes, status)
         }
-        Some(Job::Export(libraries)) => {
-            run_export(alloc, &sole_library(&libraries), shelf, out, notes)
-        }
+        Some(Job::Export(libraries)) => run_export(alloc, &libraries, shelf, out, notes),
         Some(Job::Help) => tell(out, help_text()),
         Some(Job::Version) => tell(out, version_text()),
     }

@@ -9,7 +9,7 @@ use crate::library_file::LibraryFile;
 use union_base::bytes::Bytes;
 
 /// The most libraries that a command takes.
-pub const MOST_LIBRARIES: usize = 1;
+pub const MOST_LIBRARIES: usize = 64;
 
 /// What the program is asked to do. A job borrows the words.
 #[derive(Clone, Copy)]

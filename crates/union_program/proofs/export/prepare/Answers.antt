@@ -1,4 +1,5 @@
 use Rattle.std.proofs.Common.{◌∙◌, ap}
+use Rattle.std.specs.List.{concat}
 use Rattle.union_program.specs.Runs.{end_with}
 use Rattle.union_program.proofs.PreparedLaws.{prepared_of}
 use Rattle.union_program.proofs.export.prepare.Goals as goal

@@ -1,0 +1,110 @@
+-- What comes of inputs one after the other.
+use Rattle.std.proofs.Common.{◌≡◌, ℕ, ◌+◌, true, cond, List, [], ◌∷◌, length, inl, inr, refl, sym, ap, subst, ◌∙◌, arith}
+use Rattle.std.specs.Prelude.{◌<◌, Option, Some, None, IfSome, nat_lt, drop, slice_get}
+use Rattle.std.specs.Option.{option_map}
+use Rattle.std.proofs.lemmas.Option.{slice_get_within, get_or_from_slice_get}
+use Rattle.std.proofs.lemmas.List.{drop_more}
+use Rattle.std.proofs.lemmas.Bool.Decides.{nat_tests}
+use Rattle.library_stream.specs.declared.frame_reader.TheConstants.{LARGEST_SOURCE}
+use Rattle.union_io.specs.Files.{told_of}
+use Rattle.union_io.specs.Causes.{Rose}
+use Rattle.union_io.specs.Counts.{SameCounts, SameElsewhere}
+use Rattle.union_words.specs.Words.{LibraryFile}
+use Rattle.union_words.specs.declared.input.Input.{Input}
+use Rattle.union_words.specs.declared.input.Input.TheVariants.{Library}
+use Rattle.union_words.specs.declared.status.Status.{Status}
+use Rattle.union_words.specs.declared.status.Status.TheVariants.{Done, DoneWithRefusals, Usage, OpenFault, ReadFault, WriteFault, TooLong, Memory, NotBuilt}
+use Rattle.union_program.specs.Inputs.{ShelfFlow, FailsAt, IsTooLongAt, StopsAt, StopsOpening}
+use Rattle.union_program.specs.Readings.{IsStop}
+use Rattle.union_program.specs.Stops.{stopped_with}
+use Rattle.union_program.specs.declared.stop.Stop.{Stop}
+use Rattle.union_program.specs.declared.stop.Stop.TheVariants.{NotOpened as StopNotOpened, TooLong as StopTooLong, Failed as StopFailed, Memory as StopMemory}
+
+-- the counts of a shelf
+abbrev Counts : Type 0
+Counts = List ℕ → ℕ
+
+abbrev Contents : Type 0
+Contents = List ℕ → List ℕ
+
+abbrev pub flow : Option Contents → Counts → Counts → ShelfFlow
+flow files before after = record { files = files; before = before; after = after }
+
+same_more : (a b c : Counts) → SameCounts a b → SameCounts b c → SameCounts a c
+same_more a b c p q = λ name. q name ∙ p name
+
+fails_later : (input : Input) (libraries : List LibraryFile) (files : Option Contents) (a b c : Counts) → FailsAt libraries (flow files a b) input
+    → SameCounts b c → FailsAt libraries (flow files a c) input
+fails_later input libraries files a b c fails same = record {
+  file = fails.file;
+  one = fails.one;
+  named = fails.named;
+  failed = subst (Rose (a fails.file.path)) (sym (same fails.file.path)) fails.failed;
+  others = λ name differs. same name ∙ fails.others name differs;
+}
+
+fails_behind : (input : Input) (file : LibraryFile) (rest : List LibraryFile) (files : Option Contents) (a b c : Counts)
+    → SameCounts a b → FailsAt rest (flow files b c) input → FailsAt (file ∷ rest) (flow files a c) input
+fails_behind input file rest files a b c same fails = record {
+  file = fails.file;
+  one = inr fails.one;
+  named = fails.named;
+  failed = subst (λ count. Rose count (c fails.file.path)) (same fails.file.path) fails.failed;
+  others = λ name differs. fails.others name differs ∙ same name;
+}
+
+abbrev named : LibraryFile → Input
+named file = Library file.library
+
+-- a run that stops where it opens an input behind one that was opened
+pub opens_behind : (status : Status) (file : LibraryFile) (rest : List LibraryFile) (files : Option Contents) (a b c d : Counts) → SameCounts a b
+    → SameCounts c d → StopsOpening status rest (flow files b c) → StopsOpening status (file ∷ rest) (flow files a d)
+opens_behind (OpenFault input) file rest files a b c d before after stops = fails_later input (file ∷ rest) files a c d (fails_behind input file rest files a b c before stops) after
+opens_behind Memory file rest files a b c d before after stops = same_more a c d (same_more a b c before stops) after
+opens_behind (ReadFault input) file rest files a b c d before after stops = absurd stops
+opens_behind (TooLong input) file rest files a b c d before after stops = absurd stops
+opens_behind Done file rest files a b c d before after stops = absurd stops
+opens_behind DoneWithRefusals file rest files a b c d before after stops = absurd stops
+opens_behind Usage file rest files a b c d before after stops = absurd stops
+opens_behind WriteFault file rest files a b c d before after stops = absurd stops
+opens_behind NotBuilt file rest files a b c d before after stops = absurd stops
+
+-- the list from a place on
+pub drop_at : {X : Type 0} (xs : List X) (place : ℕ) (x : X) → slice_get xs place ≡ Some x → drop place xs ≡ x ∷ drop (place + 1) xs
+drop_at xs place x found =
+    drop_more xs place x (slice_get_within xs place x found) ∙ ap (λ y. y ∷ drop (place + 1) xs) (get_or_from_slice_get xs place x x found)
+
+some_fault : (before after : ℕ) → before ≡ 0 → Rose before after → 0 < after
+some_fault before after none rose = let first : Rose 0 after = subst (λ n. Rose n after) none rose in omega (arith, first)
+
+is_less : (n m : ℕ) → n < m → nat_lt n m ≡ true
+is_less n m h = grind (arith, nat_tests)
+
+overfull_told : (files : Option Contents) (file : LibraryFile) → IfSome (told_of files file.path) (λ bytes. LARGEST_SOURCE < length bytes)
+    → IfSome files (λ contents. IsTooLongAt contents (file ∷ []) (Library file.library))
+overfull_told None file more = tt
+overfull_told (Some contents) file more =
+    ap (λ t. option_map named (cond t (Some file) None)) (is_less LARGEST_SOURCE (length (contents file.path)) more)
+
+-- why a file was not read to its end, and what its shelf counts then
+pub file_stops : (stop : Stop) (file : LibraryFile) (files : Option Contents) (name : List ℕ) (told : Option (List ℕ)) (before after : ℕ) (a b : Counts)
+    → name ≡ file.path → told ≡ told_of files file.path → before ≡ 0 → IsStop stop (record { told = told; before = before; after = after })
+    → (0 < after → Rose (a name) (b name)) → (after ≡ 0 → SameCounts a b) → SameElsewhere a b name
+    → StopsAt (stopped_with stop (Library file.library)) (file ∷ []) (flow files a b)
+file_stops StopNotOpened file files name told before after a b is left none stop raised calm others = record {
+  file = file;
+  one = inl refl;
+  named = refl;
+  failed = subst (λ n. Rose (a n) (b n)) is (raised (some_fault before after none stop));
+  others = subst (SameElsewhere a b) is others;
+}
+file_stops StopFailed file files name told before after a b is left none stop raised calm others = record {
+  file = file;
+  one = inl refl;
+  named = refl;
+  failed = subst (λ n. Rose (a n) (b n)) is (raised (some_fault before after none stop));
+  others = subst (SameElsewhere a b) is others;
+}
+file_stops StopTooLong file files name told before after a b is left none stop raised calm others =
+    (calm (stop.1 ∙ none), overfull_told files file (subst (λ bytes. IfSome bytes (λ bytes. LARGEST_SOURCE < length bytes)) left stop.0))
+file_stops StopMemory file files name told before after a b is left none stop raised calm others = calm (stop ∙ none)

@@ -1,0 +1,128 @@
+-- The inputs of a run: the files of libraries in the order of the command, as a shelf has them.
+use Rattle.std.specs.Prelude.{◌≡◌, ℕ, ◌⊎◌, Bool, nat_lt, List, [], ◌∷◌, length, map, Ok, Err, Some, None, IfSome, IsTrue}
+use Rattle.std.specs.List.{find, AllByRecursion}
+use Rattle.std.specs.Option.{option_map}
+use Rattle.std.specs.declared.option.Option.{Option}
+use Rattle.std.specs.declared.result.Result.{Result}
+use Rattle.iso2709_frame.specs.Frames.{frames}
+use Rattle.library_stream.specs.declared.frame_reader.TheConstants.{LARGEST_SOURCE}
+use Rattle.union_io.specs.Causes.{Rose}
+use Rattle.union_io.specs.Counts.{SameCounts, SameElsewhere}
+use Rattle.union_io.specs.Files.{told_of}
+use Rattle.union_io.specs.Names.{is_among}
+use Rattle.union_words.specs.Words.{LibraryFile}
+use Rattle.union_words.specs.declared.input.Input.{Input}
+use Rattle.union_words.specs.declared.input.Input.TheVariants.{Library}
+use Rattle.union_words.specs.declared.status.Status.{Status}
+use Rattle.union_words.specs.declared.status.Status.TheVariants.{Done, DoneWithRefusals, Usage, OpenFault, ReadFault, WriteFault, TooLong, Memory, NotBuilt}
+use Rattle.union_program.specs.Deliveries.{Delivery, delivery}
+use Rattle.union_program.specs.declared.opened_file.OpenedFile.{OpenedFile}
+
+-- a shelf: its files, where it tells them, and how often something failed under each name, before the run and after it
+pub record ShelfFlow : Type 0 where
+  pub files : Option (List ℕ → List ℕ)
+  pub before : List ℕ → ℕ
+  pub after : List ℕ → ℕ
+
+-- nothing failed under any name
+abbrev pub IsCalm : ShelfFlow → Type 0
+IsCalm shelf = SameCounts shelf.before shelf.after
+
+-- it is one of them
+abbrev pub IsOneOf : LibraryFile → List LibraryFile → Type 0
+IsOneOf file [] = ⊥
+IsOneOf file (first ∷ rest) = (file ≡ first) ⊎ IsOneOf file rest
+
+-- the input is one of the libraries; something failed under the name of its file, and nothing under any other name
+pub record FailsAt (libraries : List LibraryFile) (shelf : ShelfFlow) (input : Input) : Type 0 where
+  pub file : LibraryFile
+  pub one : IsOneOf file libraries
+  pub named : input ≡ Library file.library
+  pub failed : Rose (shelf.before file.path) (shelf.after file.path)
+  pub others : SameElsewhere shelf.before shelf.after file.path
+
+-- nothing failed under the names of the libraries' files
+abbrev pub NoneFails : List LibraryFile → ShelfFlow → Type 0
+NoneFails libraries shelf = AllByRecursion (λ file. ¬ Rose (shelf.before file.path) (shelf.after file.path)) libraries
+
+-- the file has more bytes than are read
+abbrev pub is_overfull : (List ℕ → List ℕ) → LibraryFile → Bool
+is_overfull contents file = nat_lt LARGEST_SOURCE (length (contents file.path))
+
+-- the first of the files that has
+abbrev pub first_overfull : (List ℕ → List ℕ) → List LibraryFile → Option LibraryFile
+first_overfull contents libraries = find (is_overfull contents) libraries
+
+-- none of the files has
+abbrev pub AreWithin : (List ℕ → List ℕ) → List LibraryFile → Type 0
+AreWithin contents libraries = first_overfull contents libraries ≡ None
+
+-- the input is the first of the libraries whose file has
+abbrev pub IsTooLongAt : (List ℕ → List ℕ) → List LibraryFile → Input → Type 0
+IsTooLongAt contents libraries input = option_map (λ file. Library file.library) (first_overfull contents libraries) ≡ Some input
+
+-- what the files deliver
+abbrev pub deliveries : (List ℕ → List ℕ) → List LibraryFile → List Delivery
+deliveries contents libraries = map (λ file. delivery file.library (frames (contents file.path))) libraries
+
+-- the run stops at its inputs with this status
+abbrev pub StopsAt : Status → List LibraryFile → ShelfFlow → Type 0
+StopsAt (OpenFault input) libraries shelf = FailsAt libraries shelf input
+StopsAt (ReadFault input) libraries shelf = FailsAt libraries shelf input
+StopsAt (TooLong input) libraries shelf = IsCalm shelf × IfSome shelf.files (λ contents. IsTooLongAt contents libraries input)
+StopsAt Memory libraries shelf = IsCalm shelf
+StopsAt Done libraries shelf = ⊥
+StopsAt DoneWithRefusals libraries shelf = ⊥
+StopsAt Usage libraries shelf = ⊥
+StopsAt WriteFault libraries shelf = ⊥
+StopsAt NotBuilt libraries shelf = ⊥
+
+-- the run stops with this status where it opens its inputs
+abbrev pub StopsOpening : Status → List LibraryFile → ShelfFlow → Type 0
+StopsOpening (OpenFault input) libraries shelf = FailsAt libraries shelf input
+StopsOpening Memory libraries shelf = IsCalm shelf
+StopsOpening (ReadFault input) libraries shelf = ⊥
+StopsOpening (TooLong input) libraries shelf = ⊥
+StopsOpening Done libraries shelf = ⊥
+StopsOpening DoneWithRefusals libraries shelf = ⊥
+StopsOpening Usage libraries shelf = ⊥
+StopsOpening WriteFault libraries shelf = ⊥
+StopsOpening NotBuilt libraries shelf = ⊥
+
+-- each of the files was read to its end, or the run stops there. What was found is so of all their contents
+abbrev pub Gathers : {T : Type 0} → Result T Status → List LibraryFile → ShelfFlow → (T → (List ℕ → List ℕ) → Type 0) → Type 0
+Gathers (Ok found) libraries shelf IsOf =
+    IsCalm shelf × IfSome shelf.files (λ contents. AreWithin contents libraries × IsOf found contents)
+Gathers (Err status) libraries shelf IsOf = StopsAt status libraries shelf
+
+-- an opened file: its library, the name under which it was opened, the bytes that are left, where they are told, and how
+-- often a read of it failed
+pub record OpenedState : Type 0 where
+  pub library : List ℕ
+  pub name : List ℕ
+  pub left : Option (List ℕ)
+  pub faults : ℕ
+
+abbrev pub state_of : {S : Type 0} → (S → List ℕ) → (S → Option (List ℕ)) → (S → ℕ) → OpenedFile S → OpenedState
+state_of name left faults opened =
+    record { library = opened.library; name = name opened.source; left = left opened.source; faults = faults opened.source }
+
+-- the states of opened files
+abbrev pub states_of : {S : Type 0} → (S → List ℕ) → (S → Option (List ℕ)) → (S → ℕ) → List (OpenedFile S) → List OpenedState
+states_of name left faults all = map (state_of name left faults) all
+
+-- the library and the name under which its file was opened
+abbrev pub file_of : OpenedState → LibraryFile
+file_of opened = record { library = opened.library; path = opened.name }
+
+abbrev pub files_of : List OpenedState → List LibraryFile
+files_of all = map file_of all
+
+-- it was opened at a shelf with these files, and nothing was read of it yet
+pub record IsFresh (files : Option (List ℕ → List ℕ)) (names : List (List ℕ)) (opened : OpenedState) : Type 0 where
+  pub listed : IsTrue (is_among opened.name names)
+  pub left : opened.left ≡ told_of files opened.name
+  pub faults : opened.faults ≡ 0
+
+abbrev pub AreFresh : Option (List ℕ → List ℕ) → List (List ℕ) → List OpenedState → Type 0
+AreFresh files names all = AllByRecursion (IsFresh files names) all
