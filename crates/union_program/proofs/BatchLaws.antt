@@ -1,5 +1,5 @@
 -- One frame more is loaded.
-use Rattle.std.proofs.Common.{◌≡◌, ℕ, ◌+◌, ◌≤◌, Bool, true, false, not, cond, List, [], ◌∷◌, ◌++◌, refl, sym, ap, subst, ◌∙◌, arith, add-zero}
+use Rattle.std.proofs.Common.{◌≡◌, ℕ, ◌+◌, Bool, true, false, not, cond, List, [], ◌∷◌, ◌++◌, refl, sym, ap, subst, ◌∙◌, arith, add-zero}
 use Rattle.std.specs.Prelude.{fold, count_by, nat_lt, Some, None}
 use Rattle.std.proofs.lemmas.Bool.Decides.{nat_tests}
 use Rattle.std.proofs.lemmas.List.Sums.{fold-append}
@@ -11,13 +11,11 @@ use Rattle.marc_rules.specs.NineteenRules.{status_of}
 use Rattle.catalogue_core.specs.declared.edition.Edition.{Edition}
 use Rattle.union_program.proofs.TallyLaws.{accepted-one_more, accepted-refused_more, withdrawals-one_more, count_by-one_more}
 use Rattle.union_program.specs.Currents.{MapOf, id_of, is_current, load, meetings_from}
-use Rattle.union_program.specs.Deliveries.{delivery, withdraws}
 use Rattle.union_program.specs.Reports.{is_withdrawing, withdrawals}
 use Rattle.union_program.specs.Streams.{Frame, failure_of, accepted, AreSpelled}
 use Rattle.union_program.specs.Tallies.{IsTally}
-use Rattle.union_program.specs.Unions.{AreEditions, AreLoaded, IsBatchLoaded}
+use Rattle.union_program.specs.Unions.{AreEditions, IsBatchLoaded}
 use Rattle.union_program.specs.declared.batch_counts.BatchCounts.{BatchCounts}
-use Rattle.union_program.specs.declared.tally.Tally.{Tally}
 
 -- the status in a spelled frame
 pub spelled-status : (frame : List ℕ) (r : Record) → Spells frame r → status_of frame ≡ r.leader.status

@@ -1,5 +1,5 @@
 -- One delivery more, and what all of them come to.
-use Rattle.std.proofs.Common.{◌≡◌, ℕ, Bool, true, false, not, cond, ◌||◌, List, [], ◌∷◌, ◌++◌, length, append_assoc, append-nil, refl, sym, ap, subst, ◌∙◌}
+use Rattle.std.proofs.Common.{◌≡◌, ℕ, Bool, true, false, not, ◌||◌, List, [], ◌∷◌, ◌++◌, length, append_assoc, append-nil, refl, sym, ap, subst, ◌∙◌}
 use Rattle.std.specs.Prelude.{map, fold, nat_lt, Some, if◌then◌else◌}
 use Rattle.std.specs.List.{list_any}
 use Rattle.std.specs.BTreeMap.{values}
@@ -12,15 +12,13 @@ use Rattle.catalogue_core.specs.Records.{edition}
 use Rattle.catalogue_core.specs.Resolutions.{IsOrderedResolution}
 use Rattle.catalogue_core.specs.declared.edition.Edition.{Edition}
 use Rattle.catalogue_export.specs.Editions.{export_text}
-use Rattle.union_words.specs.declared.status.Status.{Status}
 use Rattle.union_words.specs.declared.status.Status.TheVariants.{Done, DoneWithRefusals}
 use Rattle.union_program.specs.Currents.{MapOf}
-use Rattle.union_program.specs.Exports.{report_line}
-use Rattle.union_program.specs.Reports.{refused_lines}
-use Rattle.union_program.specs.Deliveries.{Delivery, delivery, withdraws, has_refused, is_taken, Batch, delivered, load_batch, current_of, report_of, reports_over, reports_of}
+use Rattle.union_program.specs.Reports.{refused_lines, report_line}
+use Rattle.union_program.specs.Deliveries.{Delivery, delivery, withdraws, has_refused, is_taken, Batch, delivered, load_batch, current_of, report_of, reports_over}
 use Rattle.union_program.specs.Merged.{left_lines, IsPrepared}
 use Rattle.union_program.specs.Streams.{Frame}
-use Rattle.union_program.specs.Unions.{AreEditions, IsBatchLoaded, HasLoaded, IsLoaded}
+use Rattle.union_program.specs.Unions.{AreEditions, IsBatchLoaded, IsLoaded}
 use Rattle.union_program.specs.declared.batch_counts.BatchCounts.{BatchCounts}
 use Rattle.union_program.specs.declared.loaded.Loaded.{Loaded}
 use Rattle.union_program.specs.declared.prepared.Prepared.{Prepared}
@@ -51,7 +49,7 @@ pub loaded-more : (all : List Delivery) (library : List ℕ) (frames : List Fram
     → new.refused ≡ (old.refused || nat_lt 0 (length counts.tally.refused.items))
     → new.withdrawn ≡ (old.withdrawn || nat_lt 0 counts.tally.withdrawals)
     → new.reports.items ≡ old.reports.items ++ (refused_lines library counts.tally.refused.items
-        ++ report_line library counts.tally.frames counts.added counts.replaced 0 0 (length counts.tally.refused.items))
+    ++ report_line library counts.tally.frames counts.added counts.replaced 0 0 (length counts.tally.refused.items))
     → IsLoaded (all ++ delivery library frames ∷ []) new
 loaded-more all library frames counts old new before batch refused withdrawn reports =
     let d = delivery library frames in

@@ -1,7 +1,6 @@
 -- One record more among the current ones, as editions.
-use Rattle.std.proofs.Common.{◌≡◌, ℕ, Bool, true, false, cond, List, [], ◌∷◌, refl, sym, ap, subst, ◌∙◌}
-use Rattle.std.specs.Prelude.{is_some, Option, None, Some}
-use Rattle.std.specs.declared.cmp.Ordering.{Ordering}
+use Rattle.std.proofs.Common.{◌≡◌, true, false, cond, [], ◌∷◌, refl, subst}
+use Rattle.std.specs.Prelude.{is_some, Some}
 use Rattle.std.specs.declared.cmp.Ordering.TheVariants.{Less, Equal, Greater}
 use Rattle.std.specs.Ordering.{match_ordering}
 use Rattle.std.specs.BTreeMap.{is_at}
@@ -22,8 +21,8 @@ put_under-editions (x ∷ all) (y ∷ editions) id r e are one =
     subst (λ (key : RecordId). AreEditions (put_under (x ∷ all) id r) (match_ordering (id_cmp id key) ((id, e) ∷ y ∷ editions) ((y.0, e) ∷ editions) (y ∷ put_under editions id e)))
     are.0
     (elim (id_cmp id x.0) as (λ o. id_cmp id x.0 ≡ o
-        → AreEditions (match_ordering o ((id, r) ∷ x ∷ all) ((x.0, r) ∷ all) (x ∷ put_under all id r))
-        (match_ordering o ((id, e) ∷ y ∷ editions) ((y.0, e) ∷ editions) (y ∷ put_under editions id e))) [
+    → AreEditions (match_ordering o ((id, r) ∷ x ∷ all) ((x.0, r) ∷ all) (x ∷ put_under all id r))
+    (match_ordering o ((id, e) ∷ y ∷ editions) ((y.0, e) ∷ editions) (y ∷ put_under editions id e))) [
       | Less ↦ λ _. (refl, one, are)
       | Equal ↦ λ ties. (are.0, subst (λ (key : RecordId). edition key.library r ≡ Some e) (ids_apart id x.0 ties) one, are.2)
       | Greater ↦ λ _. (are.0, are.1, put_under-editions all editions id r e are.2 one)
@@ -38,7 +37,7 @@ is_current-editions (x ∷ all) (y ∷ editions) id are =
     subst (λ (key : RecordId). is_some (cond (is_at (id_cmp id) key) (Some y.1) (lookup (is_at (id_cmp id)) editions)) ≡ is_current (x ∷ all) id)
     are.0
     (elim (is_at (id_cmp id) x.0) as (λ t. is_some (cond t (Some y.1) (lookup (is_at (id_cmp id)) editions))
-        ≡ is_some (cond t (Some x.1) (lookup (is_at (id_cmp id)) all))) [
+    ≡ is_some (cond t (Some x.1) (lookup (is_at (id_cmp id)) all))) [
       | true ↦ refl
       | false ↦ is_current-editions all editions id are.2
     ])

@@ -1,12 +1,5 @@
 pub mod StreamLaws
 pub mod TallyLaws
-pub mod SizeLaws
-pub mod ControlLaws
-pub mod ExportedLaws
-pub mod ExportedSizes
-pub mod CurrentLaws
-pub mod LoadingLaws
-pub mod PreparedLaws
 pub mod NoteLaws
 pub mod InputLaws
 pub mod RunLaws

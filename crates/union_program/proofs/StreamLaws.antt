@@ -1,7 +1,7 @@
 -- A source whose frames are handed out one after the other.
-use Rattle.std.proofs.Common.{◌≡◌, ℕ, ◌<◌, List}
+use Rattle.std.proofs.Common.{ℕ, ◌<◌, List}
 use Rattle.std.specs.Prelude.{Option, Some, None, IfSome, length}
-use Rattle.library_stream.specs.Answering.{Takes, StopsAtLimit, FrontHanded}
+use Rattle.library_stream.specs.Answering.{Takes, StopsAtLimit}
 use Rattle.library_stream.specs.Streaming.{Streaming, opened}
 use Rattle.library_stream.proofs.AheadLaws.{handed_front}
 use Rattle.union_program.specs.Streams.{Frame}

@@ -1,14 +1,12 @@
 -- One frame more.
 use Rattle.std.proofs.Common.{◌≡◌, ℕ, suc, ◌+◌, Bool, true, false, not, cond, List, [], ◌∷◌, ◌++◌, length, append_assoc, append-nil, refl, sym, ap, ◌∙◌, arith, add-zero}
-use Rattle.std.specs.Prelude.{map, filter, count_by, is_none, Option, Some, None}
-use Rattle.std.proofs.lemmas.List.{map-append, length_push}
+use Rattle.std.specs.Prelude.{map, filter, count_by, is_none, Some, None}
+use Rattle.std.proofs.lemmas.List.{map-append}
 use Rattle.std.proofs.lemmas.List.Elements.{filter-append}
 use Rattle.std.proofs.lemmas.List.Sums.{fold-append}
-use Rattle.iso2709_frame.specs.declared.cut.Cut.{Cut}
 use Rattle.marc_fields.specs.declared.rules.Failure.{Failure}
 use Rattle.marc_parts.specs.Loads.{is_deleted}
 use Rattle.marc_rules.specs.NineteenRules.{status_of}
-use Rattle.union_program.specs.declared.refused.RefusedFrame.{RefusedFrame}
 use Rattle.union_program.specs.Streams.{Frame, failure_of, is_accepted, accepted}
 use Rattle.union_program.specs.Reports.{refusal_of, refused_from, refused, is_withdrawing, loads, withdrawals}
 

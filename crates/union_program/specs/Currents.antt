@@ -1,5 +1,5 @@
 -- The records of a library that are current: of those with one control number, the last that was loaded.
-use Rattle.std.specs.Prelude.{ℕ, Bool, not, List, [], ◌∷◌, fold, count_by, is_some}
+use Rattle.std.specs.Prelude.{ℕ, Bool, List, [], ◌∷◌, is_some}
 use Rattle.std.specs.declared.cmp.Ordering.{Ordering}
 use Rattle.std.specs.Ordering.{nat_cmp, ordering_then}
 use Rattle.std.specs.Cmp.Lexicographic.{slice_cmp}
@@ -33,21 +33,7 @@ put_under all id value = insert_entry id_cmp all id value
 abbrev pub load : List ℕ → MapOf Record → Record → MapOf Record
 load library all r = put_under all (id_of library r) r
 
--- the current records when these were loaded in their order
-abbrev pub current : List ℕ → List Record → MapOf Record
-current library records = fold (load library) [] records
-
--- for each record that is loaded, in their order, whether one with its id was current just before
+-- for each record that is loaded over these, in their order, whether one with its id was current just before
 abbrev pub meetings_from : List ℕ → MapOf Record → List Record → List Bool
 meetings_from library all [] = []
 meetings_from library all (r ∷ records) = is_current all (id_of library r) ∷ meetings_from library (load library all r) records
-
-abbrev pub meetings : List ℕ → List Record → List Bool
-meetings library records = meetings_from library [] records
-
--- how many replaced one, and how many were added
-abbrev pub replaced : List ℕ → List Record → ℕ
-replaced library records = count_by (λ met. met) (meetings library records)
-
-abbrev pub added : List ℕ → List Record → ℕ
-added library records = count_by not (meetings library records)

@@ -1,13 +1,12 @@
 -- What libraries deliver, and the records that are current then: of those under one id, the last that was loaded.
-use Rattle.std.specs.Prelude.{◌≡◌, ℕ, Bool, not, nat_lt, if◌then◌else◌, List, [], ◌∷◌, ◌++◌, length, map, fold, count_by}
+use Rattle.std.specs.Prelude.{ℕ, Bool, not, nat_lt, if◌then◌else◌, List, [], ◌∷◌, ◌++◌, length, fold, count_by}
 use Rattle.std.specs.List.{list_any}
 use Rattle.marc_fields.specs.declared.marc_record.Record.{Record}
 use Rattle.union_words.specs.declared.status.Status.{Status}
 use Rattle.union_words.specs.declared.status.Status.TheVariants.{Done, DoneWithRefusals}
 use Rattle.union_program.specs.Streams.{Frame, accepted, AreSpelled}
-use Rattle.union_program.specs.Reports.{refused, refused_lines, withdrawals}
+use Rattle.union_program.specs.Reports.{refused, refused_lines, withdrawals, report_line}
 use Rattle.union_program.specs.Currents.{MapOf, load, meetings_from}
-use Rattle.union_program.specs.Exports.{report_line}
 
 -- the frames of a library's source
 pub record Delivery : Type 0 where

@@ -1,15 +1,11 @@
 pub mod Streams
 pub mod Reports
 pub mod Tallies
-pub mod Exported
 pub mod Currents
-pub mod Exports
-pub mod Loadings
 pub mod Stops
 pub mod Readings
 pub mod Inputs
 pub mod Runs
-pub mod Prepared
 pub mod Deliveries
 pub mod Merged
 pub mod Unions

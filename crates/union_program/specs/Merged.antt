@@ -24,15 +24,12 @@ left_lines editions = flat_map left_line (left_of editions)
 pub record IsUnionOutput (all : List Delivery) (out notes : List ℕ) : Type 0 where
   pub batches : List Batch
   pub delivered : map delivered batches ≡ all
-
   -- the edition of each current record, in order of the ids
   pub bases : List Edition
   pub edited : map (λ pair. edition pair.0.library pair.1) (current_of batches) ≡ map Some bases
-
   -- their resolution, in order of the least contributors
   pub editions : List Edition
   pub resolved : IsOrderedResolution bases editions
-
   -- what is written
   pub export : out ≡ export_text editions
   pub told : notes ≡ reports_of batches ++ left_lines editions

@@ -1,5 +1,5 @@
 -- What is told of a library's frames.
-use Rattle.std.specs.Prelude.{ℕ, suc, Bool, not, ◌==◌, List, [], ◌∷◌, ◌++◌, length, count_by, decimal, codes, Option, None, Some}
+use Rattle.std.specs.Prelude.{ℕ, suc, Bool, not, List, [], ◌∷◌, ◌++◌, length, count_by, decimal, codes, Option, None, Some}
 use Rattle.std.specs.List.{flat_map}
 use Rattle.marc_fields.specs.declared.rules.Rule.{Rule}
 use Rattle.marc_fields.specs.declared.rules.Rule.TheVariants.{Truncated, TooLong, TooShort, LengthDigits, LengthDiffers, BaseAddress, LeaderCounts, EntryDigits, Tag, Tiling, Status, Coding, NotUtf8, ControlShape, DataShape, ControlNumber, Repeated, Fixed008, Title245}
@@ -79,3 +79,14 @@ check_line library frames load withdraw refused =
 abbrev pub check_text : List ℕ → List Frame → List ℕ
 check_text library all =
     refused_lines library (refused all) ++ check_line library (length all) (loads all) (withdrawals all) (length (refused all))
+
+-- `LIB frames F added A replaced R removed D absent X refused N`
+unfoldable pub report_line : List ℕ → ℕ → ℕ → ℕ → ℕ → ℕ → ℕ → List ℕ
+report_line library frames added replaced removed absent refused =
+    library
+    ++ (counted (codes "frames") frames
+    ++ (counted (codes "added") added
+    ++ (counted (codes "replaced") replaced
+    ++ (counted (codes "removed") removed
+    ++ (counted (codes "absent") absent
+    ++ (counted (codes "refused") refused ++ 0x0A ∷ []))))))

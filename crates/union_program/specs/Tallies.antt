@@ -1,5 +1,5 @@
 -- What a count of frames says.
-use Rattle.std.specs.Prelude.{◌≡◌, ℕ, List, length}
+use Rattle.std.specs.Prelude.{◌≡◌, List, length}
 use Rattle.union_program.specs.Streams.{Frame}
 use Rattle.union_program.specs.Reports.{loads, withdrawals, refused}
 use Rattle.union_program.specs.declared.tally.Tally.{Tally}

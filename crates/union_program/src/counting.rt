@@ -60,12 +60,7 @@ impl Tally {
 }
 
 /// Counts a frame by the first rule that it breaks, or by its status.
-pub fn count_frame(
-    alloc: Global,
-    tally: &mut Tally,
-    cut: Cut,
-    frame: &[u8],
-) -> Result<(), Memory>
+pub fn count_frame(alloc: Global, tally: &mut Tally, cut: Cut, frame: &[u8]) -> Result<(), Memory>
     requires whole { cut ≡ Cut.Whole → IsWhole frame.now }
     requires room { tally.old.frames < u64.MAX }
     ensures counted { OnOk result ((all : List Frame) → IsTally all tally.old → IsTally (all ++ (cut, frame.now) ∷ []) tally.new) }

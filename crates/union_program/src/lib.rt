@@ -6,14 +6,8 @@ pub mod batches;
 pub mod check;
 pub mod counting;
 pub mod current_editions;
-pub mod currents;
-pub mod export;
-pub mod exporting;
-pub mod limits;
 pub mod lines;
 pub mod loaded;
-pub mod loading;
-pub mod loads;
 pub mod merging;
 pub mod notes;
 pub mod opened_file;
@@ -27,5 +21,9 @@ pub mod shelved;
 pub mod stop;
 pub mod tally;
 
+#[cfg(test)]
+mod merged_tests;
+#[cfg(test)]
+mod tests;
 #[cfg(test)]
 mod union_tests;

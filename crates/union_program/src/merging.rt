@@ -54,10 +54,7 @@ fn values_of(
 }
 
 /// What the editions resolve to, in order of the least contributors.
-pub fn merged(
-    alloc: Global,
-    editions: BTreeMap<RecordId, Edition>,
-) -> Result<Vec<Edition>, Memory>
+pub fn merged(alloc: Global, editions: BTreeMap<RecordId, Edition>) -> Result<Vec<Edition>, Memory>
     ensures { IfOk result (λ found. IsOrderedResolution (values editions) found.items) }
 {
     sorted_resolution_is_ordered();
@@ -68,11 +65,7 @@ pub fn merged(
 }
 
 /// The export of the editions; adds a line to the notes for each of which fields were left out.
-pub fn exported(
-    alloc: Global,
-    editions: &[Edition],
-    notes: &mut Vec<u8>,
-) -> Result<Vec<u8>, Memory>
+pub fn exported(alloc: Global, editions: &[Edition], notes: &mut Vec<u8>) -> Result<Vec<u8>, Memory>
     ensures text { IfOk result (λ text. text.items ≡ export_text editions.now) }
     ensures notes { IfOk result (λ _. notes.new.items ≡ notes.old.items ++ left_lines editions.now) }
 {

@@ -1,12 +1,11 @@
 //! The reports on libraries, and the lines on editions of which fields were left out.
 //!
-//! Each function adds its text behind what stands in a buffer. The texts are those of specs/Exports.antt and
+//! Each function adds its text behind what stands in a buffer. The texts are those of specs/Reports.antt and
 //! specs/Merged.antt.
 ghost use Rattle.std.specs.Prelude.{◌≡◌, ◌++◌, length, OnOk};
 ghost use Rattle.std.specs.List.{flat_map};
-ghost use Rattle.union_program.specs.Exports.{report_line};
 ghost use Rattle.union_program.specs.Merged.{left_line};
-ghost use Rattle.union_program.specs.Reports.{refused_lines};
+ghost use Rattle.union_program.specs.Reports.{refused_lines, report_line};
 
 use crate::batch_counts::BatchCounts;
 use crate::lines::{add_counted, add_refused_lines};
@@ -26,7 +25,11 @@ fn add_counts(text: &mut Vec<u8>, library: &[u8], counts: &BatchCounts) -> Resul
     add_counted(text, b"replaced", counts.replaced)?;
     add_counted(text, b"removed", 0)?;
     add_counted(text, b"absent", 0)?;
-    add_counted(text, b"refused", counts.tally.refused.as_slice().len() as u64)?;
+    add_counted(
+        text,
+        b"refused",
+        counts.tally.refused.as_slice().len() as u64,
+    )?;
     text.push(b'\n')?;
     Ok(())
 }

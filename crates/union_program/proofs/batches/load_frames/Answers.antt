@@ -37,11 +37,10 @@ loop-cut-preserved g c =
 pub returns-in-End-clause-reads : goal.returns-in-End-clause-reads
 returns-in-End-clause-reads g c =
     let before = c.loop-cut.invariant in
-    let told = g.S.Source.left c.args.source.now in
-    (
+    let told = g.S.Source.left c.args.source.now in (
       c.in-End.ensures.faults ∙ before.faults,
       on_told told
-      (λ bytes handed. (handed.fits, subst (λ fs. IsBatchLoaded c.args.library.now c.args.editions.now.entries fs c.loop-cut.counts c.loop-cut.editions.entries) (sym handed.all) before.loaded))
-      (handed_all LARGEST_SOURCE c.loop-cut.reader c.next.new.self told (g.S.Source.left c.loop-cut.source) (g.S.Source.left c.next.new.source) before.all
-      before.taken c.in-End.ensures.answers),
+          (λ bytes handed. (handed.fits, subst (λ fs. IsBatchLoaded c.args.library.now c.args.editions.now.entries fs c.loop-cut.counts c.loop-cut.editions.entries) (sym handed.all) before.loaded))
+          (handed_all LARGEST_SOURCE c.loop-cut.reader c.next.new.self told (g.S.Source.left c.loop-cut.source) (g.S.Source.left c.next.new.source) before.all
+          before.taken c.in-End.ensures.answers),
     )

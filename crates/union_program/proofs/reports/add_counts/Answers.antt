@@ -1,5 +1,5 @@
 use Rattle.std.proofs.Common.{append_assoc}
-use Rattle.union_program.specs.Exports.{report_line}
+use Rattle.union_program.specs.Reports.{report_line}
 use Rattle.union_program.proofs.reports.add_counts.Goals as goal
 
 pub returns : goal.returns
