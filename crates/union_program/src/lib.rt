@@ -8,6 +8,8 @@ pub mod counting;
 pub mod current_editions;
 pub mod lines;
 pub mod loaded;
+#[cfg(test)]
+mod merged_tests;
 pub mod merging;
 pub mod notes;
 pub mod opened_file;
@@ -20,9 +22,6 @@ pub mod run;
 pub mod shelved;
 pub mod stop;
 pub mod tally;
-
-#[cfg(test)]
-mod merged_tests;
 #[cfg(test)]
 mod tests;
 #[cfg(test)]

@@ -147,14 +147,54 @@ fn one_library_is_exported(rt: HostRuntime) -> Result<(), Fail> {
     let two = joined(alloc, &[ONE, b"\r\n", OTHER])?;
     let both = joined(alloc, &[EXPORT, OTHER_EXPORT])?;
     let truncated = joined(alloc, &[ONE, ONE.as_slice().split_at(50).0])?;
-    assert!(rt; ends(&rt, b"export LIBA=a", &calm(ONE, b"", b""), Status::Done,
-        (EXPORT, b"LIBA frames 1 added 1 replaced 0 removed 0 absent 0 refused 0\n"))?);
-    assert!(rt; ends(&rt, b"export LIBA=a", &calm(b"\r\n", b"", b""), Status::Done,
-        (b"", b"LIBA frames 0 added 0 replaced 0 removed 0 absent 0 refused 0\n"))?);
-    assert!(rt; ends(&rt, b"export LIBA=a", &calm(two.as_slice(), b"", b""), Status::Done,
-        (both.as_slice(), b"LIBA frames 2 added 2 replaced 0 removed 0 absent 0 refused 0\n"))?);
-    assert!(rt; ends(&rt, b"export LIBA=a", &calm(truncated.as_slice(), b"", b""), Status::DoneWithRefusals,
-        (EXPORT, b"LIBA refused 2 Truncated 0\nLIBA frames 2 added 1 replaced 0 removed 0 absent 0 refused 1\n"))?);
+    assert!(rt;
+        ends(
+            &rt,
+            b"export LIBA=a",
+            &calm(ONE, b"", b""),
+            Status::Done,
+            (
+                EXPORT,
+                b"LIBA frames 1 added 1 replaced 0 removed 0 absent 0 refused 0\n"
+            )
+        )?
+    );
+    assert!(rt;
+        ends(
+            &rt,
+            b"export LIBA=a",
+            &calm(b"\r\n", b"", b""),
+            Status::Done,
+            (
+                b"",
+                b"LIBA frames 0 added 0 replaced 0 removed 0 absent 0 refused 0\n"
+            )
+        )?
+    );
+    assert!(rt;
+        ends(
+            &rt,
+            b"export LIBA=a",
+            &calm(two.as_slice(), b"", b""),
+            Status::Done,
+            (
+                both.as_slice(),
+                b"LIBA frames 2 added 2 replaced 0 removed 0 absent 0 refused 0\n"
+            )
+        )?
+    );
+    assert!(rt;
+        ends(
+            &rt,
+            b"export LIBA=a",
+            &calm(truncated.as_slice(), b"", b""),
+            Status::DoneWithRefusals,
+            (
+                EXPORT,
+                b"LIBA refused 2 Truncated 0\nLIBA frames 2 added 1 replaced 0 removed 0 absent 0 refused 1\n"
+            )
+        )?
+    );
     Ok(())
 }
 
@@ -171,9 +211,11 @@ const ORDERS: [[usize; 3]; 6] = [
 /// Whether the bridge is exported so from one library, in each order of its records.
 fn is_bridged_in_one(rt: &HostRuntime, order: [usize; 3]) -> Result<bool, Fail> {
     let [one, two, three] = order;
-    let (Some(first), Some(second), Some(third)) =
-        (BRIDGE.get(one), BRIDGE.get(two), BRIDGE.get(three))
-    else {
+    let (Some(first), Some(second), Some(third)) = (
+        BRIDGE.get(one),
+        BRIDGE.get(two),
+        BRIDGE.get(three),
+    ) else {
         return Ok(false);
     };
     let file = joined(rt.alloc(), &[first, second, third])?;
@@ -225,13 +267,41 @@ fn no_order_changes_the_export(rt: HostRuntime) -> Result<(), Fail> {
     }
     let [a, b, c] = BRIDGE;
     for (line, report) in COMMANDS {
-        assert!(rt; ends(&rt, line, &calm(a, b, c), Status::Done, (BRIDGED_IN_THREE, report))?);
+        assert!(rt;
+            ends(
+                &rt,
+                line,
+                &calm(a, b, c),
+                Status::Done,
+                (BRIDGED_IN_THREE, report)
+            )?
+        );
     }
     for pair in [joined(alloc, &[a, b])?, joined(alloc, &[b, a])?] {
-        assert!(rt; ends(&rt, b"export LIBA=a LIBB=c", &calm(pair.as_slice(), b"", c), Status::Done,
-            (BRIDGED_IN_TWO, b"LIBA frames 2 added 2 replaced 0 removed 0 absent 0 refused 0\nLIBB frames 1 added 1 replaced 0 removed 0 absent 0 refused 0\n"))?);
-        assert!(rt; ends(&rt, b"export LIBB=c LIBA=a", &calm(pair.as_slice(), b"", c), Status::Done,
-            (BRIDGED_IN_TWO, b"LIBB frames 1 added 1 replaced 0 removed 0 absent 0 refused 0\nLIBA frames 2 added 2 replaced 0 removed 0 absent 0 refused 0\n"))?);
+        assert!(rt;
+            ends(
+                &rt,
+                b"export LIBA=a LIBB=c",
+                &calm(pair.as_slice(), b"", c),
+                Status::Done,
+                (
+                    BRIDGED_IN_TWO,
+                    b"LIBA frames 2 added 2 replaced 0 removed 0 absent 0 refused 0\nLIBB frames 1 added 1 replaced 0 removed 0 absent 0 refused 0\n"
+                )
+            )?
+        );
+        assert!(rt;
+            ends(
+                &rt,
+                b"export LIBB=c LIBA=a",
+                &calm(pair.as_slice(), b"", c),
+                Status::Done,
+                (
+                    BRIDGED_IN_TWO,
+                    b"LIBB frames 1 added 1 replaced 0 removed 0 absent 0 refused 0\nLIBA frames 2 added 2 replaced 0 removed 0 absent 0 refused 0\n"
+                )
+            )?
+        );
     }
     Ok(())
 }
@@ -263,7 +333,11 @@ fn fields_that_do_not_fit_are_left_out(rt: HostRuntime) -> Result<(), Fail> {
     let record = largest(alloc, 9_769)?;
     assert_eq!(rt; record.as_slice().len(), 99_999);
     let mut shelf = shelf_of(alloc, &calm(record.as_slice(), b"", b""))?;
-    let mut out = MemSink::new(Vec::new(alloc), Vec::with_capacity(alloc, 100_000)?, 100_000);
+    let mut out = MemSink::new(
+        Vec::new(alloc),
+        Vec::with_capacity(alloc, 100_000)?,
+        100_000,
+    );
     let mut notes = MemSink::new(Vec::new(alloc), Vec::with_capacity(alloc, 4096)?, 4096);
     let words = words(alloc, b"export LIBA=a")?;
     let ended = union_run(
@@ -277,10 +351,23 @@ fn fields_that_do_not_fit_are_left_out(rt: HostRuntime) -> Result<(), Fail> {
     );
     assert!(rt; ended == Status::Done);
     assert_eq!(rt; out.content().len(), 90_291);
-    assert!(rt; notes.content() == b"LIBA frames 1 added 1 replaced 0 removed 0 absent 0 refused 0\nleft LIBA.id 1\n".as_slice());
+    assert!(rt;
+        notes.content()
+            == b"LIBA frames 1 added 1 replaced 0 removed 0 absent 0 refused 0\nleft LIBA.id 1\n".as_slice()
+    );
     let longer = joined(alloc, &[largest(alloc, 9_770)?.as_slice(), ONE])?;
-    assert!(rt; ends(&rt, b"export LIBA=a", &calm(longer.as_slice(), b"", b""), Status::DoneWithRefusals,
-        (EXPORT, b"LIBA refused 1 TooLong 0\nLIBA frames 2 added 1 replaced 0 removed 0 absent 0 refused 1\n"))?);
+    assert!(rt;
+        ends(
+            &rt,
+            b"export LIBA=a",
+            &calm(longer.as_slice(), b"", b""),
+            Status::DoneWithRefusals,
+            (
+                EXPORT,
+                b"LIBA refused 1 TooLong 0\nLIBA frames 2 added 1 replaced 0 removed 0 absent 0 refused 1\n"
+            )
+        )?
+    );
     Ok(())
 }
 
@@ -292,22 +379,57 @@ fn each_fault_of_a_library_has_its_status(rt: HostRuntime) -> Result<(), Fail> {
         most: 50,
         ..calm(ONE, OTHER, b"")
     };
-    assert!(rt; ends(&rt, b"export LIBA=a LIBB=b LIBC=c", &failing, Status::ReadFault(library(b"LIBB")?),
-        (b"", b"union: read failed in LIBB\n"))?);
-    assert!(rt; ends(&rt, b"export LIBA=a LIBB=x LIBC=c", &failing, Status::OpenFault(library(b"LIBB")?),
-        (b"", b"union: cannot open LIBB\n"))?);
-    assert!(rt; ends(&rt, b"export LIBA=b LIBB=x", &failing, Status::OpenFault(library(b"LIBB")?),
-        (b"", b"union: cannot open LIBB\n"))?);
-    assert!(rt; ends(&rt, b"export LIBA=a LIBB=c", &calm(ONE, b"", WITHDRAWAL), Status::NotBuilt,
-        (b"", b"union: not built\n"))?);
+    assert!(rt;
+        ends(
+            &rt,
+            b"export LIBA=a LIBB=b LIBC=c",
+            &failing,
+            Status::ReadFault(library(b"LIBB")?),
+            (b"", b"union: read failed in LIBB\n")
+        )?
+    );
+    assert!(rt;
+        ends(
+            &rt,
+            b"export LIBA=a LIBB=x LIBC=c",
+            &failing,
+            Status::OpenFault(library(b"LIBB")?),
+            (b"", b"union: cannot open LIBB\n")
+        )?
+    );
+    assert!(rt;
+        ends(
+            &rt,
+            b"export LIBA=b LIBB=x",
+            &failing,
+            Status::OpenFault(library(b"LIBB")?),
+            (b"", b"union: cannot open LIBB\n")
+        )?
+    );
+    assert!(rt;
+        ends(
+            &rt,
+            b"export LIBA=a LIBB=c",
+            &calm(ONE, b"", WITHDRAWAL),
+            Status::NotBuilt,
+            (b"", b"union: not built\n")
+        )?
+    );
     let two = joined(alloc, &[ONE, b"\r\n", OTHER])?;
     let both = joined(alloc, &[EXPORT, OTHER_EXPORT])?;
     let narrow = Files {
         limit: 200,
         ..calm(two.as_slice(), b"", b"")
     };
-    assert!(rt; ends(&rt, b"export LIBA=a", &narrow, Status::WriteFault,
-        (both.as_slice().split_at(200).0, b""))?);
+    assert!(rt;
+        ends(
+            &rt,
+            b"export LIBA=a",
+            &narrow,
+            Status::WriteFault,
+            (both.as_slice().split_at(200).0, b"")
+        )?
+    );
     Ok(())
 }
 
@@ -326,7 +448,15 @@ const NO_FORMS: [&[u8]; 8] = [
 #[test]
 fn words_in_no_form_end_at_once(rt: HostRuntime) -> Result<(), Fail> {
     for line in NO_FORMS {
-        assert!(rt; ends(&rt, line, &calm(ONE, ONE, ONE), Status::Usage, (b"", b"union: bad command line\n"))?);
+        assert!(rt;
+            ends(
+                &rt,
+                line,
+                &calm(ONE, ONE, ONE),
+                Status::Usage,
+                (b"", b"union: bad command line\n")
+            )?
+        );
     }
     Ok(())
 }
