@@ -1,6 +1,5 @@
 -- What the stream of a library says: which of its frames are refused, and the records of the others.
 use Rattle.std.specs.Prelude.{ℕ, Bool, List, [], ◌∷◌, map, filter, Option, is_none}
-use Rattle.iso2709_frame.specs.Frames.{frames}
 use Rattle.iso2709_frame.specs.declared.cut.Cut.{Cut}
 use Rattle.marc_fields.specs.Spelling.{Spells}
 use Rattle.marc_fields.specs.declared.marc_record.Record.{Record}
@@ -29,7 +28,3 @@ AreSpelled [] [] = Unit {0}
 AreSpelled (frame ∷ rest) (r ∷ records) = Spells frame r × AreSpelled rest records
 AreSpelled [] (r ∷ records) = ⊥
 AreSpelled (frame ∷ rest) [] = ⊥
-
--- these are the records of the stream's accepted frames, in their order
-abbrev pub AreRecordsOf : List ℕ → List Record → Type 0
-AreRecordsOf stream records = AreSpelled (accepted (frames stream)) records
