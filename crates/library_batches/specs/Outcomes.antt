@@ -1,5 +1,5 @@
 -- What came of operations, counted.
-use Rattle.std.specs.Prelude.{◌≡◌, ℕ, Bool, true, false, List, [], ◌∷◌, ◌++◌, fold, count_by}
+use Rattle.std.specs.Prelude.{◌≡◌, ℕ, ◌+◌, Bool, true, false, List, [], ◌∷◌, ◌++◌, fold, count_by}
 use Rattle.catalogue_core.specs.Histories.{MapOf, after_batch, outcomes}
 use Rattle.catalogue_core.specs.declared.edition.Edition.{Edition}
 use Rattle.catalogue_core.specs.declared.batch.Batch.{Batch}
@@ -46,3 +46,7 @@ pub record AreCounted (found : List Outcome) (counts : OutcomeCounts) : Type 0 w
   pub replaced : counts.replaced ≡ count_by is_replaced found
   pub removed : counts.removed ≡ count_by is_removed found
   pub absent : counts.absent ≡ count_by is_absent found
+
+-- how many outcomes were counted
+abbrev pub counted : OutcomeCounts → ℕ
+counted counts = counts.added + counts.replaced + counts.removed + counts.absent

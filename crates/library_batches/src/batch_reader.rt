@@ -55,6 +55,7 @@ impl BatchReader {
     /// was not whole by then are dropped, and the reader is not to be asked again.
     pub fn next<S: Source>(&mut self, _alloc: Global, source: &mut S) -> Result<Option<Batch>, Stop>
         ensures name { S.name source.new ≡ S.name source.old }
+        ensures library { self.new.library ≡ self.old.library }
         ensures answers { Answers result self.old (S.left source.old) self.new (S.left source.new) }
         ensures failed { result ≡ Err Stop.Failed → Rose (S.faults source.old) (S.faults source.new) }
         ensures calm { result ≢ Err Stop.Failed → S.faults source.new ≡ S.faults source.old }
