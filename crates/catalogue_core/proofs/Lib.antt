@@ -1,5 +1,6 @@
 mod KeyTexts
 mod EditionTexts
 mod Apart
+mod Placing
 mod Runs
 pub mod SameEditions
