@@ -1,8 +1,7 @@
 -- Places of loaded editions, under ids, as operations are applied.
-use Rattle.std.proofs.Common.{◌≡◌, ℕ, zero, suc, ◌+◌, ◌<◌, ◌≤◌, Bool, true, false, cond, List, [], ◌∷◌, ◌++◌, length, get_or, drop, refl, sym, ap, subst, ◌∙◌, add-one, append_assoc, arith}
+use Rattle.std.proofs.Common.{◌≡◌, ℕ, zero, suc, ◌+◌, ◌<◌, ◌≤◌, Bool, true, false, cond, List, [], ◌∷◌, ◌++◌, length, get_or, drop, refl, sym, ap, subst, ◌∙◌, add-one, append_assoc}
 use Rattle.std.specs.Prelude.{map, fold, Option, Some, None, is_some, slice_get}
 use Rattle.std.specs.Option.{option_map, option_and_then}
-use Rattle.std.specs.declared.cmp.Ordering.{Ordering}
 use Rattle.std.specs.declared.cmp.Ordering.TheVariants.{Less, Equal, Greater}
 use Rattle.std.specs.Ordering.{match_ordering, ordering_reverse}
 use Rattle.std.specs.List.{AllByRecursion}
@@ -17,7 +16,7 @@ use Rattle.union_base.specs.declared.record_id.RecordId.{RecordId}
 use Rattle.field_merge.specs.Kept.{id_cmp}
 use Rattle.field_merge.specs.KeptLaws.{id_total}
 use Rattle.catalogue_core.specs.Ids.{least}
-use Rattle.catalogue_core.specs.Histories.{MapOf, at_id, id_of, is_current, after_op, after_batch, current, outcome_of, outcomes}
+use Rattle.catalogue_core.specs.Histories.{MapOf, at_id, is_current, after_op, after_batch, outcome_of, outcomes}
 use Rattle.catalogue_core.specs.Keeping.{batches, loaded, loaded_at, map_values, placed, StandFor}
 use Rattle.catalogue_core.specs.declared.history_entry.HistoryEntry.{HistoryEntry}
 use Rattle.catalogue_core.specs.declared.edition.Edition.{Edition}
@@ -34,7 +33,7 @@ insert-values : {X Y : Type 0} (f : X → Y) (all : MapOf X) (id : RecordId) (x 
 insert-values f [] id x = refl
 insert-values {X} {Y} f (e ∷ es) id x =
     elim (id_cmp id e.0) as (λ r. map_values f (match_ordering r ((id, x) ∷ e ∷ es) ((e.0, x) ∷ es) (e ∷ insert_entry id_cmp es id x))
-        ≡ match_ordering r ((id, f x) ∷ map_values f (e ∷ es)) ((e.0, f x) ∷ map_values f es) ((e.0, f e.1) ∷ insert_entry id_cmp (map_values f es) id (f x))) [
+    ≡ match_ordering r ((id, f x) ∷ map_values f (e ∷ es)) ((e.0, f x) ∷ map_values f es) ((e.0, f e.1) ∷ insert_entry id_cmp (map_values f es) id (f x))) [
       | Less ↦ refl
       | Equal ↦ refl
       | Greater ↦ ap (λ (rest : MapOf Y). (e.0, f e.1) ∷ rest) (insert-values f es id x)
@@ -145,8 +144,7 @@ pub goes-done : (before : List Batch) (batch : Batch) (all : MapOf Edition) (pla
     → (ops : List Op) → ops ≡ batch.ops → length ops ≤ i
     → StandFor (before ++ batch ∷ []) places (after_batch all batch) × (found ≡ outcomes batch.library all batch.ops)
 goes-done before batch all places found i g ops same past =
-    let none : drop i batch.ops ≡ [] = drop_of_length-le batch.ops (subst (λ xs. length xs ≤ i) same past) in
-    (
+    let none : drop i batch.ops ≡ [] = drop_of_length-le batch.ops (subst (λ xs. length xs ≤ i) same past) in (
       subst (StandFor (before ++ batch ∷ []) places) (sym (ap (fold (after_op batch.library) g.now) none) ∙ g.left) g.stands,
       sym (append-nil found) ∙ sym (ap (λ xs. found ++ outcomes batch.library g.now xs) none) ∙ g.answers,
     )

@@ -1,9 +1,8 @@
 -- What a catalogue keeps beside its history: where each current record was loaded, and the editions.
-use Rattle.std.specs.Prelude.{◌≡◌, ℕ, List, [], ◌∷◌, map, Option, Some, None, slice_get}
+use Rattle.std.specs.Prelude.{◌≡◌, ℕ, List, map, Option, Some, None, slice_get}
 use Rattle.std.specs.Option.{option_and_then}
 use Rattle.std.specs.BTreeMap.{is_at, insert_entry}
 use Rattle.std.specs.Map.{remove_entry}
-use Rattle.union_base.specs.declared.record_id.RecordId.{RecordId}
 use Rattle.field_merge.specs.Kept.{id_cmp}
 use Rattle.catalogue_core.specs.Ids.{least}
 use Rattle.catalogue_core.specs.Histories.{MapOf, id_of, current as current_of, AreEditionsOf}

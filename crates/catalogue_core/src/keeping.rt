@@ -50,11 +50,7 @@ fn loaded_at(history: &[HistoryEntry], place: Place) -> Option<&Edition>
 }
 
 /// The same of a history and one more batch. Takes no memory.
-fn loaded_in<'a>(
-    history: &'a [HistoryEntry],
-    batch: &'a Batch,
-    place: Place,
-) -> Option<&'a Edition>
+fn loaded_in<'a>(history: &'a [HistoryEntry], batch: &'a Batch, place: Place) -> Option<&'a Edition>
     ensures { option_copied result ≡ loaded_at (batches history.now ++ batch.now ∷ []) place }
 {
     if place.turn == history.len() {
@@ -135,7 +131,7 @@ fn place_ops(
     ensures { IfOk result (λ found. (before : List BatchModel) (all : MapOf EditionModel) → length before ≡ turn
         → StandFor (before ++ batch.now ∷ []) places.old.entries all
         → StandFor (before ++ batch.now ∷ []) places.new.entries (after_batch all batch.now)
-            × (found.items ≡ outcomes batch.now.library all batch.now.ops)) }
+        × (found.items ≡ outcomes batch.now.library all batch.now.ops)) }
 {
     let ops = batch.ops.as_slice();
     let mut outcomes = Vec::with_capacity(alloc, ops.len())?;
@@ -166,6 +162,7 @@ fn editions_at(
 }
 
 /// What a turn makes of a catalogue: the places and the editions after it, and what came of its operations.
+#[derive(Drop)]
 pub struct Turn {
     pub places: BTreeMap<RecordId, Place>,
     pub editions: Vec<Edition>,

@@ -24,4 +24,5 @@ mod place;
 pub mod records;
 #[cfg(test)]
 mod tests;
+mod walking;
 pub mod work_key;

@@ -1,6 +1,5 @@
 -- some records are current, at which the places stand, and from which the operations that are left go on
-use Rattle.std.proofs.Common.{◌≡◌, ◌++◌, ◌∷◌, [], List, length, drop}
-use Rattle.std.specs.Prelude.{fold}
+use Rattle.std.proofs.Common.{◌≡◌, ◌++◌, ◌∷◌, [], List, length}
 use Rattle.catalogue_core.specs.declared.edition.Edition.{Edition}
 use Rattle.catalogue_core.specs.declared.batch.Batch.{Batch}
 use Rattle.catalogue_core.specs.Histories.{MapOf}

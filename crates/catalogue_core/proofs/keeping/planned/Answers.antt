@@ -1,9 +1,9 @@
-use Rattle.std.proofs.Common.{◌++◌, ◌∷◌, [], subst}
+use Rattle.std.proofs.Common.{◌∷◌, [], subst}
 use Rattle.std.specs.Map.{values_of}
 use Rattle.merge_laws.specs.Resolution.{IsResolution}
 use Rattle.catalogue_core.specs.Histories.{after_batch, current}
 use Rattle.catalogue_core.specs.Joining.{join}
-use Rattle.catalogue_core.specs.Keeping.{batches, StandFor}
+use Rattle.catalogue_core.specs.Keeping.{batches}
 use Rattle.catalogue_core.specs.Matching.{match}
 use Rattle.catalogue_core.proofs.Apart.{ordered-from_sorted}
 use Rattle.catalogue_core.proofs.Placing.{stand-grown, length-batches}
