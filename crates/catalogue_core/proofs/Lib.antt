@@ -1,5 +1,7 @@
 mod KeyTexts
 mod EditionTexts
 mod Apart
+mod Placing
+mod Looking
 mod Runs
 pub mod SameEditions
