@@ -2,6 +2,7 @@ mod KeyTexts
 mod EditionTexts
 mod Apart
 mod Placing
+mod Growing
 mod Looking
 mod Runs
 pub mod SameEditions

@@ -16,7 +16,7 @@ use Rattle.union_base.specs.declared.record_id.RecordId.{RecordId}
 use Rattle.field_merge.specs.Kept.{id_cmp}
 use Rattle.field_merge.specs.KeptLaws.{id_total}
 use Rattle.catalogue_core.specs.Ids.{least}
-use Rattle.catalogue_core.specs.Histories.{MapOf, at_id, is_current, after_op, after_batch, outcome_of, outcomes}
+use Rattle.catalogue_core.specs.Histories.{MapOf, at_id, is_current, after_op, after_batch, current, outcome_of, outcomes}
 use Rattle.catalogue_core.specs.Keeping.{batches, loaded, loaded_at, map_values, placed, StandFor}
 use Rattle.catalogue_core.specs.declared.history_entry.HistoryEntry.{HistoryEntry}
 use Rattle.catalogue_core.specs.declared.edition.Edition.{Edition}
@@ -180,6 +180,15 @@ stand-grown all more places next editions same s = record {
 pub length-batches : (history : List HistoryEntry) → length (batches history) ≡ length history
 length-batches [] = refl
 length-batches (turn ∷ history) = ap (λ n. suc n) (length-batches history)
+
+-- a turn of a batch over the places of a history
+pub turn-placed : (history : List HistoryEntry) (batch : Batch) (places next after : MapOf Place) (found : List Outcome)
+    → StandFor (batches history) places (current history) → next ≡ places
+    → ((before : List Batch) (all : MapOf Edition) → length before ≡ length history → StandFor (before ++ batch ∷ []) next all
+        → StandFor (before ++ batch ∷ []) after (after_batch all batch) × (found ≡ outcomes batch.library all batch.ops))
+    → StandFor (batches history ++ batch ∷ []) after (after_batch (current history) batch) × (found ≡ outcomes batch.library (current history) batch.ops)
+turn-placed history batch places next after found s same turns =
+    turns (batches history) (current history) (length-batches history) (stand-grown (batches history) (batch ∷ []) places next (current history) same s)
 
 -- ---- a copy of a map, made in order
 

@@ -1,5 +1,5 @@
 -- What a catalogue keeps beside its history: where each current record was loaded, and the editions.
-use Rattle.std.specs.Prelude.{◌≡◌, ℕ, List, map, Option, Some, None, slice_get}
+use Rattle.std.specs.Prelude.{◌≡◌, ℕ, Bool, true, false, List, map, Option, Some, None, slice_get}
 use Rattle.std.specs.Option.{option_and_then}
 use Rattle.std.specs.BTreeMap.{is_at, insert_entry}
 use Rattle.std.specs.Map.{remove_entry}
@@ -11,6 +11,8 @@ use Rattle.catalogue_core.specs.declared.op.Op.{Op}
 use Rattle.catalogue_core.specs.declared.op.Op.TheVariants.{Load, Withdraw}
 use Rattle.catalogue_core.specs.declared.batch.Batch.{Batch}
 use Rattle.catalogue_core.specs.declared.history_entry.HistoryEntry.{HistoryEntry}
+use Rattle.catalogue_core.specs.declared.outcome.Outcome.{Outcome}
+use Rattle.catalogue_core.specs.declared.outcome.Outcome.TheVariants.{Added, Replaced, Removed, Absent}
 use Rattle.catalogue_core.specs.declared.place.Place.{Place}
 
 -- the batches of a history, in order
@@ -34,6 +36,13 @@ map_values f all = map (λ pair. (pair.0, f pair.1)) all
 abbrev pub placed : List ℕ → MapOf Place → Place → Op → MapOf Place
 placed library places place (Load e) = insert_entry id_cmp places (least e) place
 placed library places place (Withdraw number) = remove_entry (is_at (id_cmp (id_of library (Withdraw number)))) places
+
+-- whether an operation of that outcome took away no record
+abbrev pub takes_none : Outcome → Bool
+takes_none Added = true
+takes_none Replaced = false
+takes_none Removed = false
+takes_none Absent = true
 
 -- the places are those, in the batches, at which the editions were loaded, under the same ids
 pub record StandFor (all : List Batch) (places : MapOf Place) (editions : MapOf Edition) : Type 0 where

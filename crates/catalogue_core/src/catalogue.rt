@@ -12,9 +12,10 @@ ghost use Rattle.catalogue_core.specs.Walks.{first_of, first_behind, holder_of};
 use crate::batch::Batch;
 use crate::edition::Edition;
 use crate::history_entry::HistoryEntry;
-use crate::keeping::{base_in, planned};
+use crate::keeping::base_in;
 use crate::outcome::Outcome;
 use crate::place::Place;
+use crate::turn::planned;
 use crate::walking::{first_behind, holder_in};
 use merge_laws::steps::Steps;
 use std::alloc::Global;
@@ -71,7 +72,7 @@ impl Catalogue {
         ensures outcomes { IfOk result (λ found. found.items ≡ outcomes batch.library (current self.old) batch.ops) }
         ensures kept { OnErr result (self.new ≡ self.old) }
     {
-        let turn = planned(alloc, &self.history, &self.places, &batch, steps)?;
+        let turn = planned(alloc, &self.history, &self.places, &self.editions, &batch, steps)?;
         self.history.push(HistoryEntry {
             pass: number,
             batch,

@@ -1,4 +1,4 @@
-//! What a catalogue keeps beside its history, and what a turn makes of it.
+//! Where in its history a catalogue finds its current records, and what a turn makes of that.
 //!
 //! The history is the one owner of the editions that were loaded: under the id of each current record the catalogue keeps the
 //! place in the history at which it was loaded.
@@ -7,30 +7,25 @@ ghost use Rattle.std.specs.Option.{option_copied, option_and_then};
 ghost use Rattle.std.specs.Map.{values_of};
 ghost use Rattle.catalogue_core.specs.declared.edition.Edition.{Edition as EditionModel};
 ghost use Rattle.catalogue_core.specs.declared.batch.Batch.{Batch as BatchModel};
-ghost use Rattle.catalogue_core.specs.Histories.{MapOf, at_id, after_batch, outcome_of, outcomes, current};
+ghost use Rattle.catalogue_core.specs.Histories.{MapOf, at_id, after_batch, outcome_of, outcomes};
 ghost use Rattle.catalogue_core.specs.Keeping.{batches, loaded, loaded_at, placed, StandFor};
-ghost use Rattle.catalogue_core.specs.Resolutions.{IsOrderedResolution};
 
 use crate::batch::Batch;
 use crate::edition::Edition;
 use crate::history_entry::HistoryEntry;
 use crate::op::Op;
-use crate::ordering::sorted_by_least;
 use crate::outcome::Outcome;
 use crate::place::Place;
 use merge_laws::join::Join;
-use merge_laws::steps::Steps;
-use merge_laws::swoosh::resolve_plain;
 use std::alloc::Global;
 use std::collections::BTreeMap;
-use std::sync::ledger::Ledger;
 use union_base::copied::Copied;
 use union_base::library_code::LibraryCode;
 use union_base::memory::Memory;
 use union_base::record_id::RecordId;
 
 /// The edition that the operation loads: None exactly where it is no load. Takes no memory.
-fn loaded(op: &Op) -> Option<&Edition>
+pub fn loaded(op: &Op) -> Option<&Edition>
     ensures { option_copied result ≡ loaded op.now }
 {
     match op {
@@ -74,7 +69,7 @@ pub fn base_in<'a>(
 }
 
 /// A copy of the places. Memory where it runs out.
-fn copied_places(
+pub fn copied_places(
     alloc: Global,
     places: &BTreeMap<RecordId, Place>,
 ) -> Result<BTreeMap<RecordId, Place>, Memory>
@@ -122,7 +117,7 @@ fn place_op(
 
 /// Lets the places follow the operations of a batch, which is that turn, and answers what came of each. Memory where it runs
 /// out.
-fn place_ops(
+pub fn place_ops(
     alloc: Global,
     places: &mut BTreeMap<RecordId, Place>,
     turn: usize,
@@ -143,7 +138,7 @@ fn place_ops(
 }
 
 /// Copies of the editions that were loaded at the places, in order of the ids. Memory where it runs out.
-fn editions_at(
+pub fn editions_at(
     alloc: Global,
     history: &[HistoryEntry],
     batch: &Batch,
@@ -159,39 +154,4 @@ fn editions_at(
         }
     }
     Ok(editions)
-}
-
-/// What a turn makes of a catalogue: the places and the editions after it, and what came of its operations.
-#[derive(Drop)]
-pub struct Turn {
-    pub places: BTreeMap<RecordId, Place>,
-    pub editions: Vec<Edition>,
-    pub outcomes: Vec<Outcome>,
-}
-
-/// What a turn of this batch makes of a catalogue with that history. Counts the match tests. Memory where it runs out.
-pub fn planned<L: Ledger>(
-    alloc: Global,
-    history: &[HistoryEntry],
-    places: &BTreeMap<RecordId, Place>,
-    batch: &Batch,
-    steps: &mut Steps<L>,
-) -> Result<Turn, Memory>
-    requires { StandFor (batches history.now) places.now.entries (current history.now) }
-    ensures places { IfOk result (λ turn. StandFor (batches history.now ++ batch.now ∷ []) turn.places.entries
-        (after_batch (current history.now) batch.now)) }
-    ensures editions { IfOk result (λ turn. IsOrderedResolution
-        (values_of (after_batch (current history.now) batch.now)) turn.editions.items) }
-    ensures outcomes { IfOk result (λ turn. turn.outcomes.items
-        ≡ outcomes batch.now.library (current history.now) batch.now.ops) }
-{
-    let mut next = copied_places(alloc, places)?;
-    let outcomes = place_ops(alloc, &mut next, history.len(), batch)?;
-    let bases = editions_at(alloc, history, batch, &next)?;
-    let editions = sorted_by_least(resolve_plain(bases, steps)?)?;
-    Ok(Turn {
-        places: next,
-        editions,
-        outcomes,
-    })
 }

@@ -24,5 +24,6 @@ mod place;
 pub mod records;
 #[cfg(test)]
 mod tests;
+mod turn;
 mod walking;
 pub mod work_key;
