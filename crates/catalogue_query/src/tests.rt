@@ -1,0 +1,8 @@
+//! Lines.
+use std::test::Fail;
+
+#[test]
+fn nothing(rt: HostRuntime) -> Result<(), Fail> {
+    let _alloc = rt.alloc();
+    Ok(())
+}
