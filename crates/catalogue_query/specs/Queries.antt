@@ -1,5 +1,5 @@
 -- The query of a line. A blank is the byte 0x20 and no other.
-use Rattle.std.specs.Prelude.{ℕ, ◌==◌, ◌&&◌, Bool, not, nat_eq, if◌then◌else◌, Option, Some, None, Result, Ok, Err, List, codes}
+use Rattle.std.specs.Prelude.{ℕ, ◌==◌, ◌&&◌, Bool, not, nat_eq, if◌then◌else◌, Option, Some, None, Result, Err, List, codes}
 use Rattle.std.specs.List.{before_first, after_first}
 use Rattle.std.specs.Option.{ok_or, option_map, option_map_or}
 use Rattle.std.specs.Cmp.Lexicographic.{pointwise}

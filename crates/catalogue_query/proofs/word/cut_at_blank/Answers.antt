@@ -1,4 +1,4 @@
-use Rattle.std.proofs.Common.{◌≡◌, ◌+◌, ℕ, take, drop, length, [], take_all, sym, ap, ◌∙◌, arith}
+use Rattle.std.proofs.Common.{◌+◌, take, drop, take_all, sym, ap, ◌∙◌, arith}
 use Rattle.std.proofs.lemmas.List.{drop_all}
 use Rattle.std.specs.List.{position_or_len}
 use Rattle.catalogue_query.specs.Queries.{is_blank}
