@@ -5,6 +5,7 @@
 #![tactic(auto)]
 
 mod grammar;
+mod lines;
 pub mod query;
 #[cfg(test)]
 mod tests;
