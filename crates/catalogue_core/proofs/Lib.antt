@@ -2,3 +2,4 @@ mod KeyTexts
 mod EditionTexts
 mod Apart
 mod Runs
+pub mod SameEditions

@@ -15,3 +15,7 @@ pub mod RecordsLaws
 pub mod Ids
 pub mod EditionKeys
 pub mod Resolutions
+pub mod Batches
+pub mod Ops
+pub mod Histories
+pub mod Walks

@@ -7,12 +7,17 @@
 //! Cost: merging and matching walk sorted lists side by side.
 #![tactic(auto)]
 
+pub mod batch;
+pub mod catalogue;
 pub mod edition;
+pub mod history_entry;
 pub mod ids;
 pub mod joining;
 pub mod laws;
 pub mod matching;
+pub mod op;
 pub mod ordering;
+pub mod outcome;
 pub mod records;
 #[cfg(test)]
 mod tests;

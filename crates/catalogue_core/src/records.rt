@@ -1,5 +1,8 @@
 //! The edition of one record, as `specs/Records.antt` has it.
 ghost use Rattle.std.specs.Prelude.{◌≡◌, Some, IfOk, IsTrue};
+ghost use Rattle.marc_rules.specs.Accepted.{IsAccepted};
+ghost use Rattle.catalogue_core.specs.Batches.{is_own_op};
+ghost use Rattle.catalogue_core.specs.Ops.{op};
 ghost use Rattle.std.specs.List.{list_all};
 ghost use Rattle.marc_fields.specs.Spelling.{is_short};
 ghost use Rattle.marc_parts.specs.Parts.{control_number};
@@ -7,8 +10,11 @@ ghost use Rattle.marc_parts.specs.Loads.{is_loadable};
 ghost use Rattle.catalogue_core.specs.Records.{IsEditionOf, edition};
 
 use crate::edition::Edition;
+use crate::laws::accepted_can_be_loaded;
+use crate::op::Op;
 use field_merge::making::content_of;
 use marc_fields::marc_record::Record;
+use marc_parts::loads::is_deleted;
 use marc_parts::parts::control_number;
 use match_features::of_record::features_of;
 use std::alloc::Global;
@@ -41,4 +47,23 @@ pub fn control_of(alloc: Global, rec: &Record) -> Result<Bytes, Memory>
     ensures { IfOk result (λ number. number ≡ control_number rec.now) }
 {
     Bytes::of(alloc, control_number(rec))
+}
+
+/// What the library's record asks for: the withdrawal of the record under its control number where its status is `d`, and
+/// else the load of its edition.
+///
+/// Answers `Memory` where memory ran out.
+pub fn op_of(alloc: Global, library: &LibraryCode, rec: &Record) -> Result<Op, Memory>
+    requires { IsAccepted rec.now }
+    ensures value { IfOk result (λ done. op library.now rec.now ≡ Some done) }
+    ensures own { IfOk result (λ done. IsTrue (is_own_op library.now done)) }
+{
+    if is_deleted(rec.leader.status) {
+        let number = control_of(alloc, rec)?;
+        Ok(Op::Withdraw(number))
+    } else {
+        accepted_can_be_loaded();
+        let edition = edition_of(alloc, library, rec)?;
+        Ok(Op::Load(edition))
+    }
 }

@@ -10,6 +10,8 @@
 
 pub mod edition;
 pub mod editions;
+pub mod export;
+pub mod export_fail;
 mod fields;
 mod fitting;
 pub mod laws;

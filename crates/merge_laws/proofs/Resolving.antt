@@ -17,15 +17,6 @@ pub record IsResolving {A : Type 0} (match : A → A → Bool) (merge : A → A 
   pub apart : AreApart match done
 
 module _ {A : Type 0} {match : A → A → Bool} {merge : A → A → A} (join : JoinLaws merge) (laws : MatchLaws match merge) where
-  -- at the start all is left
-  pub resolving_none : (list : List A) → IsResolving match merge list list []
-  resolving_none list = record {
-    left_derives = λ r c. member c;
-    done_derives = λ r (k, kl, e). absurd (omega arith);
-    covered = λ r c. inl (r, c, IsDominated-refl join laws r);
-    apart = AllPairs-none (DoNotMatch match);
-  }
-
   -- a value that matches nothing done is done
   pub resolving_kept : (list left done : List A) (v : A) → IsResolving match merge list (left ++ v ∷ []) done → All (λ x. match v x ≡ false) done → IsResolving match merge list left (done ++ v ∷ [])
   resolving_kept list left done v s none =
@@ -83,17 +74,21 @@ module _ {A : Type 0} {match : A → A → Bool} {merge : A → A → A} (join :
       (λ x c. elim (s.covered x c) [ inl (y, (k, kl, e), d) ↦ absurd (omega arith) | inr covers ↦ covers ])
       s.apart
 
-  -- to insert a value into values that are apart, begin with these as done
-  pub resolving_inserted : (list : List A) (v : A) → AreApart match list → IsResolving match merge (list ++ v ∷ []) (v ∷ []) list
-  resolving_inserted list v apart = record {
-    left_derives = λ r c. member (Contains-append_right list (v ∷ []) r c);
-    done_derives = λ r c. member (Contains-append_left list (v ∷ []) r c);
-    covered = λ r c. elim (Contains-append_cases list (v ∷ []) r c) [
+  -- to resolve values that are apart with more values, begin with the former as done and the latter as left
+  pub resolving_onto : (list more : List A) → AreApart match list → IsResolving match merge (list ++ more) more list
+  resolving_onto list more apart = record {
+    left_derives = λ r c. member (Contains-append_right list more r c);
+    done_derives = λ r c. member (Contains-append_left list more r c);
+    covered = λ r c. elim (Contains-append_cases list more r c) [
       | inl d ↦ inr (r, d, IsDominated-refl join laws r)
       | inr l ↦ inl (r, l, IsDominated-refl join laws r)
     ];
     apart = apart;
   }
+
+  -- so it is to insert one value
+  pub resolving_inserted : (list : List A) (v : A) → AreApart match list → IsResolving match merge (list ++ v ∷ []) (v ∷ []) list
+  resolving_inserted list v = resolving_onto list (v ∷ [])
 
   -- to resolve two lists together, begin with the resolution of the one as done and that of the other as left
   pub resolving_halves : (I J E F : List A) → IsResolution match merge I E → IsResolution match merge J F → IsResolving match merge (I ++ J) F E

@@ -1,9 +1,10 @@
 //! R-Swoosh, the plain resolver of Benjelloun and others, "Swoosh: a generic approach to entity resolution".
 //!
 //! Guarantee: what it answers is a resolution of its list (specs/Resolution.antt). Cost: at most k * k match tests and
-//! fewer than k merges for k values; values are moved and never copied.
-ghost use Rattle.std.specs.Prelude.{◌≡◌, ℕ, ◌+◌, ◌*◌, ◌<◌, ◌≤◌, false, IsTrue, length, slice_index_or, IfOk, IfSome, IfNone, All};
-ghost use Rattle.merge_laws.specs.Resolution.{IsResolution};
+//! fewer than k merges for k values; values are moved and never copied. Values that are known not to match, as those of an
+//! earlier resolution, are tested against more values alone.
+ghost use Rattle.std.specs.Prelude.{◌≡◌, ℕ, ◌+◌, ◌*◌, ◌<◌, ◌≤◌, ◌++◌, false, IsTrue, length, slice_index_or, IfOk, IfSome, IfNone, All};
+ghost use Rattle.merge_laws.specs.Resolution.{AreApart, IsResolution};
 
 use crate::resolvable::Resolvable;
 use crate::steps::Steps;
@@ -29,18 +30,23 @@ fn first_match<R: Resolvable, L: Ledger>(
     None
 }
 
-/// The resolution of the list, in an order that is not fixed. Counts at most k * k steps for k values, also where it
-/// answers Memory. Memory where it runs out.
-pub fn resolve_plain<R: Resolvable, L: Ledger>(
-    list: Vec<R>,
+/// The resolution of values of which no two match, and of more values, in an order that is not fixed. Those that do not match
+/// are not tested against one another. Counts at most n * n steps for n values in all, also where it answers Memory. Memory
+/// where it runs out.
+pub fn resolve_onto<R: Resolvable, L: Ledger>(
+    apart: Vec<R>,
+    more: Vec<R>,
     steps: &mut Steps<L>,
 ) -> Result<Vec<R>, Memory>
-    ensures resolved { IfOk result (λ done. IsResolution R.meets R.join list.items done.items) }
-    ensures cost { steps.new ≤ steps.old + length list.items * length list.items }
+    requires { AreApart R.meets apart.items }
+    ensures resolved { IfOk result (λ all. IsResolution R.meets R.join (apart.items ++ more.items) all.items) }
+    ensures cost { steps.new
+        ≤ steps.old + (length apart.items + length more.items) * (length apart.items + length more.items) }
 {
-    let alloc = *list.allocator();
-    let mut left = list;
-    let mut done: Vec<R> = Vec::with_capacity(alloc, left.len())?;
+    let alloc = *apart.allocator();
+    let mut left = more;
+    let mut done = apart;
+    done.reserve(left.len())?;
     // A value that matches nothing is done. One that matches a value takes it out of those that are done, and their
     // merge is tested anew, since it may match what neither of the two did.
     while let Some(value) = left.pop() {
@@ -53,4 +59,17 @@ pub fn resolve_plain<R: Resolvable, L: Ledger>(
         }
     }
     Ok(done)
+}
+
+/// The resolution of the list, in an order that is not fixed. Counts at most k * k steps for k values, also where it
+/// answers Memory. Memory where it runs out.
+pub fn resolve_plain<R: Resolvable, L: Ledger>(
+    list: Vec<R>,
+    steps: &mut Steps<L>,
+) -> Result<Vec<R>, Memory>
+    ensures resolved { IfOk result (λ done. IsResolution R.meets R.join list.items done.items) }
+    ensures cost { steps.new ≤ steps.old + length list.items * length list.items }
+{
+    let none = Vec::new(*list.allocator());
+    resolve_onto(none, list, steps)
 }

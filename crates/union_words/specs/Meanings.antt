@@ -3,8 +3,8 @@ use Rattle.std.specs.Prelude.{List}
 use Rattle.union_words.specs.declared.library_file.LibraryFile.{LibraryFile as FileInPlace}
 use Rattle.union_words.specs.declared.libraries.Libraries.{Libraries}
 use Rattle.union_words.specs.declared.job.Job.{Job as JobInPlace}
-use Rattle.union_words.specs.declared.job.Job.TheVariants.{Check as CheckInPlace, Export as ExportInPlace, Help as HelpInPlace, Version as VersionInPlace}
-use Rattle.union_words.specs.Words.{LibraryFile, Job, Check, Export, Help, Version, libraries_of}
+use Rattle.union_words.specs.declared.job.Job.TheVariants.{Check as CheckInPlace, Export as ExportInPlace, Works as WorksInPlace, Script as ScriptInPlace, Help as HelpInPlace, Version as VersionInPlace}
+use Rattle.union_words.specs.Words.{LibraryFile, Job, Check, Export, Works, Script, Help, Version, libraries_of}
 
 -- the library and the path that the code borrows
 abbrev pub file_meaning : FileInPlace → LibraryFile
@@ -17,5 +17,7 @@ libraries_meaning libraries = libraries_of libraries.words.now
 abbrev pub job_meaning : JobInPlace → Job
 job_meaning (CheckInPlace file) = Check (file_meaning file)
 job_meaning (ExportInPlace libraries) = Export (libraries_meaning libraries)
+job_meaning (WorksInPlace libraries) = Works (libraries_meaning libraries)
+job_meaning (ScriptInPlace path) = Script path.now
 job_meaning HelpInPlace = Help
 job_meaning VersionInPlace = Version

@@ -1,0 +1,123 @@
+//! The union catalogue as an object that changes.
+//!
+//! A catalogue is its history: the batches that were applied, in order. Everything else that it answers is a function of that
+//! list (`specs/Histories.antt`): which records are current, and the editions that they come to, which are at every moment the
+//! resolution, from scratch, of the current records.
+ghost use Rattle.std.specs.Prelude.{◌≡◌, ◌<◌, ◌^◌, ◌++◌, ◌∷◌, [], List, length, not, is_none, IfOk, OnOk, OnErr, Some, slice_get};
+ghost use Rattle.std.specs.Option.{option_copied};
+ghost use Rattle.catalogue_core.specs.declared.edition.Edition.{Edition as EditionModel};
+ghost use Rattle.catalogue_core.specs.Histories.{current, bases, at_id, is_current, outcomes, AreEditionsOf};
+ghost use Rattle.catalogue_core.specs.Walks.{first_of, first_behind, holder_of};
+
+use crate::batch::Batch;
+use crate::edition::Edition;
+use crate::history_entry::HistoryEntry;
+use crate::outcome::Outcome;
+use merge_laws::steps::Steps;
+use std::alloc::Global;
+use std::convert::Infallible;
+use std::marker::Model;
+use std::sync::ledger::Ledger;
+use union_base::memory::Memory;
+use union_base::record_id::RecordId;
+
+/// The union catalogue of some libraries. Contracts see it as its history.
+#[derive(Drop)]
+pub struct Catalogue {
+    history: Vec<HistoryEntry>,
+    never: Infallible,
+}
+
+impl Model for Catalogue {
+    ghost use Rattle.std.specs.Prelude.{List};
+    ghost use Rattle.catalogue_core.specs.declared.history_entry.HistoryEntry.{HistoryEntry};
+
+    ghost Value = { List HistoryEntry };
+
+    ghost view = { λ c. c.history.items };
+}
+
+impl Catalogue {
+    /// A catalogue without history. Answers `Memory` where memory ran out.
+    pub fn empty(_alloc: Global) -> Result<Catalogue, Memory>
+        ensures { IfOk result (λ catalogue. catalogue ≡ []) }
+    {
+        Err(Memory)
+    }
+
+    /// Applies a batch under that number, and answers what came of each of its operations. Counts the match tests.
+    ///
+    /// Answers `Memory` where memory ran out; the catalogue is as before then.
+    pub fn apply<L: Ledger>(
+        &mut self,
+        _alloc: Global,
+        number: u32,
+        batch: Batch,
+        _steps: &mut Steps<L>,
+    ) -> Result<Vec<Outcome>, Memory>
+        ensures appended { OnOk result (self.new ≡ self.old ++ record { pass = number; batch = batch } ∷ []) }
+        ensures outcomes { IfOk result (λ found. found.items ≡ outcomes batch.library (current self.old) batch.ops) }
+        ensures kept { OnErr result (self.new ≡ self.old) }
+    {
+        match self.never {}
+    }
+
+    /// The first edition in order of the least contributors: None exactly where there is none. Takes no memory.
+    pub fn first(&self) -> Option<&Edition>
+        ensures { (all : List EditionModel) × AreEditionsOf self.now all × (option_copied result ≡ first_of all) }
+    {
+        match self.never {}
+    }
+
+    /// The first edition whose least contributor is behind that id: None exactly where there is none. Takes no memory.
+    pub fn after(&self, id: &RecordId) -> Option<&Edition>
+        ensures { (all : List EditionModel) × AreEditionsOf self.now all × (option_copied result ≡ first_behind all id.now) }
+    {
+        match self.never {}
+    }
+
+    /// The edition that the record of that id is a contributor of: None exactly where it is not current. Takes no memory.
+    pub fn holder(&self, id: &RecordId) -> Option<&Edition>
+        ensures holder { (all : List EditionModel) × AreEditionsOf self.now all × (option_copied result ≡ holder_of all id.now) }
+        ensures none { is_none result ≡ not (is_current (current self.now) id.now) }
+    {
+        match self.never {}
+    }
+
+    /// The current record of that id, as its edition: None exactly where it is not current. Takes no memory.
+    pub fn base(&self, id: &RecordId) -> Option<&Edition>
+        ensures { option_copied result ≡ at_id (current self.now) id.now }
+    {
+        match self.never {}
+    }
+
+    /// How many editions there are. Takes no memory.
+    pub fn edition_count(&self) -> u64
+        ensures { (all : List EditionModel) × AreEditionsOf self.now all × (result ≡ length all) }
+    {
+        match self.never {}
+    }
+
+    /// How many records are current. Takes no memory.
+    pub fn record_count(&self) -> u64
+        ensures { result ≡ length (bases self.now) }
+    {
+        match self.never {}
+    }
+
+    /// How many turns the history has. Takes no memory.
+    pub fn turns(&self) -> u64
+        ensures value { result ≡ length self.now }
+        ensures few { result < 2 ^ 63 }
+    {
+        match self.never {}
+    }
+
+    /// The entry of that turn, counted from 0. Takes no memory.
+    pub fn entry(&self, turn: u64) -> &HistoryEntry
+        requires { turn < length self.now }
+        ensures { slice_get self.now turn ≡ Some result.now }
+    {
+        match self.never {}
+    }
+}

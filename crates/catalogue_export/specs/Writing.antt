@@ -1,0 +1,22 @@
+-- What the writing of a text says of its output, where it may stop half-way.
+use Rattle.std.specs.Prelude.{◌≡◌, ◌≢◌, ◌≤◌, ℕ, List, Result, Err, MatchResult}
+use Rattle.std.specs.declared.option.Option.{Option}
+use Rattle.std.specs.Io.KnownBytes.{Appends}
+use Rattle.union_io.specs.Causes.{Rose}
+use Rattle.union_io.specs.Writing.{AppendsFront}
+use Rattle.catalogue_export.specs.declared.export_fail.ExportFail.{ExportFail}
+use Rattle.catalogue_export.specs.declared.export_fail.ExportFail.TheVariants.{WriteFault}
+
+-- an output: what was written on it before the call and after it, where that is told, and how often it failed
+pub record Output : Type 0 where
+  pub old : Option (List ℕ)
+  pub new : Option (List ℕ)
+  pub before : ℕ
+  pub after : ℕ
+
+-- the whole text was written, or a front of it; a write failed where that is answered, and none did at any other answer
+pub record HasWritten (text : List ℕ) (out : Output) (result : Result (Unit {0}) ExportFail) : Type 0 where
+  pub written : MatchResult result (λ _. Appends out.old out.new text) (λ _. AppendsFront out.old out.new text)
+  pub later : out.before ≤ out.after
+  pub failed : result ≡ Err WriteFault → Rose out.before out.after
+  pub calm : result ≢ Err WriteFault → out.after ≡ out.before

@@ -1,0 +1,41 @@
+-- The batches of a stream: the operations of its accepted frames, block by block.
+use Rattle.std.specs.Prelude.{◌≡◌, ℕ, zero, suc, Bool, not, List, [], ◌∷◌, length, take, drop, filter, Some}
+use Rattle.std.specs.List.{AllZip, list_any}
+use Rattle.marc_fields.specs.Spelling.{Spells}
+use Rattle.marc_fields.specs.declared.marc_record.Record.{Record}
+use Rattle.catalogue_core.specs.Ops.{op}
+use Rattle.catalogue_core.specs.declared.op.Op.{Op}
+use Rattle.catalogue_core.specs.declared.op.TheConstants.{LARGEST_BATCH}
+use Rattle.catalogue_core.specs.declared.batch.Batch.{Batch}
+use Rattle.library_batches.specs.Streams.{Frame, is_accepted, accepted}
+
+-- the operation is what the record asks for that the frame spells
+abbrev pub IsOpOf : List ℕ → List ℕ → Op → Type 0
+IsOpOf library frame done = (r : Record) × Spells frame r × (op library r ≡ Some done)
+
+-- the frames in blocks of 256, the last of which may be shorter; at most so many blocks
+abbrev pub blocks_within : ℕ → List Frame → List (List Frame)
+blocks_within zero frames = []
+blocks_within (suc n) [] = []
+blocks_within (suc n) (frame ∷ frames) = take LARGEST_BATCH (frame ∷ frames) ∷ blocks_within n (drop LARGEST_BATCH (frame ∷ frames))
+
+abbrev pub blocks : List Frame → List (List Frame)
+blocks frames = blocks_within (length frames) frames
+
+-- a block of which some frame is accepted
+abbrev pub has_accepted : List Frame → Bool
+has_accepted block = list_any is_accepted block
+
+-- the batch has the library's operations of the accepted frames of the block, in their order
+pub record IsBatchOf (library : List ℕ) (block : List Frame) (batch : Batch) : Type 0 where
+  pub library_is : batch.library ≡ library
+  pub ops : AllZip (IsOpOf library) (accepted block) batch.ops
+
+-- the batches are those of the frames, in their order: one for each block of which some frame is accepted
+abbrev pub AreBatches : List ℕ → List Frame → List Batch → Type 0
+AreBatches library frames batches = AllZip (IsBatchOf library) (filter has_accepted (blocks frames)) batches
+
+-- the batches are the first ones of the frames, so many as there are
+abbrev pub AreFirstBatches : List ℕ → List Frame → List Batch → Type 0
+AreFirstBatches library frames batches =
+    AllZip (IsBatchOf library) (take (length batches) (filter has_accepted (blocks frames))) batches

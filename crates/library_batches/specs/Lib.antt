@@ -1,0 +1,5 @@
+pub mod Streams
+pub mod Refused
+pub mod Batches
+pub mod Reading
+pub mod Outcomes
