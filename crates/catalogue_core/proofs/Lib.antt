@@ -3,3 +3,5 @@ mod EditionTexts
 mod Apart
 mod Runs
 pub mod SameEditions
+pub mod Holders
+pub mod WalkLaws
