@@ -4,9 +4,13 @@
 //! exactly where that gives none, by the reason that it gives. Cost: one pass over the line, whose texts are copied once.
 #![tactic(auto)]
 
+pub mod answer;
+pub mod answering;
+mod asked;
 mod grammar;
 mod lines;
 pub mod query;
 #[cfg(test)]
 mod tests;
+mod telling;
 mod word;
