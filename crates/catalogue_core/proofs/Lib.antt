@@ -6,3 +6,5 @@ mod Growing
 mod Looking
 mod Runs
 pub mod SameEditions
+pub mod Holders
+pub mod WalkLaws
