@@ -1,14 +1,17 @@
 -- Works as they are kept: entries in the order of their keys, of which those with no ids count as absent.
-use Rattle.std.specs.Prelude.{◌≡◌, ℕ, ◌-◌, ◌<◌, ◌≤◌, true, false, not, take, drop, List, length, map, filter, slice_index_or, vec_len, vec_capacity, unwrap_or}
+use Rattle.std.specs.Prelude.{◌≡◌, ℕ, ◌-◌, ◌<◌, ◌≤◌, Bool, true, false, Option, List, length, map, filter, slice_index_or, vec_len, vec_capacity, unwrap_or}
 use Rattle.std.specs.declared.cmp.Ordering.TheVariants.{Less, Greater}
-use Rattle.std.specs.Ordering.{is_lt}
 use Rattle.std.specs.List.{list_all}
 use Rattle.std.specs.Map.{lookup}
 use Rattle.union_base.specs.SortedLists.{is_ascending}
 use Rattle.union_base.specs.declared.record_id.RecordId.{RecordId}
-use Rattle.work_clusters.specs.Works.{key_cmp, id_cmp, is_key, keys_of}
+use Rattle.work_clusters.specs.Works.{key_cmp, id_cmp, is_key, keys_of, is_above}
 use Rattle.work_clusters.specs.WorksLaws.{some}
 use Rattle.work_clusters.specs.declared.work.Work.{Work}
+
+-- the entry has ids
+abbrev pub has_editions : Work → Bool
+has_editions work = some work.editions.items
 
 -- what f says of each entry, by key
 abbrev pub by_key : {X : Type 0} → (Work → X) → List Work → List (List ℕ × X)
@@ -44,7 +47,7 @@ pub record IsGap (entries : List Work) (key : List ℕ) (i : ℕ) : Type 0 where
   pub behind : (j : ℕ) (d : Work) → i ≤ j → j < length entries → key_cmp (slice_index_or entries j d).key key ≡ Greater
 
 -- the entries before place i have no key above the given one, and those from it on have
-pub record IsPlaceAfter (entries : List Work) (key : List ℕ) (i : ℕ) : Type 0 where
+pub record IsPlaceAfter (entries : List Work) (given : Option (List ℕ)) (i : ℕ) : Type 0 where
   pub in_range : i ≤ length entries
-  pub before : list_all (λ work. not (is_lt (key_cmp key work.key))) (take i entries) ≡ true
-  pub behind : list_all (λ work. is_lt (key_cmp key work.key)) (drop i entries) ≡ true
+  pub before : (j : ℕ) (d : Work) → j < i → is_above given (slice_index_or entries j d).key ≡ false
+  pub behind : (j : ℕ) (d : Work) → i ≤ j → j < length entries → is_above given (slice_index_or entries j d).key ≡ true

@@ -191,7 +191,7 @@ not_key-from_below : (k q : List ℕ) → is_lt (key_cmp k q) ≡ true → is_ke
 not_key-from_below k q h = ap is_eq (lt_is (key_cmp k q) h)
 
 -- a key below all those of the works is none of theirs
-ids_under-below : (k q : List ℕ) (works : List (List ℕ × List RecordId)) → is_key q k ≡ true → list_all (λ y. is_lt (key_cmp k y)) (keys_of works) ≡ true → ids_under works q ≡ []
+pub ids_under-below : (k q : List ℕ) (works : List (List ℕ × List RecordId)) → is_key q k ≡ true → list_all (λ y. is_lt (key_cmp k y)) (keys_of works) ≡ true → ids_under works q ≡ []
 ids_under-below k q [] e h = refl
 ids_under-below k q (w ∷ ws) e h =
     let parts = both_true (is_lt (key_cmp k w.0)) (list_all (λ y. is_lt (key_cmp k y)) (keys_of ws)) h in

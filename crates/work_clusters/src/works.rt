@@ -5,7 +5,7 @@ ghost use Rattle.work_clusters.specs.Works.{ids_under, key_after, changed};
 ghost use Rattle.work_clusters.specs.Room.{HasRoom};
 
 use crate::change::WorkChange;
-use crate::search::{place, place_after};
+use crate::search::{count_kept, first_kept, place, place_after};
 use crate::work::Work;
 use std::alloc::Global;
 use std::marker::Model;
@@ -57,19 +57,16 @@ impl Works {
     pub fn count(&self) -> u64
         ensures { result ≡ length self.now.works }
     {
-        let kept = self.entries.iter().filter(|work| !work.editions.is_empty());
-        kept.count() as u64
+        count_kept(self.entries.as_slice()) as u64
     }
 
     /// The least key that is greater than the given one, or the least of all where none is given. Takes no memory.
     pub fn after(&self, key: Option<&Bytes>) -> Option<&Bytes>
         ensures { option_copied result ≡ key_after self.now.works (option_copied key.entry) }
     {
-        let start = match key {
-            Some(given) => place_after(self.entries.as_slice(), given.bytes()),
-            None => 0,
-        };
-        match self.entries[start..].iter().find(|work| !work.editions.is_empty()) {
+        let start = place_after(self.entries.as_slice(), key);
+        let (_, rest) = self.entries.as_slice().split_at(start);
+        match first_kept(rest) {
             Some(work) => Some(&work.key),
             None => None,
         }
