@@ -17,7 +17,7 @@ use Rattle.work_clusters.specs.WorksLaws.{some, key_total, itself, ids_under-bel
 use Rattle.work_clusters.specs.Entries.{by_key, listed, works_in, AreEntries, IsAt, IsGap}
 use Rattle.work_clusters.specs.declared.work.Work.{Work}
 
-same_key : (q key : List ℕ) → is_key q key ≡ true → q ≡ key
+pub same_key : (q key : List ℕ) → is_key q key ≡ true → q ≡ key
 same_key q key e = texts_apart q key (tied (key_cmp q key) e)
   where
     tied : (r : Ordering) → is_eq r ≡ true → r ≡ Equal

@@ -51,7 +51,7 @@ not_eq-from_less Less h = refl
 not_eq-from_less Equal h = cc
 not_eq-from_less Greater h = cc
 
-or_false : (a : Bool) → (a || false) ≡ a
+pub or_false : (a : Bool) → (a || false) ≡ a
 or_false true = refl
 or_false false = refl
 
@@ -117,7 +117,7 @@ module _ {K : Type 0} {R : K → K → Ordering} (o : IsTotalOrder R) (ties : Is
 
 -- ---- the ids that stand with a key
 
-then_eq : (r s : Ordering) → is_eq (ordering_then r s) ≡ (is_eq r && is_eq s)
+pub then_eq : (r s : Ordering) → is_eq (ordering_then r s) ≡ (is_eq r && is_eq s)
 then_eq Less s = refl
 then_eq Equal s = refl
 then_eq Greater s = refl

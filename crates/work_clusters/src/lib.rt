@@ -8,6 +8,8 @@
 #![tactic(auto)]
 
 pub mod change;
+mod ids;
 mod search;
+mod steps;
 mod work;
 pub mod works;

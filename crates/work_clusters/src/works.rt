@@ -6,6 +6,7 @@ ghost use Rattle.work_clusters.specs.Room.{HasRoom};
 
 use crate::change::WorkChange;
 use crate::search::{count_kept, first_kept, place, place_after};
+use crate::steps::exchange;
 use crate::work::Work;
 use std::alloc::Global;
 use std::marker::Model;
@@ -100,5 +101,9 @@ impl Works {
         requires { HasRoom self.old.room change.come }
         ensures { self.new.works ≡ changed self.old.works change.gone change.come }
     {
+        let WorkChange { gone, come } = change;
+        let come = come.into_vec();
+        exchange(self.entries.as_mut_slice(), gone.as_slice(), come);
+        self.entries.retain(|work| work.has_editions());
     }
 }
