@@ -2,3 +2,4 @@ pub mod Places
 pub mod Reading
 pub mod IdLists
 pub mod StepLaws
+pub mod Installing

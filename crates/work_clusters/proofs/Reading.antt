@@ -108,7 +108,7 @@ below-kept k (w ∷ ms) h =
       | false ↦ below-kept k ms parts.1
     ]
 
-keys-kept : (ms : List (List ℕ × List RecordId)) → is_ascending key_cmp (keys_of ms) ≡ true → is_ascending key_cmp (keys_of (filter (λ w. some w.1) ms)) ≡ true
+pub keys-kept : (ms : List (List ℕ × List RecordId)) → is_ascending key_cmp (keys_of ms) ≡ true → is_ascending key_cmp (keys_of (filter (λ w. some w.1) ms)) ≡ true
 keys-kept [] h = refl
 keys-kept (w ∷ ms) h =
     let parts = both_true (list_all (λ y. is_lt (key_cmp w.0 y)) (keys_of ms)) (is_ascending key_cmp (keys_of ms)) h in
