@@ -3,3 +3,4 @@ pub mod Reading
 pub mod IdLists
 pub mod StepLaws
 pub mod Installing
+pub mod RoomLaws

@@ -25,7 +25,7 @@ same_key q key e = texts_apart q key (tied (key_cmp q key) e)
     tied Equal h = refl
     tied Greater h = cc
 
-is_at_tail : (w : Work) (ws : List Work) (key : List ℕ) (i : ℕ) → IsAt (w ∷ ws) key (suc i) → IsAt ws key i
+pub is_at_tail : (w : Work) (ws : List Work) (key : List ℕ) (i : ℕ) → IsAt (w ∷ ws) key (suc i) → IsAt ws key i
 is_at_tail w ws key i at = record {
   in_range = omega (arith, at.in_range);
   has_key = at.has_key;

@@ -1,9 +1,9 @@
 -- Works as they are kept: entries in the order of their keys, of which those with no ids count as absent.
-use Rattle.std.specs.Prelude.{◌≡◌, ℕ, ◌-◌, ◌<◌, ◌≤◌, Bool, true, false, Option, List, length, map, filter, slice_index_or, vec_len, vec_capacity, unwrap_or}
+use Rattle.std.specs.Prelude.{◌≡◌, not, ◌||◌, count_by, ℕ, ◌-◌, ◌<◌, ◌≤◌, Bool, true, false, Option, List, length, map, filter, slice_index_or, vec_len, vec_capacity, unwrap_or}
 use Rattle.std.specs.declared.cmp.Ordering.TheVariants.{Less, Greater}
-use Rattle.std.specs.List.{list_all}
+use Rattle.std.specs.List.{list_all, list_any}
 use Rattle.std.specs.Map.{lookup}
-use Rattle.union_base.specs.SortedLists.{is_ascending}
+use Rattle.union_base.specs.SortedLists.{is_ascending, has}
 use Rattle.union_base.specs.declared.record_id.RecordId.{RecordId}
 use Rattle.work_clusters.specs.Works.{key_cmp, id_cmp, is_key, keys_of, is_above}
 use Rattle.work_clusters.specs.WorksLaws.{some}
@@ -51,3 +51,23 @@ pub record IsPlaceAfter (entries : List Work) (given : Option (List ℕ)) (i : �
   pub in_range : i ≤ length entries
   pub before : (j : ℕ) (d : Work) → j < i → is_above given (slice_index_or entries j d).key ≡ false
   pub behind : (j : ℕ) (d : Work) → i ≤ j → j < length entries → is_above given (slice_index_or entries j d).key ≡ true
+
+-- whether an entry has the key
+abbrev pub has_key : List Work → List ℕ → Bool
+has_key entries key = list_any (λ work. is_key key work.key) entries
+
+-- how many ids are counted under the key
+abbrev pub coming_under : List Work → List ℕ → ℕ
+coming_under entries key = unwrap_or (lookup (is_key key) (by_key (λ work. work.coming) entries)) 0
+
+-- keys of the pairs that no entry has, and every such key
+pub record AreAbsent (entries : List Work) (come : List (List ℕ × RecordId)) (keys : List (List ℕ)) : Type 0 where
+  pub apart : list_all (λ key. not (has_key entries key)) keys ≡ true
+  pub all : (q : List ℕ) → 0 < count_by (λ p. is_key q p.0) come → (has_key entries q || has key_cmp keys q) ≡ true
+
+-- entries with no ids, in order, for the keys of the pairs that no entry has
+pub record AreFresh (entries : List Work) (come : List (List ℕ × RecordId)) (fresh : List Work) : Type 0 where
+  pub well : AreEntries fresh
+  pub none : list_all (λ work. not (has_editions work)) fresh ≡ true
+  pub apart : list_all (λ work. not (has_key entries work.key)) fresh ≡ true
+  pub all : (q : List ℕ) → 0 < count_by (λ p. is_key q p.0) come → (has_key entries q || has_key fresh q) ≡ true
