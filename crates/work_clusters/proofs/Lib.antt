@@ -4,3 +4,5 @@ pub mod IdLists
 pub mod StepLaws
 pub mod Installing
 pub mod RoomLaws
+pub mod Merging
+pub mod KeyLaws

@@ -1,5 +1,7 @@
 -- Works as they are kept: entries in the order of their keys, of which those with no ids count as absent.
 use Rattle.std.specs.Prelude.{◌≡◌, not, ◌||◌, count_by, ℕ, ◌-◌, ◌<◌, ◌≤◌, Bool, true, false, Option, List, length, map, filter, slice_index_or, vec_len, vec_capacity, unwrap_or}
+use Rattle.std.specs.declared.cmp.Ordering.{Ordering}
+use Rattle.std.specs.Ordering.{on}
 use Rattle.std.specs.declared.cmp.Ordering.TheVariants.{Less, Greater}
 use Rattle.std.specs.List.{list_all, list_any}
 use Rattle.std.specs.Map.{lookup}
@@ -65,9 +67,12 @@ pub record AreAbsent (entries : List Work) (come : List (List ℕ × RecordId)) 
   pub apart : list_all (λ key. not (has_key entries key)) keys ≡ true
   pub all : (q : List ℕ) → 0 < count_by (λ p. is_key q p.0) come → (has_key entries q || has key_cmp keys q) ≡ true
 
--- entries with no ids, in order, for the keys of the pairs that no entry has
-pub record AreFresh (entries : List Work) (come : List (List ℕ × RecordId)) (fresh : List Work) : Type 0 where
+-- entries in the order of their keys
+abbrev pub entry_cmp : Work → Work → Ordering
+entry_cmp = on (λ work. work.key) key_cmp
+
+-- entries with no ids for keys that no other entry has
+pub record AreNew (entries fresh : List Work) : Type 0 where
   pub well : AreEntries fresh
   pub none : list_all (λ work. not (has_editions work)) fresh ≡ true
   pub apart : list_all (λ work. not (has_key entries work.key)) fresh ≡ true
-  pub all : (q : List ℕ) → 0 < count_by (λ p. is_key q p.0) come → (has_key entries q || has_key fresh q) ≡ true

@@ -291,6 +291,13 @@ has-pairs_of (w ∷ ws) h q id =
       | false ↦ λ e. refl
     ] refl
 
+-- works with the same ids under each key are the same
+pub same_works : (works others : List (List ℕ × List RecordId)) → AreWorks works → AreWorks others
+    → ((q : List ℕ) (id : RecordId) → has id_cmp (ids_under works q) id ≡ has id_cmp (ids_under others q) id) → works ≡ others
+same_works works others well good same =
+    works-from_ids works well (pairs_of others) (λ q id. same q id ∙ sym (has-pairs_of others good.keys q id))
+    ∙ sym (works-from_ids others good (pairs_of others) (λ q id. sym (has-pairs_of others good.keys q id)))
+
 -- ---- a change
 
 -- what stands in works after a change: what stood and is not gone, and what came

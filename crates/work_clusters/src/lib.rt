@@ -9,6 +9,7 @@
 
 pub mod change;
 mod ids;
+mod keys;
 mod rooms;
 mod search;
 mod steps;

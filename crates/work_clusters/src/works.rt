@@ -5,6 +5,8 @@ ghost use Rattle.work_clusters.specs.Works.{ids_under, key_after, changed};
 ghost use Rattle.work_clusters.specs.Room.{HasRoom};
 
 use crate::change::WorkChange;
+use crate::keys::add_keys;
+use crate::rooms::make_places;
 use crate::search::{count_kept, first_kept, place, place_after};
 use crate::steps::exchange;
 use crate::work::Work;
@@ -93,7 +95,9 @@ impl Works {
         ensures works { self.new.works ≡ self.old.works }
         ensures room { OnOk result (HasRoom self.new.room change.now.come) }
     {
-        Err(Memory)
+        let come = change.come.as_slice();
+        add_keys(alloc, &mut self.entries, come)?;
+        make_places(self.entries.as_mut_slice(), come)
     }
 
     /// The gone pairs leave, then the come pairs enter, for which there is room. Takes no memory.
