@@ -1,4 +1,5 @@
 pub mod Entries
+pub mod MemberLaws
 pub mod Room
 pub mod Steps
 pub mod Works

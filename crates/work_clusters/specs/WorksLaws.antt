@@ -312,6 +312,9 @@ keys_of-tabulated : (f : List ℕ → List RecordId) (keys : List (List ℕ)) �
 keys_of-tabulated f [] = refl
 keys_of-tabulated f (k ∷ ks) = ap (λ rest. k ∷ rest) (keys_of-tabulated f ks)
 
+pub keys_of-works_of : (pairs : List (List ℕ × RecordId)) → keys_of (works_of pairs) ≡ keys_in pairs
+keys_of-works_of pairs = keys_of-tabulated (ids_with pairs) (keys_in pairs)
+
 -- the change of the works of pairs is the works of the pairs after it
 pub changed-works_of : (pairs gone come after : List (List ℕ × RecordId))
     → ((p : List ℕ × RecordId) → has pair_cmp after p ≡ ((has pair_cmp pairs p && not (has pair_cmp gone p)) || has pair_cmp come p))

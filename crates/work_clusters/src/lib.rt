@@ -8,6 +8,7 @@
 #![tactic(auto)]
 
 pub mod change;
+pub mod laws;
 mod ids;
 mod keys;
 mod rooms;
