@@ -10,6 +10,8 @@
 #![tactic(auto)]
 
 pub mod batch_reader;
+mod block;
+mod checking;
 pub mod outcome_counts;
 pub mod refused;
 pub mod stop;

@@ -1,0 +1,3 @@
+pub mod CheckedLaws
+pub mod BlockLaws
+pub mod PassedLaws
