@@ -37,7 +37,7 @@ blocks-whole (frame ∷ taken) still whole =
     let behind : drop LARGEST_BATCH ((frame ∷ taken) ++ still) ≡ still = rest_of LARGEST_BATCH (frame ∷ taken) still whole in
     ap (λ block. block ∷ blocks_within (length (taken ++ still)) (drop LARGEST_BATCH ((frame ∷ taken) ++ still))) (front_of LARGEST_BATCH (frame ∷ taken) still whole)
     ∙ ap (λ rest. (frame ∷ taken) ∷ rest) (ap (blocks_within (length (taken ++ still))) behind
-        ∙ blocks_within-more (length (taken ++ still)) (length still) still (omega (arith, length-append taken still)) (omega arith))
+    ∙ blocks_within-more (length (taken ++ still)) (length still) still (omega (arith, length-append taken still)) (omega arith))
 
 blocks_within-none : (n : ℕ) → blocks_within n [] ≡ []
 blocks_within-none zero = refl

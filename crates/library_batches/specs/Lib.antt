@@ -4,4 +4,5 @@ pub mod Batches
 pub mod Reading
 pub mod Blocks
 pub mod Within
+pub mod Handing
 pub mod Outcomes

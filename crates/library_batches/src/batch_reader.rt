@@ -134,4 +134,16 @@ impl BatchReader {
     {
         self.refused.as_slice()
     }
+    /// The refused ones of the frames that were cut, given away with the reader. Takes no memory.
+    pub fn into_refused(self) -> Vec<RefusedFrame>
+        ensures { result.items ≡ self.refused }
+    {
+        let BatchReader {
+            library: _,
+            frames: _,
+            refused,
+            reader: _,
+        } = self;
+        refused
+    }
 }

@@ -16,7 +16,7 @@ invariant_of-result g c =
     let ops = c.in_ok-ops.field-0.ops in
     let some : 0 < length ops.items = grind (arith, nat_tests, c.if-not-is_empty.ensures, ops.ok) in
     let code : c.loop-ops.self.library ≡ c.self.inside.library = sym (ap (λ (a : Batching). a.library) c.self.view_is ∙ c.read_block.ensures.library) in
-    record { fits = rw (c.from.ensures, ← code) (is_batch-block c.loop-ops.self.library _ block.taken ops.items _ _ block.checked block.most some); }
+    record { fits = rw (c.from.ensures, ← code) (is_batch-block c.loop-ops.self.library _ block.taken ops.items _ _ block.checked block.most some) }
 
 pub returns-then-not-is_empty-clause-answers : goal.returns-then-not-is_empty-clause-answers
 returns-then-not-is_empty-clause-answers g c =

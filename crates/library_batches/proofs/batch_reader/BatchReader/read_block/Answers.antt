@@ -12,21 +12,27 @@ pub returns-in_err-check_next-in-Frame-clause-answers : goal.returns-in_err-chec
 returns-in_err-check_next-in-Frame-clause-answers g c =
     let before = c.loop-frame.invariant in
     let p = err_from_is_err_and c.from_residual.result c.from_residual.ensures.1 in
-    rw (p.1, p.2) (before.taken ++ (c.in-Frame.cut, c.next.new.self.frame) ∷ [],
-        subst (λ (a : Batching). Takes a.stream (g.S.Source.left c.args.source.now) c.next.new.self (g.S.Source.left c.next.new.source) (before.taken ++ (c.in-Frame.cut, c.next.new.self.frame) ∷ []))
-        c.self.view_is (Takes-more c.self.inside.reader c.loop-frame.self-inside.reader c.next.new.self (g.S.Source.left c.args.source.now)
-        (g.S.Source.left c.loop-frame.source) (g.S.Source.left c.next.new.source) before.taken ((c.in-Frame.cut, c.next.new.self.frame) ∷ []) before.takes
-        c.in-Frame.ensures.answers))
+    rw (p.1, p.2) (
+      before.taken ++ (c.in-Frame.cut, c.next.new.self.frame) ∷ [],
+      subst (λ (a : Batching). Takes a.stream (g.S.Source.left c.args.source.now) c.next.new.self (g.S.Source.left c.next.new.source) (before.taken ++ (c.in-Frame.cut, c.next.new.self.frame) ∷ []))
+          c.self.view_is (Takes-more c.self.inside.reader c.loop-frame.self-inside.reader c.next.new.self (g.S.Source.left c.args.source.now)
+          (g.S.Source.left c.loop-frame.source) (g.S.Source.left c.next.new.source) before.taken ((c.in-Frame.cut, c.next.new.self.frame) ∷ []) before.takes
+          c.in-Frame.ensures.answers),
+    )
 
 pub returns-in-TooLong-clause-answers : goal.returns-in-TooLong-clause-answers
 returns-in-TooLong-clause-answers g c =
     let before = c.loop-frame.invariant in
-    let stops = c.in-TooLong.ensures.answers in
-    ((before.taken ++ told stops.rest [],
+    let stops = c.in-TooLong.ensures.answers in (
+      (
+        before.taken ++ told stops.rest [],
         subst (λ (a : Batching). Takes a.stream (g.S.Source.left c.args.source.now) c.next.new.self (g.S.Source.left c.next.new.source) (before.taken ++ told stops.rest []))
-        c.self.view_is (Takes-more c.self.inside.reader c.loop-frame.self-inside.reader c.next.new.self (g.S.Source.left c.args.source.now)
-        (g.S.Source.left c.loop-frame.source) (g.S.Source.left c.next.new.source) before.taken (told stops.rest []) before.takes
-        stops.takes)), stops.stands)
+            c.self.view_is (Takes-more c.self.inside.reader c.loop-frame.self-inside.reader c.next.new.self (g.S.Source.left c.args.source.now)
+            (g.S.Source.left c.loop-frame.source) (g.S.Source.left c.next.new.source) before.taken (told stops.rest []) before.takes
+            stops.takes),
+      ),
+      stops.stands,
+    )
 
 pub loop-frame-preserved : goal.loop-frame-preserved
 loop-frame-preserved g c =
@@ -39,13 +45,13 @@ loop-frame-preserved g c =
       library = before.library;
       taken = before.taken ++ frame ∷ [];
       takes = Takes-more c.self.inside.reader c.loop-frame.self-inside.reader c.next.new.self (g.S.Source.left c.args.source.now)
-        (g.S.Source.left c.loop-frame.source) (g.S.Source.left c.next.new.source) before.taken (frame ∷ []) before.takes
-        c.in-Frame.ensures.answers;
+          (g.S.Source.left c.loop-frame.source) (g.S.Source.left c.next.new.source) before.taken (frame ∷ []) before.takes
+          c.in-Frame.ensures.answers;
       count = omega (arith, before.count, length-append before.taken (frame ∷ []));
       checked = subst (λ code. IsChecked code (c.self.inside.frames + 1) (before.taken ++ frame ∷ []) c.check_next.new.ops.items c.self.inside.refused.items c.check_next.new.refused.items)
-        before.library (subst (λ fr. IsChecked c.loop-frame.self-inside.library (c.self.inside.frames + 1) (before.taken ++ (c.in-Frame.cut, fr) ∷ []) c.check_next.new.ops.items
+          before.library (subst (λ fr. IsChecked c.loop-frame.self-inside.library (c.self.inside.frames + 1) (before.taken ++ (c.in-Frame.cut, fr) ∷ []) c.check_next.new.ops.items
           c.self.inside.refused.items c.check_next.new.refused.items) c.frame.ensures
-        (c.in_ok-check_next-in-Frame.ensures (c.self.inside.frames + 1) before.taken c.self.inside.refused.items place
+          (c.in_ok-check_next-in-Frame.ensures (c.self.inside.frames + 1) before.taken c.self.inside.refused.items place
           (subst (λ code. IsChecked code (c.self.inside.frames + 1) before.taken c.loop-frame.ops.items c.self.inside.refused.items c.loop-frame.self-inside.refused.items)
           (sym before.library) before.checked)));
       frames = omega (arith, before.frames, length-append before.taken (frame ∷ []));
