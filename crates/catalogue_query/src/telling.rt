@@ -44,7 +44,6 @@ pub(crate) fn add_told(
     ensures { OnOk result (lines.new.items ≡ lines.old.items ++ told query.now (current catalogue.now) edition.now) }
 {
     match query {
-        Query::Count => Ok(()),
         Query::Id(_) => add_identity(alloc, lines, edition),
         Query::Holdings(_) => add_holdings(alloc, lines, catalogue, edition),
         _ => {
