@@ -104,11 +104,7 @@ fn add_record(
     add_hold_lines(alloc, lines, &holdings)
 }
 
-fn add_hold_lines(
-    alloc: Global,
-    lines: &mut Vec<Bytes>,
-    holdings: &[Holding],
-) -> Result<(), Memory>
+fn add_hold_lines(alloc: Global, lines: &mut Vec<Bytes>, holdings: &[Holding]) -> Result<(), Memory>
     ensures { OnOk result (lines.new.items ≡ lines.old.items ++ map hold_line holdings.now) }
 {
     for holding in holdings {
