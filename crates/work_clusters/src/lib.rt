@@ -16,3 +16,5 @@ mod search;
 mod steps;
 mod work;
 pub mod works;
+#[cfg(test)]
+mod tests;
