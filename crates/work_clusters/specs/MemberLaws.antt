@@ -94,8 +94,7 @@ changed-nothing come = refl
 
 pub members-ids_under : (pairs : List (List ℕ × RecordId)) (key : List ℕ) (id : RecordId) → Contains (ids_under (works_of pairs) key) id ↔ Contains pairs (key, id)
 members-ids_under pairs key id =
-    let same : has id_cmp (ids_under (works_of pairs) key) id ≡ has pair_cmp pairs (key, id) = ap (λ ids. has id_cmp ids id) (ids_under-works_of pairs key) ∙ has-ids_with pairs key id in
-    (
+    let same : has id_cmp (ids_under (works_of pairs) key) id ≡ has pair_cmp pairs (key, id) = ap (λ ids. has id_cmp ids id) (ids_under-works_of pairs key) ∙ has-ids_with pairs key id in (
       λ m. member-from_has pair_total pairs_apart pairs (key, id) (sym same ∙ has-from_member id_total ids_apart (ids_under (works_of pairs) key) id m),
       λ m. member-from_has id_total ids_apart (ids_under (works_of pairs) key) id (same ∙ has-from_member pair_total pairs_apart pairs (key, id) m),
     )

@@ -56,7 +56,11 @@ fn works_after_each_turn(rt: HostRuntime) -> Result<(), Fail> {
     let mut works = Works::empty(alloc);
     for (gone, come, after) in [
         // Three records of one edition, and then the one that joined them goes.
-        ("", "hill, ann/red ships=LIBA.a1", "hill, ann/red ships=LIBA.a1;"),
+        (
+            "",
+            "hill, ann/red ships=LIBA.a1",
+            "hill, ann/red ships=LIBA.a1;",
+        ),
         (
             "hill, ann/red ships=LIBA.a1",
             "hill, ann/red ships=LIBA.c1;hill, ann/red ships=LIBA.a1",
