@@ -42,22 +42,22 @@ module _ (ws : List Work) (xs : List (List ℕ × RecordId)) (i : ℕ) (x : List
   absent_more =
       elim (has_key ws x.0) as (λ b. has_key ws x.0 ≡ b → AreAbsent ws (take (i + 1) xs) (cond b keys (keys ++ x.0 ∷ []))) [
         | true ↦ λ there. record {
-            apart = so_far.apart;
-            all = λ q h.
-                elim (is_key q x.0) as (λ b. is_key q x.0 ≡ b → (has_key ws q || has key_cmp keys q) ≡ true) [
-                  | true ↦ λ e. ap (λ b. b || has key_cmp keys q) (ap (has_key ws) (same_key q x.0 e) ∙ there)
-                  | false ↦ λ e. before q e h
-                ] refl;
-          }
+          apart = so_far.apart;
+          all = λ q h.
+              elim (is_key q x.0) as (λ b. is_key q x.0 ≡ b → (has_key ws q || has key_cmp keys q) ≡ true) [
+                | true ↦ λ e. ap (λ b. b || has key_cmp keys q) (ap (has_key ws) (same_key q x.0 e) ∙ there)
+                | false ↦ λ e. before q e h
+              ] refl;
+        }
         | false ↦ λ gone. record {
-            apart = list_all-append (λ key. not (has_key ws key)) keys (x.0 ∷ []) ∙ true_both _ _ so_far.apart (true_both (not (has_key ws x.0)) true (ap not gone) refl);
-            all = λ q h.
-                ap (λ b. has_key ws q || b) (list_any-append (is_key q) keys (x.0 ∷ []))
-                ∙ elim (is_key q x.0) as (λ b. is_key q x.0 ≡ b → (has_key ws q || (has key_cmp keys q || (b || false))) ≡ true) [
-                  | true ↦ λ e. ap (λ b. has_key ws q || b) (or_true (has key_cmp keys q)) ∙ or_true (has_key ws q)
-                  | false ↦ λ e. or_more (has_key ws q) (has key_cmp keys q) false (before q e h)
-                ] refl;
-          }
+          apart = list_all-append (λ key. not (has_key ws key)) keys (x.0 ∷ []) ∙ true_both _ _ so_far.apart (true_both (not (has_key ws x.0)) true (ap not gone) refl);
+          all = λ q h.
+              ap (λ b. has_key ws q || b) (list_any-append (is_key q) keys (x.0 ∷ []))
+              ∙ elim (is_key q x.0) as (λ b. is_key q x.0 ≡ b → (has_key ws q || (has key_cmp keys q || (b || false))) ≡ true) [
+                | true ↦ λ e. ap (λ b. has_key ws q || b) (or_true (has key_cmp keys q)) ∙ or_true (has_key ws q)
+                | false ↦ λ e. or_more (has_key ws q) (has key_cmp keys q) false (before q e h)
+              ] refl;
+        }
       ] refl
 
 -- ---- entries made for keys

@@ -157,10 +157,18 @@ module _ (old fresh new : List Work) (well : AreEntries old) (added : AreNew old
   once_all : (q : List ℕ) → key_count (old ++ fresh) q ≤ 1
   once_all q =
       elim (has_key old q) as (λ b. has_key old q ≡ b → key_count (old ++ fresh) q ≤ 1) [
-        | true ↦ λ e. omega (arith, sum_by-append (λ (w : Work). cond (is_key q w.key) 1 0) old fresh, key_count-ascending old well.keys q,
-            count-none (λ (w : Work). is_key q w.key) fresh (apart_keys old fresh added.apart q e))
-        | false ↦ λ e. omega (arith, sum_by-append (λ (w : Work). cond (is_key q w.key) 1 0) old fresh, key_count-ascending fresh added.well.keys q,
-            count-none (λ (w : Work). is_key q w.key) old e)
+        | true ↦ λ e. omega (
+          arith,
+          sum_by-append (λ (w : Work). cond (is_key q w.key) 1 0) old fresh,
+          key_count-ascending old well.keys q,
+          count-none (λ (w : Work). is_key q w.key) fresh (apart_keys old fresh added.apart q e),
+        )
+        | false ↦ λ e. omega (
+          arith,
+          sum_by-append (λ (w : Work). cond (is_key q w.key) 1 0) old fresh,
+          key_count-ascending fresh added.well.keys q,
+          count-none (λ (w : Work). is_key q w.key) old e,
+        )
       ] refl
 
   -- sorted in they are entries in order
