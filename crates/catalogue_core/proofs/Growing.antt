@@ -45,12 +45,12 @@ grown-insert [] id e new = record {
 }
 grown-insert (p ∷ all) id e new =
     elim (id_cmp id p.0) as (λ r. is_some (cond (is_eq r) (Some p.1) (lookup (is_at (id_cmp id)) all)) ≡ false
-        → IsGrown (p.1 ∷ values_of all) (e ∷ []) (values_of (match_ordering r ((id, e) ∷ p ∷ all) ((p.0, e) ∷ all) (p ∷ insert_entry id_cmp all id e)))) [
+    → IsGrown (p.1 ∷ values_of all) (e ∷ []) (values_of (match_ordering r ((id, e) ∷ p ∷ all) ((p.0, e) ∷ all) (p ∷ insert_entry id_cmp all id e)))) [
       | Less ↦ λ h. record {
-          stays = λ x c. Contains-tail e (p.1 ∷ values_of all) x c;
-          comes = λ x c. Contains-append_left (e ∷ []) (p.1 ∷ values_of all) x c;
-          only = λ x c. elim (Contains-append_cases (e ∷ []) (p.1 ∷ values_of all) x c) [ inl mine ↦ inr mine | inr old ↦ inl old ];
-        }
+        stays = λ x c. Contains-tail e (p.1 ∷ values_of all) x c;
+        comes = λ x c. Contains-append_left (e ∷ []) (p.1 ∷ values_of all) x c;
+        only = λ x c. elim (Contains-append_cases (e ∷ []) (p.1 ∷ values_of all) x c) [ inl mine ↦ inr mine | inr old ↦ inl old ];
+      }
       | Equal ↦ λ h. absurd (let clash : true ≡ false = h in cc)
       | Greater ↦ λ h. (let rest = grown-insert all id e h in
           let more = values_of (insert_entry id_cmp all id e) in

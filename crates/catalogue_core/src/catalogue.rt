@@ -72,7 +72,14 @@ impl Catalogue {
         ensures outcomes { IfOk result (λ found. found.items ≡ outcomes batch.library (current self.old) batch.ops) }
         ensures kept { OnErr result (self.new ≡ self.old) }
     {
-        let turn = planned(alloc, &self.history, &self.places, &self.editions, &batch, steps)?;
+        let turn = planned(
+            alloc,
+            &self.history,
+            &self.places,
+            &self.editions,
+            &batch,
+            steps,
+        )?;
         self.history.push(HistoryEntry {
             pass: number,
             batch,

@@ -9,6 +9,8 @@
 
 pub mod batch;
 pub mod catalogue;
+#[cfg(test)]
+mod catalogue_tests;
 pub mod edition;
 pub mod history_entry;
 pub mod ids;

@@ -38,9 +38,7 @@ pub struct Turn {
 fn take_none(outcomes: &[Outcome]) -> bool
     ensures { result ≡ list_all takes_none outcomes.now }
 {
-    outcomes
-        .iter()
-        .all(|outcome| matches!(outcome, Outcome::Added | Outcome::Absent))
+    outcomes.iter().all(|outcome| matches!(outcome, Outcome::Added | Outcome::Absent))
 }
 
 /// Copies of the editions. Memory where it runs out.
