@@ -3,3 +3,4 @@ pub mod Refused
 pub mod Batches
 pub mod Reading
 pub mod Outcomes
+pub mod Handing
