@@ -1,1 +1,4 @@
+pub mod CheckedLaws
+pub mod BlockLaws
+pub mod PassedLaws
 pub mod HandingLaws
