@@ -12,7 +12,7 @@ use Rattle.std.proofs.lemmas.Grind.{flat_map-append}
 use Rattle.std.proofs.lemmas.Option.{same_Some}
 use Rattle.union_base.specs.Both.{both_true, true_both}
 use Rattle.iso2709_frame.specs.Frames.{frames}
-use Rattle.catalogue_core.specs.Histories.{MapOf, current, outcomes, after_op}
+use Rattle.catalogue_core.specs.Histories.{MapOf, current, outcomes, after_op, after_batch}
 use Rattle.catalogue_core.specs.Batches.{is_own_op}
 use Rattle.catalogue_core.specs.declared.edition.Edition.{Edition}
 use Rattle.catalogue_core.specs.declared.op.Op.{Op}
@@ -20,7 +20,9 @@ use Rattle.catalogue_core.specs.declared.op.TheConstants.{LARGEST_BATCH}
 use Rattle.catalogue_core.specs.declared.batch.Batch.{Batch}
 use Rattle.catalogue_core.specs.declared.history_entry.HistoryEntry.{HistoryEntry}
 use Rattle.catalogue_core.specs.declared.outcome.Outcome.{Outcome}
-use Rattle.library_batches.specs.Outcomes.{AreCounted, found_in}
+use Rattle.library_batches.specs.Outcomes.{AreCounted, found_in, after_batches}
+use Rattle.library_batches.proofs.HandingLaws.{found_in-one_more, after_batches-one_more}
+use Rattle.std.proofs.lemmas.List.Sums.{fold-append}
 use Rattle.library_batches.specs.Refused.{refused}
 use Rattle.union_reports.specs.Reports.{report_text}
 use Rattle.union_words.specs.Words.{LibraryFile, code_text, libraries_of, library_of, name_one_library, have_distinct_codes}
@@ -264,3 +266,27 @@ few-ops batch =
     few-from (length batch.ops) LARGEST_BATCH
     (both_true (nat_le 1 (length batch.ops)) (nat_le (length batch.ops) LARGEST_BATCH)
     (both_true (nat_le 1 (length batch.ops) && nat_le (length batch.ops) LARGEST_BATCH) (list_all (is_own_op batch.library) batch.ops) batch.fits).0).1
+
+-- ---- a batch more is applied
+
+pub applied-history : (old now : List HistoryEntry) (n : ℕ) (batches : List Batch) (batch : Batch) → now ≡ old ++ map (entry_of n) batches
+    → now ++ entry_of n batch ∷ [] ≡ old ++ map (entry_of n) (batches ++ batch ∷ [])
+applied-history old now n batches batch is =
+    ap (λ h. h ++ entry_of n batch ∷ []) is ∙ append_assoc old (map (entry_of n) batches) (entry_of n batch ∷ [])
+    ∙ ap (λ t. old ++ t) (sym (map-append (entry_of n) batches (batch ∷ [])))
+
+pub applied-records : (old now : List HistoryEntry) (n : ℕ) (batches : List Batch) (batch : Batch) → current now ≡ after_batches (current old) batches
+    → current (now ++ entry_of n batch ∷ []) ≡ after_batches (current old) (batches ++ batch ∷ [])
+applied-records old now n batches batch is =
+    fold-append (λ all (entry : HistoryEntry). after_batch all entry.batch) [] now (entry_of n batch ∷ [])
+    ∙ ap (λ all. after_batch all batch) is ∙ sym (after_batches-one_more (current old) batches batch)
+
+pub applied-found : (old now : List HistoryEntry) (batches : List Batch) (batch : Batch) → current now ≡ after_batches (current old) batches
+    → found_in (current old) (batches ++ batch ∷ []) ≡ found_in (current old) batches ++ outcomes batch.library (current now) batch.ops
+applied-found old now batches batch is =
+    found_in-one_more (current old) batches batch
+    ∙ ap (λ all. found_in (current old) batches ++ outcomes batch.library all batch.ops) (sym is)
+
+pub own-pushed : (library : List ℕ) (batches : List Batch) (batch : Batch) → AllByRecursion (λ batch. batch.library ≡ library) batches
+    → batch.library ≡ library → AllByRecursion (λ batch. batch.library ≡ library) (batches ++ batch ∷ [])
+own-pushed library batches batch own is = each-both (λ (batch : Batch). batch.library ≡ library) batches (batch ∷ []) own (is, tt)

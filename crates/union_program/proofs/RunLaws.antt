@@ -1,5 +1,6 @@
 -- A run that stops at its inputs.
-use Rattle.std.proofs.Common.{◌≡◌, ℕ, Bool, true, false, IsTrue, ◌++◌, List, [], ◌∷◌, inl, inr, refl, sym, ap, subst, ◌∙◌}
+use Rattle.std.proofs.Common.{◌≡◌, ℕ, Bool, true, false, IsTrue, ◌++◌, List, [], ◌∷◌, inl, inr, refl, sym, ap, subst, ◌∙◌, length, append-nil, arith}
+use Rattle.std.proofs.lemmas.List.{take_all}
 use Rattle.std.specs.Prelude.{Option, Some, None, IfSome, ◌⊎◌}
 use Rattle.std.specs.Option.{option_map}
 use Rattle.std.proofs.lemmas.Option.{same_Some}
@@ -21,7 +22,7 @@ use Rattle.union_program.specs.Unions.{HasUnited, IsUnion}
 use Rattle.union_program.specs.declared.loaded.Loaded.{Loaded}
 
 -- something failed under one of the names, so it is not so that nothing did
-none_at : (shelf : ShelfFlow) (file : InputFile) (libraries : List InputFile) → IsOneOf file libraries → NoneFails (inputs_of libraries) shelf
+none_at : (shelf : ShelfFlow) (file : InputFile) (libraries : List InputFile) → IsOneOf file libraries → NoneFails libraries shelf
     → ¬ Rose (shelf.before file.path) (shelf.after file.path)
 none_at shelf file [] one none = absurd one
 none_at shelf file (first ∷ rest) (inl is) none = subst (λ f. ¬ Rose (shelf.before f.path) (shelf.after f.path)) (sym is) none.0
@@ -105,7 +106,7 @@ stopped_run showing status libraries shelf out notes stops keeps =
       complete = λ contents is within none sound_out sound_notes. inr (stops_whole status libraries shelf contents stops is within none);
     }
 
-on_told : {P Q : (List ℕ → List ℕ) → Type 0} (files : Option (List ℕ → List ℕ)) → ((contents : List ℕ → List ℕ) → P contents → Q contents)
+pub on_told : {P Q : (List ℕ → List ℕ) → Type 0} (files : Option (List ℕ → List ℕ)) → ((contents : List ℕ → List ℕ) → P contents → Q contents)
     → IfSome files P → IfSome files Q
 on_told None follows holds = tt
 on_told (Some contents) follows holds = follows contents holds
@@ -171,16 +172,16 @@ loaded_run showing loaded status libraries shelf out notes calm united shows =
       too_long = λ i is. absurd (other-end loaded.refused status (TooLong i) written.kinds refl (λ e. cc) (λ e. cc) is);
       done = λ done. on_told shelf.files
           (λ contents holds. (holds.0, done-end loaded.refused status written.kinds done ∙ end contents holds.1,
-              holds.1.union.streams, editions, whole contents holds.1, (written.done done).0,
-              subst (λ reports. Appends notes.old notes.new (reports ++ showing.noted editions)) holds.1.union.reports (written.done done).1))
+              (holds.1.union.streams, editions, whole contents holds.1, (written.done done).0,
+              subst (λ reports. Appends notes.old notes.new (reports ++ showing.noted editions)) holds.1.union.reports (written.done done).1)))
           united;
       untouched = λ early other. absurd (other (early-memory loaded.refused status written.kinds early));
       memory = λ is. inr (on_told shelf.files
-          (λ contents holds. (holds.0, holds.1.union.streams, editions, whole contents holds.1, (written.memory is).0))
+          (λ contents holds. (holds.0, (holds.1.union.streams, editions, whole contents holds.1, (written.memory is).0)))
           united);
       part = λ is. on_told shelf.files
-          (λ contents holds. (holds.0, holds.1.union.streams, editions, whole contents holds.1, (written.part is).0,
-              subst (λ reports. AppendsFront notes.old notes.new (reports ++ showing.noted editions)) holds.1.union.reports (written.part is).1))
+          (λ contents holds. (holds.0, (holds.1.union.streams, editions, whole contents holds.1, (written.part is).0,
+              subst (λ reports. AppendsFront notes.old notes.new (reports ++ showing.noted editions)) holds.1.union.reports (written.part is).1)))
           united;
       too_long_where = λ contents i is found none. absurd (within_none contents libraries i (told (λ contents. AreWithin contents libraries × HasUnited (deliveries contents libraries) loaded) shelf.files contents is united).0 found);
       complete = λ contents is within none sound_out sound_notes.
@@ -195,6 +196,48 @@ pub loaded_noted : (showing : Showing) (loaded : Loaded) (status : Status) (out 
 loaded_noted showing loaded status out notes shows early =
     let is = early-memory loaded.refused status shows.2.kinds early in
     subst (λ s. IsNoted notes (early_text s)) (sym is) (shows.2.memory is).1
+
+-- a whole text is a front of itself
+front-of_whole : (old new : Option (List ℕ)) (text : List ℕ) → Appends old new text → AppendsFront old new text
+front-of_whole old new text whole =
+    (length text, omega arith, subst (λ t. Appends old new t) (sym (take_all (length text) text (omega arith))) whole)
+
+nothing-written : (written : Option (List ℕ)) (text : List ℕ) → AppendsFront written written text
+nothing-written None text = (0, omega arith, tt)
+nothing-written (Some bytes) text = (0, omega arith, sym (append-nil bytes))
+
+-- what is shown was written whole, and then what is noted
+pub shown-whole : (shown noted : List ℕ) (end : Status) (out notes : Outflow) (status : Status) → Appends out.old out.new shown
+    → IsReported noted end notes status → Written shown noted end out notes status
+shown-whole shown noted end out notes status whole reported = record {
+  kinds = reported.kinds;
+  done = λ done. (whole, reported.done done);
+  part = λ is. (front-of_whole out.old out.new shown whole, (reported.part is).0);
+  write_fault = λ is. inr (reported.part is).1;
+  memory = λ is. (front-of_whole out.old out.new shown whole, reported.memory is);
+}
+
+-- a front of what is shown was written, and then a write failed
+pub shown-failed : (shown noted : List ℕ) (end : Status) (out notes : Outflow) → AppendsFront out.old out.new shown → HasFailedAt out
+    → notes.new ≡ notes.old → Written shown noted end out notes WriteFault
+shown-failed shown noted end out notes front fails same = record {
+  kinds = inr (inl refl);
+  done = λ done. cc;
+  part = λ is. (front, subst (λ new. AppendsFront notes.old new noted) (sym same) (nothing-written notes.old noted));
+  write_fault = λ is. inl fails;
+  memory = λ is. cc;
+}
+
+-- a front of what is shown was written, and then memory ran out
+pub shown-memory : (shown noted : List ℕ) (end : Status) (out notes : Outflow) → AppendsFront out.old out.new shown
+    → IsNoted notes (early_text Memory) → Written shown noted end out notes Memory
+shown-memory shown noted end out notes front note = record {
+  kinds = inr (inr refl);
+  done = λ done. cc;
+  part = λ is. cc;
+  write_fault = λ is. cc;
+  memory = λ is. (front, note);
+}
 
 -- what was not written on is as it was
 pub keeps_all : (written : Option (List ℕ)) → Keeps written written
