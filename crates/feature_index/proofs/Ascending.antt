@@ -75,7 +75,7 @@ module _ (xs : List ℕ) (x place : ℕ) (a : Ascends xs) (g : IsGap xs x place)
       ]
 
 -- a list of which each number is less than the next ascends
-ascends-from_next : (xs : List ℕ) → ((k : ℕ) → k + 1 < length xs → get_or xs k 0 < get_or xs (k + 1) 0) → Ascends xs
+pub ascends-from_next : (xs : List ℕ) → ((k : ℕ) → k + 1 < length xs → get_or xs k 0 < get_or xs (k + 1) 0) → Ascends xs
 ascends-from_next xs step i j d ij jl =
     let far : (n : ℕ) → i + 1 + n < length xs → get_or xs i 0 < get_or xs (i + 1 + n) 0 = go i in
     let e : i + 1 + (j - (i + 1)) ≡ j = omega arith in

@@ -1,1 +1,1 @@
-mod Ascending
+pub mod Ascending
