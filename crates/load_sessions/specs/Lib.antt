@@ -2,3 +2,4 @@ pub mod Questions
 pub mod Entries
 pub mod Tallies
 pub mod Sessions
+pub mod Turning

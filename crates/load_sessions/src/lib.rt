@@ -16,3 +16,5 @@ pub mod questions;
 pub mod report;
 pub mod served;
 pub mod session;
+pub mod running;
+mod turning;

@@ -1,0 +1,84 @@
+//! The running of sessions.
+ghost use Rattle.std.specs.Prelude.{◌≡◌, IfOk};
+ghost use Rattle.library_batches.specs.Reading.{begun};
+ghost use Rattle.load_sessions.specs.Sessions.{IsReady, Runs, counts_of};
+ghost use Rattle.load_sessions.specs.Turning.{Ends};
+
+use crate::end::End;
+use crate::report::Report;
+use crate::served::Served;
+use crate::session::Session;
+use crate::turning::turn_batches;
+use catalogue_lock::desk::Desk;
+use library_batches::batch_reader::BatchReader;
+use library_batches::outcome_counts::OutcomeCounts;
+use library_batches::stop::Stop;
+use std::alloc::Global;
+use std::sync::Wait;
+use union_base::memory::Memory;
+use union_io::gate::Gate;
+use union_io::source::Source;
+
+/// The end of a session whose turns came to that.
+fn end_of(turned: Result<(), Stop>) -> End
+    ensures { Ends turned result }
+{
+    match turned {
+        Ok(()) => End::Done,
+        Err(Stop::TooLong) => End::TooLong,
+        Err(Stop::Failed) => End::ReadFault,
+        Err(Stop::Memory) => End::Memory,
+    }
+}
+
+/// The report of a reader that has read so far, with these counts.
+fn report_of(reader: BatchReader, counts: OutcomeCounts) -> Report
+    ensures frames { result.frames ≡ reader.frames }
+    ensures refused { result.refused.items ≡ reader.refused }
+    ensures counts { counts_of result ≡ counts }
+{
+    Report {
+        frames: reader.frames(),
+        refused: reader.into_refused(),
+        added: counts.added,
+        replaced: counts.replaced,
+        removed: counts.removed,
+        absent: counts.absent,
+    }
+}
+
+/// Runs a session with a reader that was made for it.
+fn run_reader<R: Wait, S: Source, G: Gate>(
+    rt: &R,
+    alloc: Global,
+    desk: &Desk<Served>,
+    gate: &G,
+    mut reader: BatchReader,
+    session: &mut Session<S>,
+)
+    requires ready { IsReady desk.now.board.shared.table_id session.old }
+    requires reader { reader ≡ begun session.old.library session.old.limit }
+    ensures { Runs S.name S.left S.faults desk.now.board.shared.table_id session.old session.new }
+{
+    let mut counts = OutcomeCounts::new();
+    let turned = turn_batches(rt, alloc, desk, gate, &mut reader, &mut counts, session);
+    session.report = report_of(reader, counts);
+    session.end = end_of(turned);
+}
+
+/// Runs a session: reads its source, and makes a turn for each of its batches.
+pub(crate) fn run_session<R: Wait, S: Source, G: Gate>(
+    rt: &R,
+    alloc: Global,
+    desk: &Desk<Served>,
+    gate: &G,
+    session: &mut Session<S>,
+)
+    requires { IsReady desk.now.board.shared.table_id session.old }
+    ensures { Runs S.name S.left S.faults desk.now.board.shared.table_id session.old session.new }
+{
+    match BatchReader::open(alloc, &session.library, session.limit) {
+        Ok(reader) => run_reader(rt, alloc, desk, gate, reader, session),
+        Err(Memory) => session.end = End::Memory,
+    }
+}
