@@ -1,7 +1,7 @@
 //! The running of sessions.
-ghost use Rattle.std.specs.Prelude.{◌≡◌, IfOk};
+ghost use Rattle.std.specs.Prelude.{◌≡◌, ◌<◌, All};
 ghost use Rattle.library_batches.specs.Reading.{begun};
-ghost use Rattle.load_sessions.specs.Sessions.{IsReady, Runs, counts_of};
+ghost use Rattle.load_sessions.specs.Sessions.{IsReady, Runs, RunsEach, counts_of};
 ghost use Rattle.load_sessions.specs.Turning.{Ends};
 
 use crate::end::End;
@@ -15,6 +15,8 @@ use library_batches::outcome_counts::OutcomeCounts;
 use library_batches::stop::Stop;
 use std::alloc::Global;
 use std::sync::Wait;
+use std::thread;
+use std::thread::Threads;
 use union_base::memory::Memory;
 use union_io::gate::Gate;
 use union_io::source::Source;
@@ -81,4 +83,40 @@ pub(crate) fn run_session<R: Wait, S: Source, G: Gate>(
         Ok(reader) => run_reader(rt, alloc, desk, gate, reader, session),
         Err(Memory) => session.end = End::Memory,
     }
+}
+
+/// Runs the sessions in their order.
+fn run_in_order<R: Wait, S: Source, G: Gate>(
+    rt: &R,
+    alloc: Global,
+    desk: &Desk<Served>,
+    gate: &G,
+    sessions: &mut [Session<S>],
+)
+    requires { All (IsReady desk.now.board.shared.table_id) sessions.old }
+    ensures { RunsEach S.name S.left S.faults desk.now.board.shared.table_id sessions.old sessions.new }
+{
+    for session in sessions.iter_mut() {
+        run_session(rt, alloc, desk, gate, session);
+    }
+}
+
+/// Runs the sessions on so many threads.
+fn run_at_once<R: Threads + Wait + Sync, S: Source + Send, G: Gate>(
+    rt: &R,
+    alloc: Global,
+    desk: &Desk<Served>,
+    gate: &G,
+    sessions: &mut [Session<S>],
+    workers: usize,
+)
+    requires workers { 0 < workers }
+    requires ready { All (IsReady desk.now.board.shared.table_id) sessions.old }
+    ensures { RunsEach S.name S.left S.faults desk.now.board.shared.table_id sessions.old sessions.new }
+{
+    let each = |_place: usize, session: &mut Session<S>|
+        requires { IsReady desk.now.board.shared.table_id session.now }
+        ensures { Runs S.name S.left S.faults desk.now.board.shared.table_id session.entry.now session.exit.now }
+    { run_session(rt, alloc, desk, gate, session) };
+    thread::for_each_mut(rt, sessions, workers, &each);
 }
