@@ -9,6 +9,8 @@ ghost use Rattle.marc_parts.specs.Loads.{is_deleted, is_loadable};
 ghost use Rattle.marc_rules.specs.Accepted.{IsAccepted};
 ghost use Rattle.merge_laws.specs.Resolution.{IsResolution};
 ghost use Rattle.catalogue_core.specs.declared.edition.Edition.{Edition};
+ghost use Rattle.catalogue_core.specs.declared.history_entry.HistoryEntry.{HistoryEntry};
+ghost use Rattle.catalogue_core.specs.Histories.{AreEditionsOf};
 ghost use Rattle.catalogue_core.specs.Ids.{least, edition_cmp};
 ghost use Rattle.catalogue_core.specs.Joining.{join};
 ghost use Rattle.catalogue_core.specs.Matching.{match as edition_match};
@@ -37,4 +39,10 @@ pub fn sorted_resolution_is_ordered()
 /// A list of editions has one resolution that is in order of the least contributors.
 pub fn ordered_resolution_is_unique()
     ensures { (list one other : List Edition) → IsOrderedResolution list one → IsOrderedResolution list other → one ≡ other }
+{}
+
+/// The editions of a history are one list.
+pub fn editions_of_a_history_are_unique()
+    ensures { (history : List HistoryEntry) (one other : List Edition) → AreEditionsOf history one → AreEditionsOf history other
+        → one ≡ other }
 {}

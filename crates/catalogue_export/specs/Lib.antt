@@ -3,3 +3,4 @@ pub mod TagOrder
 pub mod Exported
 pub mod ExportedLaws
 pub mod Editions
+pub mod Writing

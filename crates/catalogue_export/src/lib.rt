@@ -10,8 +10,11 @@
 
 pub mod edition;
 pub mod editions;
+pub mod export;
+pub mod export_fail;
 mod fields;
 mod fitting;
 pub mod laws;
+mod pending;
 #[cfg(test)]
 mod tests;

@@ -1,10 +1,14 @@
--- What the code's jobs stand for.
+-- What the code's jobs and lines of scripts stand for.
 use Rattle.std.specs.Prelude.{List}
 use Rattle.union_words.specs.declared.library_file.LibraryFile.{LibraryFile as FileInPlace}
 use Rattle.union_words.specs.declared.libraries.Libraries.{Libraries}
 use Rattle.union_words.specs.declared.job.Job.{Job as JobInPlace}
-use Rattle.union_words.specs.declared.job.Job.TheVariants.{Check as CheckInPlace, Export as ExportInPlace, Help as HelpInPlace, Version as VersionInPlace}
-use Rattle.union_words.specs.Words.{LibraryFile, Job, Check, Export, Help, Version, libraries_of}
+use Rattle.union_words.specs.declared.job.Job.TheVariants.{Check as CheckInPlace, Export as ExportInPlace, Works as WorksInPlace, Script as ScriptInPlace, Help as HelpInPlace, Version as VersionInPlace}
+use Rattle.union_words.specs.declared.script_line.ScriptLine.{ScriptLine as LineInPlace}
+use Rattle.union_words.specs.declared.script_line.ScriptLine.TheVariants.{Load as LoadInPlace, Export as ExportLineInPlace, Works as WorksLineInPlace, Ask as AskInPlace, Word as WordInPlace}
+use Rattle.union_words.specs.ScriptLines.{ScriptLine, Load, Ask, Word}
+use Rattle.union_words.specs.ScriptLines as lines
+use Rattle.union_words.specs.Words.{LibraryFile, Job, Check, Export, Works, Script, Help, Version, libraries_of}
 
 -- the library and the path that the code borrows
 abbrev pub file_meaning : FileInPlace → LibraryFile
@@ -17,5 +21,14 @@ libraries_meaning libraries = libraries_of libraries.words.now
 abbrev pub job_meaning : JobInPlace → Job
 job_meaning (CheckInPlace file) = Check (file_meaning file)
 job_meaning (ExportInPlace libraries) = Export (libraries_meaning libraries)
+job_meaning (WorksInPlace libraries) = Works (libraries_meaning libraries)
+job_meaning (ScriptInPlace path) = Script path.now
 job_meaning HelpInPlace = Help
 job_meaning VersionInPlace = Version
+
+abbrev pub line_meaning : LineInPlace → ScriptLine
+line_meaning (LoadInPlace file) = Load (file_meaning file)
+line_meaning ExportLineInPlace = lines.Export
+line_meaning WorksLineInPlace = lines.Works
+line_meaning (AskInPlace line) = Ask line.now
+line_meaning WordInPlace = Word

@@ -3,7 +3,7 @@ use Rattle.std.specs.Prelude.{ℕ, List, [], ◌∷◌, ◌++◌, codes}
 use Rattle.union_words.specs.declared.input.Input.{Input}
 use Rattle.union_words.specs.declared.input.Input.TheVariants.{Library, Asks, Script}
 use Rattle.union_words.specs.declared.status.Status.{Status}
-use Rattle.union_words.specs.declared.status.Status.TheVariants.{Done, DoneWithRefusals, Usage, OpenFault, ReadFault, WriteFault, TooLong, Memory, NotBuilt}
+use Rattle.union_words.specs.declared.status.Status.TheVariants.{Done, DoneWithRefusals, Usage, OpenFault, ReadFault, WriteFault, TooLong, Memory}
 
 abbrev pub line_feed : ℕ
 line_feed = 0x0A
@@ -24,4 +24,3 @@ early_text (ReadFault input) = codes "union: read failed in " ++ (input_name inp
 early_text WriteFault = []
 early_text (TooLong input) = codes "union: " ++ (input_name input ++ (codes " is too long" ++ line_feed ∷ []))
 early_text Memory = codes "union: out of memory" ++ line_feed ∷ []
-early_text NotBuilt = codes "union: not built" ++ line_feed ∷ []

@@ -14,6 +14,8 @@ pub record LibraryFile : Type 0 where
 pub data Job : Type 0 where
   Check : (file : LibraryFile) → Job
   Export : (libraries : List LibraryFile) → Job
+  Works : (libraries : List LibraryFile) → Job
+  Script : (path : List ℕ) → Job
   Help : Job
   Version : Job
 
@@ -68,6 +70,16 @@ check_job (word ∷ more ∷ rest) = None
 abbrev pub export_job : ℕ → List (List ℕ) → Option Job
 export_job most words = (if nat_le (length words) most && are_libraries words then Some (Export (libraries_of words)) else None)
 
+-- one to `most` words `LIB=PATH` behind `works`
+abbrev pub works_job : ℕ → List (List ℕ) → Option Job
+works_job most words = (if nat_le (length words) most && are_libraries words then Some (Works (libraries_of words)) else None)
+
+-- a path behind `script`
+abbrev pub script_job : List (List ℕ) → Option Job
+script_job (word ∷ []) = (if is_path word then Some (Script word) else None)
+script_job [] = None
+script_job (word ∷ more ∷ rest) = None
+
 -- what a word that stands alone asks for
 abbrev pub lone_job : List ℕ → Option Job
 lone_job word =
@@ -78,7 +90,9 @@ lone_job word =
 abbrev pub command_job : ℕ → List ℕ → List (List ℕ) → Option Job
 command_job most command words =
     (if is_text command (codes "check") then check_job words
-    else (if is_text command (codes "export") then export_job most words else None))
+    else (if is_text command (codes "export") then export_job most words
+    else (if is_text command (codes "works") then works_job most words
+    else (if is_text command (codes "script") then script_job words else None))))
 
 -- what the words behind the program's name ask for: None where they are in no form that the program has
 abbrev pub job_of : ℕ → List (List ℕ) → Option Job

@@ -5,7 +5,7 @@ ghost use Rattle.union_words.specs.Meanings.{job_meaning};
 ghost use Rattle.union_words.specs.Words;
 
 use crate::libraries::Libraries;
-use crate::library_file::LibraryFile;
+use crate::library_file::{LibraryFile, is_path};
 use union_base::bytes::Bytes;
 
 /// The most libraries that a command takes.
@@ -18,6 +18,10 @@ pub enum Job<'a> {
     Check(LibraryFile<'a>),
     /// `export LIB=PATH ..`: load and export.
     Export(Libraries<'a>),
+    /// `works LIB=PATH ..`: load and list the works.
+    Works(Libraries<'a>),
+    /// `script PATH`: run a script.
+    Script(&'a [u8]),
     /// `--help`: tell the forms of words.
     Help,
     /// `--version`: tell the program's name and version.
@@ -59,6 +63,10 @@ fn command_job<'a>(command: &[u8], words: &'a [Bytes], most: usize) -> Option<Jo
         check_job(words)
     } else if command == b"export".as_slice() {
         export_job(words, most)
+    } else if command == b"works".as_slice() {
+        works_job(words, most)
+    } else if command == b"script".as_slice() {
+        script_job(words)
     } else {
         None
     }
@@ -80,4 +88,19 @@ fn export_job(words: &[Bytes], most: usize) -> Option<Job<'_>>
     ensures { option_map job_meaning result ≡ Words.export_job most words.now }
 {
     Some(Job::Export(Libraries::read(words, most)?))
+}
+
+fn works_job(words: &[Bytes], most: usize) -> Option<Job<'_>>
+    ensures { option_map job_meaning result ≡ Words.works_job most words.now }
+{
+    Some(Job::Works(Libraries::read(words, most)?))
+}
+
+fn script_job(words: &[Bytes]) -> Option<Job<'_>>
+    ensures { option_map job_meaning result ≡ Words.script_job words.now }
+{
+    match words {
+        [word] if is_path(word.bytes()) => Some(Job::Script(word.bytes())),
+        _ => None,
+    }
 }

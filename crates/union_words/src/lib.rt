@@ -13,6 +13,7 @@ pub mod libraries;
 pub mod library_file;
 pub mod lines;
 pub mod number;
+pub mod script_line;
 pub mod status;
 #[cfg(test)]
 mod tests;

@@ -24,8 +24,6 @@ pub enum Status {
     TooLong(Input),
     /// Memory ran out.
     Memory,
-    /// The input is none that this stage of the program takes.
-    NotBuilt,
 }
 
 impl Status {
@@ -42,7 +40,6 @@ impl Status {
             Status::WriteFault => 5,
             Status::TooLong(_) => 6,
             Status::Memory => 7,
-            Status::NotBuilt => 8,
         }
     }
 
@@ -58,7 +55,6 @@ impl Status {
             Status::ReadFault(input) => (b"union: read failed in ", input.name(), b"\n"),
             Status::TooLong(input) => (b"union: ", input.name(), b" is too long\n"),
             Status::Memory => (b"union: out of memory", &[], b"\n"),
-            Status::NotBuilt => (b"union: not built", &[], b"\n"),
         }
     }
 }

@@ -1,6 +1,7 @@
 //! What no clause says: that the forms, numbers, lines and texts are those that were meant.
 use crate::input::Input;
 use crate::job::Job;
+use crate::libraries::Libraries;
 use crate::library_file::LibraryFile;
 use crate::lines::{Lines, is_skipped};
 use crate::number::{count_of, seed_of, workers_of, workers_word};
@@ -30,6 +31,13 @@ fn tell_file(text: &mut Vec<u8>, file: &LibraryFile<'_>) -> Result<(), AllocErro
     text.extend_from_slice(file.path)
 }
 
+fn tell_libraries(text: &mut Vec<u8>, libraries: &Libraries<'_>) -> Result<(), AllocError> {
+    for place in 0..libraries.len() {
+        tell_file(text, &libraries.at(place))?;
+    }
+    Ok(())
+}
+
 /// A job as a text, with a blank before each library and each path.
 fn told(alloc: Global, job: &Option<Job<'_>>) -> Result<Vec<u8>, AllocError> {
     let mut text = Vec::new(alloc);
@@ -43,9 +51,15 @@ fn told(alloc: Global, job: &Option<Job<'_>>) -> Result<Vec<u8>, AllocError> {
         }
         Some(Job::Export(libraries)) => {
             text.extend_from_slice(b"export")?;
-            for place in 0..libraries.len() {
-                tell_file(&mut text, &libraries.at(place))?;
-            }
+            tell_libraries(&mut text, libraries)?;
+        }
+        Some(Job::Works(libraries)) => {
+            text.extend_from_slice(b"works")?;
+            tell_libraries(&mut text, libraries)?;
+        }
+        Some(Job::Script(path)) => {
+            text.extend_from_slice(b"script ")?;
+            text.extend_from_slice(path)?;
         }
     }
     Ok(text)
@@ -59,13 +73,15 @@ fn asks(alloc: Global, line: &[u8], most: usize, want: &[u8]) -> Result<bool, Fa
 }
 
 /// Lines of words, and what each asks for where up to 64 libraries may stand.
-const FORMS: [(&[u8], &[u8]); 8] = [
+const FORMS: [(&[u8], &[u8]); 10] = [
     (b"check LIBA=a", b"check LIBA a"),
     (b"export LIBA=a", b"export LIBA a"),
     (b"export LIBA=a LIBB=a", b"export LIBA a LIBB a"),
     (b"export B=x A=y C=x", b"export B x A y C x"),
     (b"export LIBA=a=b=", b"export LIBA a=b="),
     (b"check 7=\xC3\xA4", b"check 7 \xC3\xA4"),
+    (b"works LIBA=a LIBB=a", b"works LIBA a LIBB a"),
+    (b"script s.txt", b"script s.txt"),
     (b"--help", b"help"),
     (b"--version", b"version"),
 ];
@@ -265,7 +281,6 @@ fn statuses_have_numbers_and_lines(rt: HostRuntime) -> Result<(), Fail> {
         )?
     );
     assert!(rt; ends(alloc, Status::Memory, 7, b"union: out of memory\n")?);
-    assert!(rt; ends(alloc, Status::NotBuilt, 8, b"union: not built\n")?);
     Ok(())
 }
 

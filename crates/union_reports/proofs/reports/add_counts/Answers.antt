@@ -8,7 +8,6 @@ returns c =
     rw (
       c.in_ok-push.ensures.items,
       c.in_ok-add_counted-6.ensures,
-      c.as_slice.ensures.value,
       c.in_ok-add_counted-5.ensures,
       c.in_ok-add_counted-4.ensures,
       c.in_ok-add_counted-3.ensures,

@@ -1,0 +1,6 @@
+pub mod Texts
+pub mod Inputs
+pub mod Readings
+pub mod Batches
+pub mod Lines
+pub mod Runs

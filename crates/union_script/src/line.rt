@@ -1,0 +1,112 @@
+//! One line of a script.
+ghost use Rattle.std.specs.Prelude.{◌≡◌, ◌∷◌, [], ℕ, List, false};
+ghost use Rattle.union_words.specs.Meanings.{file_meaning};
+ghost use Rattle.union_words.specs.ScriptLines.{Load as LoadLine, script_line};
+ghost use Rattle.union_script.specs.Lines.{LinesRun, Says};
+ghost use Rattle.union_script.specs.Texts.{asked_by, IsExport};
+
+use crate::loading::load_file;
+use crate::union::Union;
+use catalogue_core::catalogue::Catalogue;
+use catalogue_export::export::export;
+use catalogue_export::export_fail::ExportFail;
+use std::alloc::Global;
+use std::sync::ledger::Ledger;
+use union_io::failed::Failed;
+use union_io::shelf::Shelf;
+use union_io::sink::{Sink, put_all};
+use union_words::library_file::LibraryFile;
+use union_words::lines::is_skipped;
+use union_words::script_line::ScriptLine;
+use union_words::status::Status;
+
+/// What a line writes that is refused for its words.
+const REFUSED_WORD: &[u8] = b"refused word\n";
+
+/// What a line writes that begins with an unknown word.
+const REFUSED_UNKNOWN: &[u8] = b"refused unknown\n";
+
+/// Writes a text, where something was refused or not.
+fn say<O: Sink>(text: &[u8], refused: bool, out: &mut O) -> Result<bool, Status>
+    ensures { Says result text.now refused
+        (record { old = O.written out.old; new = O.written out.new; before = O.faults out.old; after = O.faults out.new }) }
+{
+    match put_all(out, text) {
+        Ok(()) => Ok(refused),
+        Err(Failed) => Err(Status::WriteFault),
+    }
+}
+
+/// Loads a library's file, and writes its report.
+fn run_load<L: Ledger, F: Shelf, O: Sink>(
+    alloc: Global,
+    file: &LibraryFile<'_>,
+    union: &mut Union<L>,
+    shelf: &mut F,
+    out: &mut O,
+) -> Result<bool, Status>
+    ensures files { F.files shelf.new ≡ F.files shelf.old }
+    ensures run { LinesRun result (LoadLine (file_meaning file.now) ∷ []) union.old.catalogue union.new.catalogue
+        (record { files = F.files shelf.old; before = F.faults shelf.old; after = F.faults shelf.new })
+        (record { old = O.written out.old; new = O.written out.new; before = O.faults out.old; after = O.faults out.new }) }
+{
+    match load_file(alloc, file, union, shelf) {
+        Ok(report) => say(report.text.as_slice(), report.refused, out),
+        Err(status) => Err(status),
+    }
+}
+
+/// Writes the export. Which fields were left out is not told.
+fn run_export<O: Sink>(alloc: Global, catalogue: &Catalogue, out: &mut O) -> Result<bool, Status>
+    ensures { (text : List ℕ) × IsExport catalogue.now text × Says result text false
+        (record { old = O.written out.old; new = O.written out.new; before = O.faults out.old; after = O.faults out.new }) }
+{
+    let mut left = Vec::new(alloc);
+    match export(alloc, catalogue, out, &mut left) {
+        Ok(()) => Ok(false),
+        Err(ExportFail::WriteFault) => Err(Status::WriteFault),
+        Err(ExportFail::Memory) => Err(Status::Memory),
+    }
+}
+
+/// Runs a line that is not skipped.
+fn run_line<L: Ledger, F: Shelf, O: Sink>(
+    alloc: Global,
+    line: &[u8],
+    union: &mut Union<L>,
+    shelf: &mut F,
+    out: &mut O,
+) -> Result<bool, Status>
+    ensures files { F.files shelf.new ≡ F.files shelf.old }
+    ensures run { LinesRun result (script_line line.now ∷ []) union.old.catalogue union.new.catalogue
+        (record { files = F.files shelf.old; before = F.faults shelf.old; after = F.faults shelf.new })
+        (record { old = O.written out.old; new = O.written out.new; before = O.faults out.old; after = O.faults out.new }) }
+{
+    match ScriptLine::read(line) {
+        ScriptLine::Load(file) => run_load(alloc, &file, union, shelf, out),
+        ScriptLine::Export => run_export(alloc, &union.catalogue, out),
+        ScriptLine::Works => say(REFUSED_UNKNOWN, true, out),
+        ScriptLine::Ask(_) => say(REFUSED_UNKNOWN, true, out),
+        ScriptLine::Word => say(REFUSED_WORD, true, out),
+    }
+}
+
+/// Runs a line, unless it is skipped: does what it asks for, writes its text, and tells whether something in it was refused.
+pub fn run_unskipped<L: Ledger, F: Shelf, O: Sink>(
+    alloc: Global,
+    line: &[u8],
+    union: &mut Union<L>,
+    shelf: &mut F,
+    out: &mut O,
+) -> Result<bool, Status>
+    ensures files { F.files shelf.new ≡ F.files shelf.old }
+    ensures run { LinesRun result (asked_by (line.now ∷ [])) union.old.catalogue union.new.catalogue
+        (record { files = F.files shelf.old; before = F.faults shelf.old; after = F.faults shelf.new })
+        (record { old = O.written out.old; new = O.written out.new; before = O.faults out.old; after = O.faults out.new }) }
+{
+    if is_skipped(line) {
+        Ok(false)
+    } else {
+        run_line(alloc, line, union, shelf, out)
+    }
+}

@@ -1,0 +1,43 @@
+//! The lines of a script, one after the other.
+ghost use Rattle.std.specs.Prelude.{◌≡◌, ◌||◌};
+ghost use Rattle.union_script.specs.Lines.{LinesRun};
+ghost use Rattle.union_script.specs.Texts.{script_of};
+
+use crate::line::run_unskipped;
+use crate::union::Union;
+use std::alloc::Global;
+use std::sync::ledger::Ledger;
+use union_io::shelf::Shelf;
+use union_io::sink::Sink;
+use union_words::lines::Lines;
+use union_words::status::Status;
+
+/// Whether one of the two holds. Takes no memory.
+fn either(one: bool, other: bool) -> bool
+    ensures { result ≡ (one || other) }
+{
+    one || other
+}
+
+/// Runs the lines of a script one after the other, and tells whether something in them was refused.
+pub fn run_lines<L: Ledger, F: Shelf, O: Sink>(
+    alloc: Global,
+    script: &[u8],
+    union: &mut Union<L>,
+    shelf: &mut F,
+    out: &mut O,
+) -> Result<bool, Status>
+    ensures run { LinesRun result (script_of script.now) union.old.catalogue union.new.catalogue
+        (record { files = F.files shelf.old; before = F.faults shelf.old; after = F.faults shelf.new })
+        (record { old = O.written out.old; new = O.written out.new; before = O.faults out.old; after = O.faults out.new }) }
+{
+    let mut lines = Lines::of(script);
+    let mut refused = false;
+    while let Some(line) = lines.next() {
+        match run_unskipped(alloc, line, union, shelf, out) {
+            Ok(told) => refused = either(refused, told),
+            Err(status) => return Err(status),
+        }
+    }
+    Ok(refused)
+}

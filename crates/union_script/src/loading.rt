@@ -1,0 +1,109 @@
+//! The loading of a library's file: its batches are applied to the catalogue, and its report is made.
+ghost use Rattle.std.specs.Prelude.{◌≡◌, ◌≤◌, ◌++◌, ℕ, List, OnOk};
+ghost use Rattle.iso2709_frame.specs.Frames.{frames};
+ghost use Rattle.library_batches.specs.Reading.{begun};
+ghost use Rattle.library_stream.specs.declared.frame_reader.TheConstants.{LARGEST_SOURCE};
+ghost use Rattle.union_words.specs.Meanings.{file_meaning};
+ghost use Rattle.union_words.specs.Words;
+ghost use Rattle.union_script.specs.Batches.{Applies, IsLoaded};
+ghost use Rattle.union_script.specs.Readings.{Reads, ReadsFile};
+
+use crate::stops::stopped_with;
+use crate::union::Union;
+use library_batches::batch_reader::BatchReader;
+use library_batches::outcome_counts::OutcomeCounts;
+use library_batches::stop::Stop;
+use library_stream::frame_reader::LARGEST_SOURCE;
+use std::alloc::Global;
+use std::sync::ledger::Ledger;
+use union_base::bytes::Bytes;
+use union_base::library_code::LibraryCode;
+use union_io::shelf::{OpenFail, Shelf};
+use union_io::source::Source;
+use union_reports::reports::add_report;
+use union_words::input::Input;
+use union_words::library_file::LibraryFile;
+use union_words::status::Status;
+
+/// The number under which a script applies batches.
+const PASS: u32 = 0;
+
+/// The report of a library that was loaded.
+#[derive(Drop)]
+pub struct Report {
+    pub text: Vec<u8>,
+    /// Whether a frame was refused.
+    pub refused: bool,
+}
+
+/// Applies the batches of a source one after the other, and counts what came of them.
+fn apply_batches<L: Ledger, S: Source>(
+    alloc: Global,
+    reader: &mut BatchReader,
+    union: &mut Union<L>,
+    source: &mut S,
+) -> Result<OutcomeCounts, Stop>
+    requires { reader.old ≡ begun reader.old.library LARGEST_SOURCE }
+    ensures name { S.name source.new ≡ S.name source.old }
+    ensures reads { Reads LARGEST_SOURCE result (record { told = S.left source.old; before = S.faults source.old; after = S.faults source.new })
+        (λ counts bytes. AreApplied reader.old.library (frames bytes) union.old.catalogue union.new.catalogue reader.new counts) }
+{
+    let mut counts = OutcomeCounts::new();
+    while let Some(batch) = reader.next(alloc, source)? {
+        let found = union.catalogue.apply(alloc, PASS, batch, &mut union.steps)?;
+        counts.count(found.as_slice());
+    }
+    Ok(counts)
+}
+
+/// Loads a library's source.
+fn load_source<L: Ledger, S: Source>(
+    alloc: Global,
+    library: &LibraryCode,
+    union: &mut Union<L>,
+    source: &mut S,
+) -> Result<Report, Stop>
+    ensures name { S.name source.new ≡ S.name source.old }
+    ensures reads { Reads LARGEST_SOURCE result (record { told = S.left source.old; before = S.faults source.old; after = S.faults source.new })
+        (λ report bytes. IsLoaded library.now (frames bytes) union.old.catalogue union.new.catalogue report) }
+{
+    let mut reader = BatchReader::open(alloc, library, LARGEST_SOURCE)?;
+    let counts = apply_batches(alloc, &mut reader, union, source)?;
+    let mut text = Vec::new(alloc);
+    let refused = reader.refused();
+    add_report(&mut text, library.bytes(), reader.frames(), refused, &counts)?;
+    Ok(Report {
+        text,
+        refused: !refused.is_empty(),
+    })
+}
+
+/// Opens a library's file, loads it and gives it back.
+pub fn load_file<L: Ledger, F: Shelf>(
+    alloc: Global,
+    file: &LibraryFile<'_>,
+    union: &mut Union<L>,
+    shelf: &mut F,
+) -> Result<Report, Status>
+    ensures files { F.files shelf.new ≡ F.files shelf.old }
+    ensures reads { ReadsFile result (record { input = Input.Library file.now.library; path = (file_meaning file.now).path })
+        (record { files = F.files shelf.old; before = F.faults shelf.old; after = F.faults shelf.new })
+        (λ report bytes. IsLoaded file.now.library (frames bytes) union.old.catalogue union.new.catalogue report) }
+{
+    let input = Input::Library(file.library);
+    let Ok(path) = Bytes::of(alloc, file.path) else {
+        return Err(Status::Memory);
+    };
+    match shelf.open(alloc, &path) {
+        Ok(mut source) => {
+            let loaded = load_source(alloc, &file.library, union, &mut source);
+            shelf.give_back(source);
+            match loaded {
+                Ok(report) => Ok(report),
+                Err(stop) => Err(stopped_with(stop, input)),
+            }
+        }
+        Err(OpenFail::Failed) => Err(Status::OpenFault(input)),
+        Err(OpenFail::Memory) => Err(Status::Memory),
+    }
+}

@@ -1,0 +1,99 @@
+//! The run of a script.
+ghost use Rattle.std.specs.Prelude.{◌≡◌, ◌<◌, List, []};
+ghost use Rattle.catalogue_core.specs.declared.history_entry.HistoryEntry.{HistoryEntry};
+ghost use Rattle.union_words.specs.Statuses.{end_by};
+ghost use Rattle.union_script.specs.Lines.{LinesRun};
+ghost use Rattle.union_script.specs.Runs.{IsScript};
+ghost use Rattle.union_script.specs.Texts.{script_of};
+
+use crate::lines::run_lines;
+use crate::script_file::read_script;
+use crate::union::Union;
+use catalogue_core::catalogue::Catalogue;
+use merge_laws::steps::Steps;
+use std::alloc::Global;
+use std::marker::Brand;
+use std::sync::ledger::{Blank, Ledger};
+use union_base::bytes::Bytes;
+use union_base::memory::Memory;
+use union_io::shelf::Shelf;
+use union_io::sink::Sink;
+use union_words::status::Status;
+
+/// Runs a script over a new catalogue, with the match tests counted in a ledger of their own.
+fn run_counted<L: Ledger, F: Shelf, O: Sink>(
+    alloc: Global,
+    script: &[u8],
+    shelf: &mut F,
+    out: &mut O,
+    blank: Blank,
+) -> Result<bool, Status>
+    requires name { blank.name ≡ L.name }
+    requires parts { blank.parts ≡ L.parts }
+    requires some { 0 < L.parts }
+    ensures run { (now : List HistoryEntry) × LinesRun result (script_of script.now) [] now
+        (record { files = F.files shelf.old; before = F.faults shelf.old; after = F.faults shelf.new })
+        (record { old = O.written out.old; new = O.written out.new; before = O.faults out.old; after = O.faults out.new }) }
+{
+    match Catalogue::empty(alloc) {
+        Ok(catalogue) => {
+            let steps: Steps<L> = Steps::open(blank);
+            let mut union = Union { catalogue, steps };
+            run_lines(alloc, script, &mut union, shelf, out)
+        }
+        Err(Memory) => Err(Status::Memory),
+    }
+}
+
+/// Runs a script over a new catalogue.
+fn run_text<F: Shelf, O: Sink>(
+    alloc: Global,
+    script: &[u8],
+    shelf: &mut F,
+    out: &mut O,
+) -> Result<bool, Status>
+    ensures run { (now : List HistoryEntry) × LinesRun result (script_of script.now) [] now
+        (record { files = F.files shelf.old; before = F.faults shelf.old; after = F.faults shelf.new })
+        (record { old = O.written out.old; new = O.written out.new; before = O.faults out.old; after = O.faults out.new }) }
+{
+    run_counted::<Brand, F, O>(alloc, script, shelf, out, Blank::new(1))
+}
+
+/// How a run ends that came to its end, by whether something was refused. Takes no memory.
+fn end_by(refused: bool) -> Status
+    ensures { result ≡ end_by refused }
+{
+    if refused {
+        Status::DoneWithRefusals
+    } else {
+        Status::Done
+    }
+}
+
+/// Runs the script in the file of that name on one catalogue, which begins empty. The script is read whole before its first
+/// line is run; the text of each line is written before the next line is run.
+///
+/// `Done` and `DoneWithRefusals` mean that each line was run and the text of all was written; which of the two says whether a
+/// line, or a frame of a file that was loaded, is refused. `OpenFault` and `ReadFault` come only where an open or a read of the
+/// input that they name failed, `WriteFault` only where a write failed, and `TooLong` exactly where the script has more than
+/// 1,048,576 bytes, or the first load of a file of more than 2^40 bytes. The first fault ends the run: what was written is then
+/// the text of the lines before it, or behind `WriteFault` and `Memory` a front of the whole text.
+pub fn script_run<F: Shelf, O: Sink>(
+    alloc: Global,
+    path: &Bytes,
+    shelf: &mut F,
+    out: &mut O,
+) -> Status
+    ensures run { IsScript path.now
+        (record { files = F.files shelf.old; before = F.faults shelf.old; after = F.faults shelf.new })
+        (record { old = O.written out.old; new = O.written out.new; before = O.faults out.old; after = O.faults out.new })
+        result }
+{
+    match read_script(alloc, path, shelf) {
+        Ok(script) => match run_text(alloc, script.as_slice(), shelf, out) {
+            Ok(refused) => end_by(refused),
+            Err(status) => status,
+        },
+        Err(status) => status,
+    }
+}

@@ -1,0 +1,11 @@
+//! The catalogue that a script builds.
+use catalogue_core::catalogue::Catalogue;
+use merge_laws::steps::Steps;
+use std::sync::ledger::Ledger;
+
+/// A catalogue, with the count of the match tests that were made for it.
+#[derive(Drop)]
+pub struct Union<L: Ledger> {
+    pub catalogue: Catalogue,
+    pub steps: Steps<L>,
+}

@@ -1,0 +1,66 @@
+-- What goes in and out of a run: the files of a shelf, a source, and outputs, each before the run and after it.
+use Rattle.std.specs.Prelude.{◌≡◌, ℕ, ◌⊎◌, List, [], ◌∷◌}
+use Rattle.std.specs.List.{AllByRecursion}
+use Rattle.std.specs.declared.option.Option.{Option}
+use Rattle.std.specs.Io.KnownBytes.{Appends}
+use Rattle.union_io.specs.Causes.{Rose}
+use Rattle.union_io.specs.Counts.{SameCounts, SameElsewhere}
+use Rattle.union_io.specs.Writing.{AppendsFront}
+use Rattle.union_words.specs.declared.input.Input.{Input}
+
+-- a shelf: its files, where it tells them, and how often something failed under each name, before the run and after it
+pub record ShelfFlow : Type 0 where
+  pub files : Option (List ℕ → List ℕ)
+  pub before : List ℕ → ℕ
+  pub after : List ℕ → ℕ
+
+-- nothing failed under any name
+abbrev pub IsCalm : ShelfFlow → Type 0
+IsCalm shelf = SameCounts shelf.before shelf.after
+
+-- an input of a run, and the name of its file
+pub record InputFile : Type 0 where
+  pub input : Input
+  pub path : List ℕ
+
+-- it is one of them
+abbrev pub IsOneOf : InputFile → List InputFile → Type 0
+IsOneOf file [] = ⊥
+IsOneOf file (first ∷ rest) = (file ≡ first) ⊎ IsOneOf file rest
+
+-- the input is one of these; something failed under the name of its file, and nothing under any other name
+pub record FailsAt (inputs : List InputFile) (shelf : ShelfFlow) (input : Input) : Type 0 where
+  pub file : InputFile
+  pub one : IsOneOf file inputs
+  pub named : input ≡ file.input
+  pub failed : Rose (shelf.before file.path) (shelf.after file.path)
+  pub others : SameElsewhere shelf.before shelf.after file.path
+
+-- nothing failed under the names of the inputs' files
+abbrev pub NoneFails : List InputFile → ShelfFlow → Type 0
+NoneFails inputs shelf = AllByRecursion (λ file. ¬ Rose (shelf.before file.path) (shelf.after file.path)) inputs
+
+-- a source: its bytes, where they are told, and how often it failed before it was read and after
+pub record Inflow : Type 0 where
+  pub told : Option (List ℕ)
+  pub before : ℕ
+  pub after : ℕ
+
+-- something failed there
+abbrev pub HasFailed : Inflow → Type 0
+HasFailed source = Rose source.before source.after
+
+-- an output: what was written on it before the run and after it, where that is told, and how often it failed
+pub record Outflow : Type 0 where
+  pub old : Option (List ℕ)
+  pub new : Option (List ℕ)
+  pub before : ℕ
+  pub after : ℕ
+
+-- something failed there in the run
+abbrev pub HasFailedAt : Outflow → Type 0
+HasFailedAt output = Rose output.before output.after
+
+-- the text was written, or a front of it and then a write failed
+abbrev pub IsNoted : Outflow → List ℕ → Type 0
+IsNoted output text = Appends output.old output.new text ⊎ (AppendsFront output.old output.new text × HasFailedAt output)

@@ -1,0 +1,42 @@
+-- What a line of a script asks for.
+use Rattle.std.specs.Prelude.{ℕ, Bool, ◌&&◌, ◌==◌, List, [], ◌∷◌, if◌then◌else◌, codes}
+use Rattle.std.specs.List.{before_first, after_first}
+use Rattle.union_base.specs.LibraryCodes.{is_library_code}
+use Rattle.union_words.specs.Words.{LibraryFile, is_text, is_path}
+
+-- what a line asks for: to load a library's file, the export, the works, or what the line itself asks of the catalogue.
+-- `Word` is a line that begins as one of the first three and is in no form of it, and is refused
+pub data ScriptLine : Type 0 where
+  Load : (file : LibraryFile) → ScriptLine
+  Export : ScriptLine
+  Works : ScriptLine
+  Ask : (line : List ℕ) → ScriptLine
+  Word : ScriptLine
+
+abbrev pub is_blank : ℕ → Bool
+is_blank b = b == 0x20
+
+-- up to the first blank, or to the end
+abbrev pub first_word : List ℕ → List ℕ
+first_word line = before_first is_blank line
+
+-- behind the first blank: nothing where there is none
+abbrev pub rest_of : List ℕ → List ℕ
+rest_of line = after_first is_blank line
+
+-- behind `load` a library code, one blank, and a path, which is all the rest
+abbrev pub load_line : List ℕ → ScriptLine
+load_line rest =
+    (if is_library_code (first_word rest) && is_path (rest_of rest)
+    then Load (record { library = first_word rest; path = rest_of rest }) else Word)
+
+-- behind `export` and `works` nothing
+abbrev pub lone_line : ScriptLine → List ℕ → ScriptLine
+lone_line wanted [] = wanted
+lone_line wanted (b ∷ rest) = Word
+
+abbrev pub script_line : List ℕ → ScriptLine
+script_line line =
+    (if is_text (first_word line) (codes "load") then load_line (rest_of line)
+    else (if is_text (first_word line) (codes "export") then lone_line Export (rest_of line)
+    else (if is_text (first_word line) (codes "works") then lone_line Works (rest_of line) else Ask line)))
