@@ -55,12 +55,8 @@ holding_lines records e = flat_map (record_lines records) e.content.contributors
 -- what a query is told of an edition that it asks for
 abbrev pub told : Query → MapOf Edition → Edition → List (List ℕ)
 told (Id id) records e = identity_lines e
-told (Isbn digits) records e = edition_line (least e) ∷ []
-told (Control source number) records e = edition_line (least e) ∷ []
-told (Title form) records e = edition_line (least e) ∷ []
-told (Work key) records e = edition_line (least e) ∷ []
 told (Holdings id) records e = holding_lines records e
-told Count records e = []
+told query records e = edition_line (least e) ∷ []
 
 -- what it is told of the editions that it asks for, in their order
 abbrev pub told_of : Query → MapOf Edition → List Edition → List (List ℕ)
@@ -73,12 +69,7 @@ work_keys all = set_of texts_cmp (map work_key_of all)
 -- the lines of an answer, which may be none: the counts, or what is told of the editions
 abbrev pub lines_of : Query → MapOf Edition → List Edition → List (List ℕ)
 lines_of Count records all = count_line (length all) (length (work_keys all)) (length (values_of records)) ∷ []
-lines_of (Id id) records all = told_of (Id id) records all
-lines_of (Isbn digits) records all = told_of (Isbn digits) records all
-lines_of (Control source number) records all = told_of (Control source number) records all
-lines_of (Title form) records all = told_of (Title form) records all
-lines_of (Work key) records all = told_of (Work key) records all
-lines_of (Holdings id) records all = told_of (Holdings id) records all
+lines_of query records all = told_of query records all
 
 -- an answer has a line at least
 abbrev pub or_none : List (List ℕ) → List (List ℕ)

@@ -87,11 +87,7 @@ fn lines_of_holder(
 }
 
 /// What the query is told of the editions that it asks for.
-fn lines_of_asked(
-    alloc: Global,
-    catalogue: &Catalogue,
-    query: &Query,
-) -> Result<Vec<Bytes>, Memory>
+fn lines_of_asked(alloc: Global, catalogue: &Catalogue, query: &Query) -> Result<Vec<Bytes>, Memory>
     ensures { IfOk result (λ lines. (all : List EditionModel) × AreEditionsOf catalogue.now all
         × (lines.items ≡ told_of query.now (current catalogue.now) all)) }
 {

@@ -44,7 +44,6 @@ pub(crate) fn add_told(
     ensures { OnOk result (lines.new.items ≡ lines.old.items ++ told query.now (current catalogue.now) edition.now) }
 {
     match query {
-        Query::Count => Ok(()),
         Query::Id(_) => add_identity(alloc, lines, edition),
         Query::Holdings(_) => add_holdings(alloc, lines, catalogue, edition),
         _ => {
@@ -105,11 +104,7 @@ fn add_record(
     add_hold_lines(alloc, lines, &holdings)
 }
 
-fn add_hold_lines(
-    alloc: Global,
-    lines: &mut Vec<Bytes>,
-    holdings: &[Holding],
-) -> Result<(), Memory>
+fn add_hold_lines(alloc: Global, lines: &mut Vec<Bytes>, holdings: &[Holding]) -> Result<(), Memory>
     ensures { OnOk result (lines.new.items ≡ lines.old.items ++ map hold_line holdings.now) }
 {
     for holding in holdings {

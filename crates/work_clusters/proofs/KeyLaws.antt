@@ -1,18 +1,16 @@
 -- The keys that no entry has, and the entries made for them.
-use Rattle.std.proofs.Common.{◌≡◌, ℕ, ◌+◌, ◌<◌, Bool, true, false, cond, not, ◌&&◌, ◌||◌, List, [], ◌∷◌, ◌++◌, length, get_or, take, map, refl, sym, subst, ap, ◌∙◌, arith}
-use Rattle.std.specs.declared.cmp.Ordering.{Ordering}
+use Rattle.std.proofs.Common.{◌≡◌, ℕ, ◌+◌, ◌<◌, Bool, true, false, cond, not, ◌&&◌, ◌||◌, List, [], ◌∷◌, ◌++◌, length, get_or, take, map, refl, ap, ◌∙◌, arith}
 use Rattle.std.specs.declared.cmp.Ordering.TheVariants.{Less, Equal, Greater}
 use Rattle.std.specs.Ordering.{match_ordering}
-use Rattle.std.specs.List.{list_all, list_any}
+use Rattle.std.specs.List.{list_all}
 use Rattle.std.proofs.lemmas.List.Folds.{list_any-append, list_all-append}
 use Rattle.union_base.specs.Both.{both_true, true_both}
 use Rattle.union_base.specs.SortedLists.{is_ascending, put, set_of, has}
-use Rattle.union_base.specs.Ties.{texts_apart}
 use Rattle.union_base.specs.declared.record_id.RecordId.{RecordId}
 use Rattle.union_base.proofs.SortedListLaws.{is_ascending-union}
 use Rattle.work_clusters.specs.Works.{key_cmp, id_cmp, is_key, keys_of}
-use Rattle.work_clusters.specs.WorksLaws.{some, key_total, has-set_of}
-use Rattle.work_clusters.specs.Entries.{has_editions, listed, has_key, AreEntries, AreAbsent, AreNew}
+use Rattle.work_clusters.specs.WorksLaws.{some, key_total}
+use Rattle.work_clusters.specs.Entries.{listed, has_key, AreAbsent, AreNew}
 use Rattle.work_clusters.specs.declared.work.Work.{Work}
 use Rattle.work_clusters.proofs.Reading.{same_key}
 use Rattle.work_clusters.proofs.RoomLaws.{has_key-listed, pairs_with, pairs_with-more}
@@ -42,22 +40,22 @@ module _ (ws : List Work) (xs : List (List ℕ × RecordId)) (i : ℕ) (x : List
   absent_more =
       elim (has_key ws x.0) as (λ b. has_key ws x.0 ≡ b → AreAbsent ws (take (i + 1) xs) (cond b keys (keys ++ x.0 ∷ []))) [
         | true ↦ λ there. record {
-            apart = so_far.apart;
-            all = λ q h.
-                elim (is_key q x.0) as (λ b. is_key q x.0 ≡ b → (has_key ws q || has key_cmp keys q) ≡ true) [
-                  | true ↦ λ e. ap (λ b. b || has key_cmp keys q) (ap (has_key ws) (same_key q x.0 e) ∙ there)
-                  | false ↦ λ e. before q e h
-                ] refl;
-          }
+          apart = so_far.apart;
+          all = λ q h.
+              elim (is_key q x.0) as (λ b. is_key q x.0 ≡ b → (has_key ws q || has key_cmp keys q) ≡ true) [
+                | true ↦ λ e. ap (λ b. b || has key_cmp keys q) (ap (has_key ws) (same_key q x.0 e) ∙ there)
+                | false ↦ λ e. before q e h
+              ] refl;
+        }
         | false ↦ λ gone. record {
-            apart = list_all-append (λ key. not (has_key ws key)) keys (x.0 ∷ []) ∙ true_both _ _ so_far.apart (true_both (not (has_key ws x.0)) true (ap not gone) refl);
-            all = λ q h.
-                ap (λ b. has_key ws q || b) (list_any-append (is_key q) keys (x.0 ∷ []))
-                ∙ elim (is_key q x.0) as (λ b. is_key q x.0 ≡ b → (has_key ws q || (has key_cmp keys q || (b || false))) ≡ true) [
-                  | true ↦ λ e. ap (λ b. has_key ws q || b) (or_true (has key_cmp keys q)) ∙ or_true (has_key ws q)
-                  | false ↦ λ e. or_more (has_key ws q) (has key_cmp keys q) false (before q e h)
-                ] refl;
-          }
+          apart = list_all-append (λ key. not (has_key ws key)) keys (x.0 ∷ []) ∙ true_both _ _ so_far.apart (true_both (not (has_key ws x.0)) true (ap not gone) refl);
+          all = λ q h.
+              ap (λ b. has_key ws q || b) (list_any-append (is_key q) keys (x.0 ∷ []))
+              ∙ elim (is_key q x.0) as (λ b. is_key q x.0 ≡ b → (has_key ws q || (has key_cmp keys q || (b || false))) ≡ true) [
+                | true ↦ λ e. ap (λ b. has_key ws q || b) (or_true (has key_cmp keys q)) ∙ or_true (has_key ws q)
+                | false ↦ λ e. or_more (has_key ws q) (has key_cmp keys q) false (before q e h)
+              ] refl;
+        }
       ] refl
 
 -- ---- entries made for keys

@@ -1,9 +1,13 @@
 -- The laws of works by membership: which pairs there are determines the works.
-use Rattle.std.proofs.Common.{◌≡◌, ℕ, Bool, true, false, not, ◌&&◌, ◌||◌, List, [], ◌∷◌, ◌++◌, refl, sym, subst, ap, ◌∙◌, inl, inr}
-use Rattle.std.specs.Prelude.{Contains, ◌⊎◌, ◌↔◌}
+use Rattle.std.proofs.Common.{◌≡◌, ℕ, Bool, true, false, cond, not, Option, Some, None, ◌&&◌, ◌||◌, List, [], ◌∷◌, ◌++◌, refl, sym, subst, ap, ◌∙◌, inl, inr}
+use Rattle.std.specs.Prelude.{find, Contains, ◌⊎◌, ◌↔◌}
 use Rattle.std.specs.declared.cmp.Ordering.{Ordering}
 use Rattle.std.specs.declared.cmp.Ordering.TheVariants.{Less, Equal, Greater}
-use Rattle.std.specs.Ordering.{is_eq, eq_by_cmp}
+use Rattle.std.specs.Ordering.{is_eq, is_lt, eq_by_cmp, ordering_reverse}
+use Rattle.std.specs.List.{list_all}
+use Rattle.std.proofs.lemmas.List.Folds.{list_all-append}
+use Rattle.union_base.specs.Both.{both_true}
+use Rattle.union_base.specs.Ties.{texts_apart}
 use Rattle.std.specs.Cmp.{IsTotalOrder}
 use Rattle.std.specs.FinMap.{IsAntisymmetric}
 use Rattle.std.specs.List.Sorted.{IsPermutation}
@@ -12,8 +16,8 @@ use Rattle.std.proofs.lemmas.List.Sorted.{list_any-IsPermutation}
 use Rattle.union_base.specs.IdLaws.{ids_apart}
 use Rattle.union_base.specs.SortedLists.{is_ascending, has}
 use Rattle.union_base.specs.declared.record_id.RecordId.{RecordId}
-use Rattle.work_clusters.specs.Works.{key_cmp, id_cmp, pair_cmp, ids_with, keys_in, works_of, pairs_of, changed, ids_under, keys_of}
-use Rattle.work_clusters.specs.WorksLaws.{id_total, pair_total, pairs_apart, itself, has-ids_with, is_ascending-ids_with, is_ascending-keys_in, ids_under-works_of, keys_of-works_of, works_of-same, changed-works_of}
+use Rattle.work_clusters.specs.Works.{key_cmp, id_cmp, pair_cmp, works_of, changed, ids_under, keys_of, is_above, key_after}
+use Rattle.work_clusters.specs.WorksLaws.{key_total, id_total, pair_total, pairs_apart, itself, has-ids_with, is_ascending-ids_with, is_ascending-keys_in, ids_under-works_of, keys_of-works_of, works_of-same, changed-works_of}
 
 eq_is : (r : Ordering) → is_eq r ≡ true → r ≡ Equal
 eq_is Less h = cc
@@ -90,8 +94,7 @@ changed-nothing come = refl
 
 pub members-ids_under : (pairs : List (List ℕ × RecordId)) (key : List ℕ) (id : RecordId) → Contains (ids_under (works_of pairs) key) id ↔ Contains pairs (key, id)
 members-ids_under pairs key id =
-    let same : has id_cmp (ids_under (works_of pairs) key) id ≡ has pair_cmp pairs (key, id) = ap (λ ids. has id_cmp ids id) (ids_under-works_of pairs key) ∙ has-ids_with pairs key id in
-    (
+    let same : has id_cmp (ids_under (works_of pairs) key) id ≡ has pair_cmp pairs (key, id) = ap (λ ids. has id_cmp ids id) (ids_under-works_of pairs key) ∙ has-ids_with pairs key id in (
       λ m. member-from_has pair_total pairs_apart pairs (key, id) (sym same ∙ has-from_member id_total ids_apart (ids_under (works_of pairs) key) id m),
       λ m. member-from_has id_total ids_apart (ids_under (works_of pairs) key) id (same ∙ has-from_member pair_total pairs_apart pairs (key, id) m),
     )
@@ -101,3 +104,44 @@ ascending-ids_under pairs key = ap (is_ascending id_cmp) (ids_under-works_of pai
 
 pub ascending-keys_of : (pairs : List (List ℕ × RecordId)) → is_ascending key_cmp (keys_of (works_of pairs)) ≡ true
 ascending-keys_of pairs = ap (is_ascending key_cmp) (keys_of-works_of pairs) ∙ is_ascending-keys_in pairs
+
+-- ---- a walk along the keys
+
+-- the first of a list, if there is one
+abbrev pub first_of_list : {X : Type 0} → List X → Option X
+first_of_list [] = None
+first_of_list (x ∷ xs) = Some x
+
+pub key_after-none : (works : List (List ℕ × List RecordId)) → key_after works None ≡ first_of_list (keys_of works)
+key_after-none [] = refl
+key_after-none (w ∷ ws) = refl
+
+not_above : (r : Ordering) → is_lt r ≡ true → is_lt (ordering_reverse r) ≡ false
+not_above Less h = refl
+not_above Equal h = cc
+not_above Greater h = cc
+
+not_itself : (r : Ordering) → is_eq r ≡ true → is_lt r ≡ false
+not_itself Less h = cc
+not_itself Equal h = refl
+not_itself Greater h = cc
+
+next_key : (front : List (List ℕ)) (key : List ℕ) (rest : List (List ℕ)) → is_ascending key_cmp (front ++ key ∷ rest) ≡ true → find (is_above (Some key)) (front ++ key ∷ rest) ≡ first_of_list rest
+next_key [] key [] h = ap (λ b. cond b (Some key) None) (not_itself (key_cmp key key) (itself key_total texts_apart key))
+next_key [] key (r ∷ rest) h =
+    let parts = both_true (list_all (λ y. is_lt (key_cmp key y)) (r ∷ rest)) (is_ascending key_cmp (r ∷ rest)) h in
+    let above = both_true (is_lt (key_cmp key r)) (list_all (λ y. is_lt (key_cmp key y)) rest) parts.0 in
+    ap (λ b. cond b (Some key) (find (is_above (Some key)) (r ∷ rest))) (not_itself (key_cmp key key) (itself key_total texts_apart key))
+    ∙ ap (λ b. cond b (Some r) (find (is_above (Some key)) rest)) above.0
+next_key (f ∷ front) key rest h =
+    let parts = both_true (list_all (λ y. is_lt (key_cmp f y)) (front ++ key ∷ rest)) (is_ascending key_cmp (front ++ key ∷ rest)) h in
+    let split : list_all (λ y. is_lt (key_cmp f y)) front && (is_lt (key_cmp f key) && list_all (λ y. is_lt (key_cmp f y)) rest) ≡ true =
+    sym (list_all-append (λ y. is_lt (key_cmp f y)) front (key ∷ rest)) ∙ parts.0 in
+    let below = (both_true (is_lt (key_cmp f key)) _ (both_true (list_all (λ y. is_lt (key_cmp f y)) front) _ split).1).0 in
+    ap (λ b. cond b (Some f) (find (is_above (Some key)) (front ++ key ∷ rest))) (ap is_lt (key_total.antisymm key f) ∙ not_above (key_cmp f key) below)
+    ∙ next_key front key rest parts.1
+
+pub key_after-some : (pairs : List (List ℕ × RecordId)) (front : List (List ℕ)) (key : List ℕ) (rest : List (List ℕ)) → keys_of (works_of pairs) ≡ front ++ key ∷ rest
+    → key_after (works_of pairs) (Some key) ≡ first_of_list rest
+key_after-some pairs front key rest e =
+    ap (find (is_above (Some key))) e ∙ next_key front key rest (ap (is_ascending key_cmp) (sym e) ∙ ascending-keys_of pairs)

@@ -15,7 +15,11 @@ use union_base::record_id::RecordId;
 use union_base::sorted_list::SortedList;
 
 /// Adds an entry with no ids for each key of the pairs that has none. The works stay, whatever the answer.
-pub fn add_keys(alloc: Global, entries: &mut Vec<Work>, come: &[(Bytes, RecordId)]) -> Result<(), Memory>
+pub fn add_keys(
+    alloc: Global,
+    entries: &mut Vec<Work>,
+    come: &[(Bytes, RecordId)],
+) -> Result<(), Memory>
     requires { AreEntries entries.old.items }
     ensures well { AreEntries entries.new.items }
     ensures works { works_in entries.new.items ≡ works_in entries.old.items }
@@ -27,7 +31,11 @@ pub fn add_keys(alloc: Global, entries: &mut Vec<Work>, come: &[(Bytes, RecordId
 }
 
 /// The keys of the pairs that no entry has, as they come.
-fn absent_keys(alloc: Global, entries: &[Work], come: &[(Bytes, RecordId)]) -> Result<Vec<Bytes>, Memory>
+fn absent_keys(
+    alloc: Global,
+    entries: &[Work],
+    come: &[(Bytes, RecordId)],
+) -> Result<Vec<Bytes>, Memory>
     requires { AreEntries entries.now }
     ensures { IfOk result (λ keys. AreAbsent entries.now come.now keys.items) }
 {
@@ -39,7 +47,12 @@ fn absent_keys(alloc: Global, entries: &[Work], come: &[(Bytes, RecordId)]) -> R
 }
 
 /// Appends the key, unless an entry has it.
-fn push_absent(alloc: Global, entries: &[Work], key: &Bytes, keys: &mut Vec<Bytes>) -> Result<(), Memory>
+fn push_absent(
+    alloc: Global,
+    entries: &[Work],
+    key: &Bytes,
+    keys: &mut Vec<Bytes>,
+) -> Result<(), Memory>
     requires { AreEntries entries.now }
     ensures { OnOk result (keys.new.items ≡ (if has_key entries.now key.now then keys.old.items else (keys.old.items ++ key.now ∷ []))) }
 {

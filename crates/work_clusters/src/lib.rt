@@ -8,11 +8,13 @@
 #![tactic(auto)]
 
 pub mod change;
-pub mod laws;
 mod ids;
 mod keys;
+pub mod laws;
 mod rooms;
 mod search;
 mod steps;
+#[cfg(test)]
+mod tests;
 mod work;
 pub mod works;
