@@ -5,7 +5,7 @@ ghost use Rattle.library_batches.specs.Reading.{begun};
 ghost use Rattle.library_stream.specs.declared.frame_reader.TheConstants.{LARGEST_SOURCE};
 ghost use Rattle.union_words.specs.Meanings.{file_meaning};
 ghost use Rattle.union_words.specs.Words;
-ghost use Rattle.union_script.specs.Batches.{Applies, IsLoaded};
+ghost use Rattle.union_script.specs.Batches.{AreApplied, IsLoaded};
 ghost use Rattle.union_script.specs.Readings.{Reads, ReadsFile};
 
 use crate::stops::stopped_with;
