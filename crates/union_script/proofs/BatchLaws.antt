@@ -1,12 +1,12 @@
 -- The batches of a source, one after the other.
-use Rattle.std.proofs.Common.{◌≡◌, ℕ, suc, ◌+◌, ◌≤◌, false, true, List, [], ◌∷◌, ◌++◌, length, map, refl, sym, ap, subst, ◌∙◌, arith, append_assoc, append-nil}
-use Rattle.std.specs.Prelude.{◌<◌, Option, Some, None, IfSome, Result, Ok, Err, take, fold, Bool, ◌&&◌, nat_le, IsTrue}
+use Rattle.std.proofs.Common.{◌≡◌, ℕ, suc, ◌+◌, ◌≤◌, false, true, List, [], ◌∷◌, ◌++◌, length, refl, sym, ap, subst, ◌∙◌, arith, append_assoc, append-nil}
+use Rattle.std.specs.Prelude.{◌<◌, Option, Some, None, IfSome, Ok, Err, take, fold, Bool, ◌&&◌, nat_le, IsTrue}
 use Rattle.std.specs.List.{list_all}
 use Rattle.std.proofs.lemmas.Bool.{ltb-false, ltb-true, leb-true, false≢true}
 use Rattle.std.proofs.lemmas.List.{take_all, map-append}
 use Rattle.std.proofs.lemmas.List.Sums.{fold-append}
 use Rattle.iso2709_frame.specs.Frames.{frames}
-use Rattle.library_stream.specs.Streaming.{is_too_long, passes, opened}
+use Rattle.library_stream.specs.Streaming.{is_too_long, passes}
 use Rattle.library_stream.specs.declared.course.Course.TheVariants.{Open}
 use Rattle.catalogue_core.specs.Histories.{MapOf, current, after_op, after_batch, outcomes}
 use Rattle.catalogue_core.specs.declared.batch.Batch.{Batch}
@@ -14,15 +14,11 @@ use Rattle.catalogue_core.specs.declared.op.Op.{Op}
 use Rattle.catalogue_core.specs.Batches.{is_batch, is_own_op}
 use Rattle.catalogue_core.specs.declared.edition.Edition.{Edition}
 use Rattle.catalogue_core.specs.declared.history_entry.HistoryEntry.{HistoryEntry}
-use Rattle.catalogue_core.specs.declared.outcome.Outcome.{Outcome}
 use Rattle.library_batches.specs.Batches.{AreBatches}
-use Rattle.library_batches.specs.Outcomes.{AreCounted, found_in}
-use Rattle.library_batches.specs.Reading.{Batching, begun, ahead, KeepsFrames, TakesBatch, Answers}
+use Rattle.library_batches.specs.Outcomes.{found_in}
+use Rattle.library_batches.specs.Reading.{Batching, begun, ahead, Answers}
 use Rattle.library_batches.specs.Refused.{refused, refused_from}
-use Rattle.library_batches.specs.declared.outcome_counts.OutcomeCounts.{OutcomeCounts}
-use Rattle.library_batches.specs.declared.stop.Stop.{Stop}
-use Rattle.library_batches.specs.declared.stop.Stop.TheVariants.{TooLong, Failed, Memory}
-use Rattle.union_script.specs.Batches.{AreApplied}
+use Rattle.library_batches.specs.declared.stop.Stop.TheVariants.{TooLong}
 use Rattle.union_script.specs.Texts.{turns_of}
 
 -- these batches were handed out of a source that had those bytes: they stand before the ones that are still to come

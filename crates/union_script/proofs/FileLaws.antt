@@ -1,5 +1,5 @@
 -- What comes of a file that was opened and read.
-use Rattle.std.proofs.Common.{◌≡◌, ℕ, List, [], ◌∷◌, length, inl, refl, sym, subst, ◌∙◌, arith}
+use Rattle.std.proofs.Common.{◌≡◌, ℕ, List, [], ◌∷◌, length, inl, refl, subst, ◌∙◌, arith}
 use Rattle.std.specs.Prelude.{◌<◌, Option, Some, None, IfSome}
 use Rattle.union_io.specs.Files.{told_of}
 use Rattle.union_io.specs.Causes.{Rose}
@@ -56,7 +56,7 @@ fails_before input inputs files a b c same fails = record {
   others = λ name differs. fails.others name differs ∙ same name;
 }
 
-same_more : (a b c : Counts) → SameCounts a b → SameCounts b c → SameCounts a c
+pub same_more : (a b c : Counts) → SameCounts a b → SameCounts b c → SameCounts a c
 same_more a b c p q = λ name. q name ∙ p name
 
 -- a run that stops at a file, seen from a moment since which nothing failed

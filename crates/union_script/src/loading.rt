@@ -71,7 +71,13 @@ fn load_source<L: Ledger, S: Source>(
     let counts = apply_batches(alloc, &mut reader, union, source)?;
     let mut text = Vec::new(alloc);
     let refused = reader.refused();
-    add_report(&mut text, library.bytes(), reader.frames(), refused, &counts)?;
+    add_report(
+        &mut text,
+        library.bytes(),
+        reader.frames(),
+        refused,
+        &counts,
+    )?;
     Ok(Report {
         text,
         refused: !refused.is_empty(),

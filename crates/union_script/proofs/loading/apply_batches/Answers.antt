@@ -1,12 +1,10 @@
-use Rattle.std.proofs.Common.{◌≡◌, ◌+◌, ◌++◌, ◌∷◌, [], List, refl, sym, ap, subst, ◌∙◌, arith, append-nil, length}
+use Rattle.std.proofs.Common.{◌≡◌, ◌++◌, ◌∷◌, [], refl, sym, ap, subst, ◌∙◌, arith, append-nil, length}
 use Rattle.std.specs.Prelude.{Ok, Some, OnSome, ◌<◌}
 use Rattle.catalogue_core.specs.Histories.{current, outcomes}
-use Rattle.catalogue_core.specs.declared.batch.Batch.{Batch}
 use Rattle.library_batches.specs.Outcomes.{AreCounted, found_in}
 use Rattle.library_batches.specs.Reading.{Answers}
 use Rattle.library_stream.specs.Streaming.{most_ahead}
 use Rattle.library_stream.specs.declared.frame_reader.TheConstants.{LARGEST_SOURCE}
-use Rattle.union_script.specs.Texts.{turns_of}
 use Rattle.union_script.proofs.BatchLaws.{Hands, hands_none, hands_more, hands_rest, found_behind, turns_more, few_outcomes}
 use Rattle.union_script.proofs.SourceLaws.{on_told}
 use Rattle.union_script.proofs.loading.apply_batches.Goals as goal
@@ -57,8 +55,7 @@ loop-batch-preserved g c =
 
 pub returns-clause-reads : goal.returns-clause-reads
 returns-clause-reads g c =
-    let before = c.loop-batch.invariant in
-    (
+    let before = c.loop-batch.invariant in (
       c.in_ok-batch.ensures.calm (λ is. cc) ∙ before.faults,
       on_told (g.S.Source.left c.args.source.now)
           (λ bytes all. (all.fits, record { batches = before.batches; read = all.all; applied = before.applied; counted = before.found; frames = all.frames_are; refused = all.refused_are }))

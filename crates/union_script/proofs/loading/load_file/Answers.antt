@@ -1,5 +1,4 @@
-use Rattle.std.proofs.Common.{refl, ◌∙◌, sym, ap, subst}
-use Rattle.std.specs.Prelude.{Option, List, ℕ}
+use Rattle.std.proofs.Common.{◌∙◌, ap, subst}
 use Rattle.union_io.specs.Causes.{Rose}
 use Rattle.union_io.specs.Counts.{SameElsewhere}
 use Rattle.union_io.specs.Files.{told_of}

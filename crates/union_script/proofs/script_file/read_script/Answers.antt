@@ -1,4 +1,4 @@
-use Rattle.std.proofs.Common.{refl, ◌∙◌}
+use Rattle.std.proofs.Common.{◌∙◌}
 use Rattle.union_words.specs.Flows.{InputFile}
 use Rattle.union_words.specs.declared.input.Input.TheVariants.{Script}
 use Rattle.union_script.proofs.FileLaws.{file_stops, stops_before, not_opened}

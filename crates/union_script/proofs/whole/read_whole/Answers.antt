@@ -1,4 +1,4 @@
-use Rattle.std.proofs.Common.{◌≡◌, ◌≤◌, ◌<◌, ◌++◌, length, refl, sym, ap, subst, ◌∙◌, arith, take}
+use Rattle.std.proofs.Common.{◌≡◌, ◌<◌, ◌++◌, refl, sym, ap, subst, ◌∙◌, arith, take}
 use Rattle.std.specs.Io.KnownBytes.{Consumes}
 use Rattle.std.proofs.KnownBytes.{Consumes-nil, Consumes-trans}
 use Rattle.std.proofs.lemmas.List.{take_at}
@@ -14,13 +14,12 @@ loop-source-init g c = record {
 }
 
 pub returns-in-Ok-eq0-clause-reads : goal.returns-in-Ok-eq0-clause-reads
-returns-in-Ok-eq0-clause-reads g c =
-    (
-      c.in-Ok-eq0.ensures.cause.cause ∙ c.loop-source.invariant.faults,
-      whole_source c.args.limit (g.S.Source.left c.args.source.now) (g.S.Source.left c.loop-source.source) c.loop-source.content.items
-          c.loop-source.invariant.taken (omega (arith, c.loop-source-test.true, c.len.ensures, c.loop-source.content.ok.0))
-          (on_told (g.S.Source.left c.loop-source.source) (λ rest both. both.0 c.in-Ok-eq0.field-0-test) c.in-Ok-eq0.ensures.end),
-    )
+returns-in-Ok-eq0-clause-reads g c = (
+  c.in-Ok-eq0.ensures.cause.cause ∙ c.loop-source.invariant.faults,
+  whole_source c.args.limit (g.S.Source.left c.args.source.now) (g.S.Source.left c.loop-source.source) c.loop-source.content.items
+      c.loop-source.invariant.taken (omega (arith, c.loop-source-test.true, c.len.ensures, c.loop-source.content.ok.0))
+      (on_told (g.S.Source.left c.loop-source.source) (λ rest both. both.0 c.in-Ok-eq0.field-0-test) c.in-Ok-eq0.ensures.end),
+)
 
 pub loop-source-preserved : goal.loop-source-preserved
 loop-source-preserved g c = record {
@@ -37,9 +36,8 @@ loop-source-preserved g c = record {
 }
 
 pub returns-clause-reads : goal.returns-clause-reads
-returns-clause-reads g c =
-    (
-      long_source c.args.limit (g.S.Source.left c.args.source.now) (g.S.Source.left c.loop-source.source) c.loop-source.content.items c.loop-source.invariant.taken
-          (omega (arith, c.loop-source-test.false, c.len.ensures, c.loop-source.content.ok.0)),
-      c.loop-source.invariant.faults,
-    )
+returns-clause-reads g c = (
+  long_source c.args.limit (g.S.Source.left c.args.source.now) (g.S.Source.left c.loop-source.source) c.loop-source.content.items c.loop-source.invariant.taken
+      (omega (arith, c.loop-source-test.false, c.len.ensures, c.loop-source.content.ok.0)),
+  c.loop-source.invariant.faults,
+)
