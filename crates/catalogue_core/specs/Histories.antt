@@ -54,8 +54,8 @@ bases history = values_of (current history)
 abbrev pub AreEditionsOf : List HistoryEntry → List Edition → Type 0
 AreEditionsOf history editions = IsOrderedResolution (bases history) editions
 
--- what comes of an operation over these current records
-abbrev pub outcome_of : List ℕ → MapOf Edition → Op → Outcome
+-- what comes of an operation over what is under these ids
+abbrev pub outcome_of : {X : Type 0} → List ℕ → MapOf X → Op → Outcome
 outcome_of library all (Load e) = (if is_current all (least e) then Replaced else Added)
 outcome_of library all (Withdraw number) = (if is_current all (id_of library (Withdraw number)) then Removed else Absent)
 

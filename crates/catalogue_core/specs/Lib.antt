@@ -19,3 +19,4 @@ pub mod Batches
 pub mod Ops
 pub mod Histories
 pub mod Walks
+pub mod Keeping

@@ -12,10 +12,14 @@ ghost use Rattle.catalogue_core.specs.Walks.{first_of, first_behind, holder_of};
 use crate::batch::Batch;
 use crate::edition::Edition;
 use crate::history_entry::HistoryEntry;
+use crate::keeping::base_in;
 use crate::outcome::Outcome;
+use crate::place::Place;
+use crate::turn::planned;
+use crate::walking::{first_behind, holder_in};
 use merge_laws::steps::Steps;
 use std::alloc::Global;
-use std::convert::Infallible;
+use std::collections::BTreeMap;
 use std::marker::Model;
 use std::sync::ledger::Ledger;
 use union_base::memory::Memory;
@@ -25,7 +29,8 @@ use union_base::record_id::RecordId;
 #[derive(Drop)]
 pub struct Catalogue {
     history: Vec<HistoryEntry>,
-    never: Infallible,
+    places: BTreeMap<RecordId, Place>,
+    editions: Vec<Edition>,
 }
 
 impl Model for Catalogue {
@@ -34,15 +39,23 @@ impl Model for Catalogue {
 
     ghost Value = { List HistoryEntry };
 
+    ghost use Rattle.catalogue_core.specs.Keeping.{IsKept};
+
     ghost view = { λ c. c.history.items };
+
+    ghost invariant = { λ c. IsKept c.history.items c.places.entries c.editions.items };
 }
 
 impl Catalogue {
     /// A catalogue without history. Answers `Memory` where memory ran out.
-    pub fn empty(_alloc: Global) -> Result<Catalogue, Memory>
+    pub fn empty(alloc: Global) -> Result<Catalogue, Memory>
         ensures { IfOk result (λ catalogue. catalogue ≡ []) }
     {
-        Err(Memory)
+        Ok(Catalogue {
+            history: Vec::new(alloc),
+            places: BTreeMap::new(alloc),
+            editions: Vec::new(alloc),
+        })
     }
 
     /// Applies a batch under that number, and answers what came of each of its operations. Counts the match tests.
@@ -50,30 +63,37 @@ impl Catalogue {
     /// Answers `Memory` where memory ran out; the catalogue is as before then.
     pub fn apply<L: Ledger>(
         &mut self,
-        _alloc: Global,
+        alloc: Global,
         number: u32,
         batch: Batch,
-        _steps: &mut Steps<L>,
+        steps: &mut Steps<L>,
     ) -> Result<Vec<Outcome>, Memory>
         ensures appended { OnOk result (self.new ≡ self.old ++ record { pass = number; batch = batch } ∷ []) }
         ensures outcomes { IfOk result (λ found. found.items ≡ outcomes batch.library (current self.old) batch.ops) }
         ensures kept { OnErr result (self.new ≡ self.old) }
     {
-        match self.never {}
+        let turn = planned(alloc, &self.history, &self.places, &self.editions, &batch, steps)?;
+        self.history.push(HistoryEntry {
+            pass: number,
+            batch,
+        })?;
+        self.places = turn.places;
+        self.editions = turn.editions;
+        Ok(turn.outcomes)
     }
 
     /// The first edition in order of the least contributors: None exactly where there is none. Takes no memory.
     pub fn first(&self) -> Option<&Edition>
         ensures { (all : List EditionModel) × AreEditionsOf self.now all × (option_copied result ≡ first_of all) }
     {
-        match self.never {}
+        self.editions.first()
     }
 
     /// The first edition whose least contributor is behind that id: None exactly where there is none. Takes no memory.
     pub fn after(&self, id: &RecordId) -> Option<&Edition>
         ensures { (all : List EditionModel) × AreEditionsOf self.now all × (option_copied result ≡ first_behind all id.now) }
     {
-        match self.never {}
+        first_behind(&self.editions, id)
     }
 
     /// The edition that the record of that id is a contributor of: None exactly where it is not current. Takes no memory.
@@ -81,28 +101,28 @@ impl Catalogue {
         ensures holder { (all : List EditionModel) × AreEditionsOf self.now all × (option_copied result ≡ holder_of all id.now) }
         ensures none { is_none result ≡ not (is_current (current self.now) id.now) }
     {
-        match self.never {}
+        holder_in(&self.editions, id)
     }
 
     /// The current record of that id, as its edition: None exactly where it is not current. Takes no memory.
     pub fn base(&self, id: &RecordId) -> Option<&Edition>
         ensures { option_copied result ≡ at_id (current self.now) id.now }
     {
-        match self.never {}
+        base_in(&self.history, &self.places, id)
     }
 
     /// How many editions there are. Takes no memory.
     pub fn edition_count(&self) -> u64
         ensures { (all : List EditionModel) × AreEditionsOf self.now all × (result ≡ length all) }
     {
-        match self.never {}
+        self.editions.len() as u64
     }
 
     /// How many records are current. Takes no memory.
     pub fn record_count(&self) -> u64
         ensures { result ≡ length (bases self.now) }
     {
-        match self.never {}
+        self.places.len() as u64
     }
 
     /// How many turns the history has. Takes no memory.
@@ -110,7 +130,7 @@ impl Catalogue {
         ensures value { result ≡ length self.now }
         ensures few { result < 2 ^ 63 }
     {
-        match self.never {}
+        self.history.len() as u64
     }
 
     /// The entry of that turn, counted from 0. Takes no memory.
@@ -118,6 +138,6 @@ impl Catalogue {
         requires { turn < length self.now }
         ensures { slice_get self.now turn ≡ Some result.now }
     {
-        match self.never {}
+        &self.history[turn as usize]
     }
 }

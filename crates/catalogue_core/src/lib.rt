@@ -13,12 +13,17 @@ pub mod edition;
 pub mod history_entry;
 pub mod ids;
 pub mod joining;
+mod keeping;
 pub mod laws;
+pub mod making_batch;
 pub mod matching;
 pub mod op;
 pub mod ordering;
 pub mod outcome;
+mod place;
 pub mod records;
 #[cfg(test)]
 mod tests;
+mod turn;
+mod walking;
 pub mod work_key;

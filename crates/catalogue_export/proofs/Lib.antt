@@ -13,3 +13,5 @@ pub mod ExportedParts
 pub mod ExportedProof
 pub mod KeyLetters
 pub mod KeyUtf8
+mod WritingLaws
+mod WalkLaws

@@ -1,5 +1,5 @@
 -- What the writing of a text says of its output, where it may stop half-way.
-use Rattle.std.specs.Prelude.{◌≡◌, ◌≢◌, ◌≤◌, ℕ, List, Result, Err, MatchResult}
+use Rattle.std.specs.Prelude.{◌≡◌, ◌≢◌, ◌++◌, ℕ, List, Result, Err, MatchResult}
 use Rattle.std.specs.declared.option.Option.{Option}
 use Rattle.std.specs.Io.KnownBytes.{Appends}
 use Rattle.union_io.specs.Causes.{Rose}
@@ -14,9 +14,21 @@ pub record Output : Type 0 where
   pub before : ℕ
   pub after : ℕ
 
+-- a front of the text was written, and this rest of it is still to be written
+pub record IsWrittenTo (text rest : List ℕ) (old new : Option (List ℕ)) : Type 0 where
+  pub front : List ℕ
+  pub split : text ≡ front ++ rest
+  pub grown : Appends old new front
+
+-- the text was written but for this rest, or a front of it was; a write failed where that is answered, and none did at any
+-- other answer
+pub record HasMoved (text rest : List ℕ) (out : Output) (result : Result (Unit {0}) ExportFail) : Type 0 where
+  pub written : MatchResult result (λ _. IsWrittenTo text rest out.old out.new) (λ _. AppendsFront out.old out.new text)
+  pub failed : result ≡ Err WriteFault → Rose out.before out.after
+  pub calm : result ≢ Err WriteFault → out.after ≡ out.before
+
 -- the whole text was written, or a front of it; a write failed where that is answered, and none did at any other answer
 pub record HasWritten (text : List ℕ) (out : Output) (result : Result (Unit {0}) ExportFail) : Type 0 where
   pub written : MatchResult result (λ _. Appends out.old out.new text) (λ _. AppendsFront out.old out.new text)
-  pub later : out.before ≤ out.after
   pub failed : result ≡ Err WriteFault → Rose out.before out.after
   pub calm : result ≢ Err WriteFault → out.after ≡ out.before

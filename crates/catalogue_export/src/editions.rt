@@ -31,7 +31,7 @@ pub fn append_editions(
 }
 
 /// Appends the record of an edition under its own work key; answers how many of its fields were left out.
-fn append_edition(alloc: Global, edition: &Edition, into: &mut Vec<u8>) -> Result<usize, Memory>
+pub fn append_edition(alloc: Global, edition: &Edition, into: &mut Vec<u8>) -> Result<usize, Memory>
     ensures text { OnOk result (into.new.items ≡ into.old.items ++ edition_text edition.now) }
     ensures left { IfOk result (λ n. n ≡ fields_left edition.now) }
 {
@@ -40,7 +40,7 @@ fn append_edition(alloc: Global, edition: &Edition, into: &mut Vec<u8>) -> Resul
 }
 
 /// Notes the edition, where fields of it were left out.
-fn note_left(
+pub fn note_left(
     alloc: Global,
     edition: &Edition,
     count: usize,

@@ -2,11 +2,14 @@
 ghost use Rattle.std.specs.Prelude.{◌≡◌, ◌++◌, OnOk, List};
 ghost use Rattle.catalogue_core.specs.Histories.{AreEditionsOf};
 ghost use Rattle.catalogue_core.specs.declared.edition.Edition.{Edition as EditionModel};
-ghost use Rattle.catalogue_export.specs.Editions.{export_text, left_of};
-ghost use Rattle.catalogue_export.specs.Writing.{HasWritten};
+ghost use Rattle.catalogue_export.specs.Editions.{edition_text, export_text, left_of_one, left_of};
+ghost use Rattle.catalogue_export.specs.Writing.{HasMoved, HasWritten};
 
+use crate::editions::{append_edition, note_left};
 use crate::export_fail::ExportFail;
+use crate::pending::{hand_on, hand_on_rest};
 use catalogue_core::catalogue::Catalogue;
+use catalogue_core::edition::Edition;
 use std::alloc::Global;
 use union_base::record_id::RecordId;
 use union_io::sink::Sink;
@@ -18,7 +21,7 @@ use union_io::sink::Sink;
 /// Answers `WriteFault` only where a write of `out` failed, and `Memory` where memory ran out. A front of the export was
 /// written then, and `left` may have gained the first of its lines.
 pub fn export<O: Sink>(
-    _alloc: Global,
+    alloc: Global,
     catalogue: &Catalogue,
     out: &mut O,
     left: &mut Vec<(RecordId, usize)>,
@@ -28,6 +31,32 @@ pub fn export<O: Sink>(
         (record { old = O.written out.old; new = O.written out.new; before = O.faults out.old; after = O.faults out.new }) result
         × OnOk result (left.new.items ≡ left.old.items ++ left_of all) }
 {
-    let _first = catalogue.first();
-    Err(ExportFail::Memory)
+    let mut pending = Vec::new(alloc);
+    let mut next = catalogue.first();
+    for _ in 0..catalogue.edition_count() {
+        if let Some(edition) = next {
+            match write_edition(alloc, edition, &mut pending, left, out) {
+                Ok(()) => next = catalogue.after(edition.least()),
+                Err(fail) => return Err(fail),
+            }
+        }
+    }
+    hand_on_rest(pending.as_slice(), out)
+}
+
+/// Writes the record of an edition behind what is pending, and notes the edition where fields of it were left out.
+fn write_edition<O: Sink>(
+    alloc: Global,
+    edition: &Edition,
+    pending: &mut Vec<u8>,
+    left: &mut Vec<(RecordId, usize)>,
+    out: &mut O,
+) -> Result<(), ExportFail>
+    ensures text { HasMoved (pending.old.items ++ edition_text edition.now) pending.new.items
+        (record { old = O.written out.old; new = O.written out.new; before = O.faults out.old; after = O.faults out.new }) result }
+    ensures left { OnOk result (left.new.items ≡ left.old.items ++ left_of_one edition.now) }
+{
+    let count = append_edition(alloc, edition, pending)?;
+    note_left(alloc, edition, count, left)?;
+    hand_on(pending, out)
 }

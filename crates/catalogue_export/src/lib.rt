@@ -15,5 +15,6 @@ pub mod export_fail;
 mod fields;
 mod fitting;
 pub mod laws;
+mod pending;
 #[cfg(test)]
 mod tests;

@@ -2,17 +2,22 @@
 ghost use Rattle.std.specs.Prelude.{◌≡◌, ◌≢◌, ◌≤◌, ◌<◌, Err, IfOk, OnSome, IfSome};
 ghost use Rattle.union_io.specs.Causes.{Rose};
 ghost use Rattle.library_stream.specs.Streaming.{most_ahead};
+ghost use Rattle.library_batches.specs.Blocks.{BlockAnswers};
 ghost use Rattle.library_batches.specs.Reading.{Answers, begun};
 
+use crate::block::Block;
+use crate::checking::check_next;
 use crate::refused::RefusedFrame;
 use crate::stop::Stop;
 use catalogue_core::batch::Batch;
+use catalogue_core::op::LARGEST_BATCH;
+use library_stream::answer::Next;
 use library_stream::frame_reader::{FrameReader, LARGEST_SOURCE};
 use std::alloc::Global;
-use std::convert::Infallible;
 use std::marker::Model;
 use union_base::library_code::LibraryCode;
 use union_base::memory::Memory;
+use union_base::sequence::Sequence;
 use union_io::source::Source;
 
 /// Reads the source of a library, and hands out its batches one after the other. Contracts see the library, what the source
@@ -23,7 +28,6 @@ pub struct BatchReader {
     frames: u64,
     refused: Vec<RefusedFrame>,
     reader: FrameReader,
-    never: Infallible,
 }
 
 impl Model for BatchReader {
@@ -32,6 +36,10 @@ impl Model for BatchReader {
     ghost Value = { Batching };
 
     ghost view = { λ r. record { library = r.library; stream = r.reader; frames = r.frames; refused = r.refused.items } };
+
+    ghost use Rattle.library_batches.specs.Within.{IsWithin};
+
+    ghost invariant = { IsWithin };
 }
 
 impl BatchReader {
@@ -39,11 +47,47 @@ impl BatchReader {
     /// and of the largest frame.
     ///
     /// Answers `Memory` where memory ran out.
-    pub fn open(_alloc: Global, library: &LibraryCode, limit: u64) -> Result<BatchReader, Memory>
+    pub fn open(alloc: Global, library: &LibraryCode, limit: u64) -> Result<BatchReader, Memory>
         requires { limit ≤ LARGEST_SOURCE }
         ensures { IfOk result (λ reader. reader ≡ begun library.now limit) }
     {
-        Err(Memory)
+        Ok(BatchReader {
+            library: *library,
+            frames: 0,
+            refused: Vec::new(alloc),
+            reader: FrameReader::open(alloc, limit)?,
+        })
+    }
+
+    /// Cuts and checks the next frames of the source, `LARGEST_BATCH` of them unless it ends before.
+    fn read_block<S: Source>(&mut self, alloc: Global, source: &mut S) -> Result<Block, Stop>
+        ensures name { S.name source.new ≡ S.name source.old }
+        ensures library { self.new.library ≡ self.old.library }
+        ensures answers { BlockAnswers result self.old (S.left source.old) self.new (S.left source.new) }
+        ensures failed { result ≡ Err Stop.Failed → Rose (S.faults source.old) (S.faults source.new) }
+        ensures calm { result ≢ Err Stop.Failed → S.faults source.new ≡ S.faults source.old }
+    {
+        let mut ops = Vec::new(alloc);
+        for _frame in 0..LARGEST_BATCH {
+            match self.reader.next(source) {
+                Next::Frame(cut) => {
+                    self.frames += 1;
+                    check_next(
+                        alloc,
+                        &self.library,
+                        self.frames,
+                        cut,
+                        self.reader.frame(),
+                        &mut ops,
+                        &mut self.refused,
+                    )?;
+                }
+                Next::End => return Ok(Block { ops, ended: true }),
+                Next::TooLong => return Err(Stop::TooLong),
+                Next::Failed => return Err(Stop::Failed),
+            }
+        }
+        Ok(Block { ops, ended: false })
     }
 
     /// The next batch of the source, and None where it ended within the limit and each of its batches was handed out. Blocks
@@ -53,7 +97,7 @@ impl BatchReader {
     /// Answers `TooLong` exactly where the source gave as many bytes as the limit allows and at least one more, and no read
     /// failed; `Failed` only where a read of the source failed; `Memory` where memory ran out. The operations of a block that
     /// was not whole by then are dropped, and the reader is not to be asked again.
-    pub fn next<S: Source>(&mut self, _alloc: Global, source: &mut S) -> Result<Option<Batch>, Stop>
+    pub fn next<S: Source>(&mut self, alloc: Global, source: &mut S) -> Result<Option<Batch>, Stop>
         ensures name { S.name source.new ≡ S.name source.old }
         ensures library { self.new.library ≡ self.old.library }
         ensures answers { Answers result self.old (S.left source.old) self.new (S.left source.new) }
@@ -63,7 +107,18 @@ impl BatchReader {
         // A measure for a caller's loop, whether the source tells its bytes or not.
         ensures fewer { IfOk result (λ next. OnSome next (most_ahead self.new.stream < most_ahead self.old.stream)) }
     {
-        match self.never {}
+        loop {
+            let Block { ops, ended } = self.read_block(alloc, source)?;
+            if !ops.is_empty() {
+                return Ok(Some(Batch {
+                    library: self.library,
+                    ops: Sequence::from(ops),
+                }));
+            }
+            if ended {
+                return Ok(None);
+            }
+        }
     }
 
     /// How many frames were cut. Takes no memory.
@@ -78,5 +133,17 @@ impl BatchReader {
         ensures { result.now ≡ self.now.refused }
     {
         self.refused.as_slice()
+    }
+    /// The refused ones of the frames that were cut, given away with the reader. Takes no memory.
+    pub fn into_refused(self) -> Vec<RefusedFrame>
+        ensures { result.items ≡ self.refused }
+    {
+        let BatchReader {
+            library: _,
+            frames: _,
+            refused,
+            reader: _,
+        } = self;
+        refused
     }
 }

@@ -10,6 +10,11 @@
 #![tactic(auto)]
 
 pub mod batch_reader;
+mod block;
+mod checking;
+pub mod laws;
 pub mod outcome_counts;
 pub mod refused;
 pub mod stop;
+#[cfg(test)]
+mod tests;

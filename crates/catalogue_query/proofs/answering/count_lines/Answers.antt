@@ -1,0 +1,17 @@
+use Rattle.std.proofs.Common.{◌++◌, ◌∷◌, [], length, ap, ◌∙◌}
+use Rattle.catalogue_core.proofs.SameEditions.{same_editions_of}
+use Rattle.catalogue_query.specs.Answers.{work_keys}
+use Rattle.catalogue_query.specs.Lines.{count_line}
+use Rattle.catalogue_query.proofs.answering.count_lines.Goals as goal
+
+pub returns : goal.returns
+returns c =
+    let counted = c.edition_count-editions.ensures in
+    let keyed = c.in_ok-works.ensures in
+    let works = keyed.2 ∙ ap (λ all. length (work_keys all)) (same_editions_of c.args.catalogue.now keyed.0 counted.0 keyed.1 counted.1) in
+    let records = c.record_count-records.ensures in (
+      counted.0,
+      counted.1,
+      c.in_ok-push.ensures.items ∙ ap (λ l. l ++ c.in_ok-count_line.field-0 ∷ []) c.in_ok-lines.ensures.items
+          ∙ ap (λ line. line ∷ []) (c.in_ok-count_line.ensures ∙ (λ i. count_line (counted.2 i) (works i) (records i))),
+    )

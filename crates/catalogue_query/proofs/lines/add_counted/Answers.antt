@@ -1,0 +1,14 @@
+use Rattle.std.proofs.Common.{append_assoc}
+use Rattle.catalogue_query.specs.Lines.{counted}
+use Rattle.catalogue_query.proofs.lines.add_counted.Goals as goal
+
+pub returns : goal.returns
+unfolding counted
+returns c =
+    rw (
+      c.in_ok-extend_from_slice-2.ensures.items,
+      c.as_bytes.ensures.value,
+      c.format.ensures.text,
+      c.in_ok-extend_from_slice.ensures.items,
+    )
+    (simp append_assoc)

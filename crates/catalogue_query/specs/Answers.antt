@@ -1,0 +1,81 @@
+-- What a catalogue answers to a query: by the list of its editions, which stand in order of their least contributors, and by
+-- the editions of its current records under their ids.
+use Rattle.std.specs.Prelude.{ℕ, ◌&&◌, Bool, false, if◌then◌else◌, List, [], ◌∷◌, ◌++◌, map, filter, flat_map, length, codes}
+use Rattle.std.specs.List.{list_any}
+use Rattle.std.specs.Option.{option_map_or}
+use Rattle.std.specs.Map.{values_of}
+use Rattle.union_base.specs.SortedLists.{has, set_of}
+use Rattle.union_base.specs.declared.record_id.RecordId.{RecordId}
+use Rattle.match_features.specs.Kept.{texts_cmp}
+use Rattle.field_merge.specs.Kept.{id_cmp}
+use Rattle.holdings_book.specs.Holdings.{holdings_of}
+use Rattle.catalogue_core.specs.Ids.{least}
+use Rattle.catalogue_core.specs.EditionKeys.{work_key_of}
+use Rattle.catalogue_core.specs.Histories.{MapOf, at_id}
+use Rattle.catalogue_core.specs.declared.edition.Edition.{Edition}
+use Rattle.catalogue_query.specs.Lines.{edition_line, by_line, work_line, hold_line, count_line}
+use Rattle.catalogue_query.specs.Queries.{is_text}
+use Rattle.catalogue_query.specs.declared.query.Query.{Query}
+use Rattle.catalogue_query.specs.declared.query.Query.TheVariants.{Id, Isbn, Control, Title, Work, Holdings, Count}
+
+-- the text stands among the texts
+abbrev pub stands_in : List ℕ → List (List ℕ) → Bool
+stands_in text texts = list_any (λ held. is_text held text) texts
+
+-- the pair of the two texts stands among the pairs
+abbrev pub pair_stands_in : List ℕ → List ℕ → List (List ℕ × List ℕ) → Bool
+pair_stands_in source number pairs = list_any (λ pair. is_text pair.0 source && is_text pair.1 number) pairs
+
+-- the edition has the record as a contributor
+abbrev pub has_contributor : RecordId → Edition → Bool
+has_contributor id e = has id_cmp e.content.contributors id
+
+-- the edition is one that the query asks for
+abbrev pub is_asked : Query → Edition → Bool
+is_asked (Id id) e = has_contributor id e
+is_asked (Isbn digits) e = stands_in digits e.features.isbns
+is_asked (Control source number) e = pair_stands_in source number e.features.control
+is_asked (Title form) e = stands_in form e.features.titles
+is_asked (Work key) e = is_text (work_key_of e) key
+is_asked (Holdings id) e = has_contributor id e
+is_asked Count e = false
+
+-- an edition by its least contributor, then each of its contributors, and its work
+abbrev pub identity_lines : Edition → List (List ℕ)
+identity_lines e = edition_line (least e) ∷ (map by_line e.content.contributors ++ work_line (work_key_of e) ∷ [])
+
+-- the holdings of the current record of that id
+abbrev pub record_lines : MapOf Edition → RecordId → List (List ℕ)
+record_lines records id = option_map_or (λ e. map hold_line (holdings_of id e.content.united)) (at_id records id) []
+
+-- the holdings of each contributor of an edition
+abbrev pub holding_lines : MapOf Edition → Edition → List (List ℕ)
+holding_lines records e = flat_map (record_lines records) e.content.contributors
+
+-- what a query is told of an edition that it asks for
+abbrev pub told : Query → MapOf Edition → Edition → List (List ℕ)
+told (Id id) records e = identity_lines e
+told (Holdings id) records e = holding_lines records e
+told query records e = edition_line (least e) ∷ []
+
+-- what it is told of the editions that it asks for, in their order
+abbrev pub told_of : Query → MapOf Edition → List Edition → List (List ℕ)
+told_of query records all = flat_map (told query records) (filter (is_asked query) all)
+
+-- the keys of the works of some editions, each once
+abbrev pub work_keys : List Edition → List (List ℕ)
+work_keys all = set_of texts_cmp (map work_key_of all)
+
+-- the lines of an answer, which may be none: the counts, or what is told of the editions
+abbrev pub lines_of : Query → MapOf Edition → List Edition → List (List ℕ)
+lines_of Count records all = count_line (length all) (length (work_keys all)) (length (values_of records)) ∷ []
+lines_of query records all = told_of query records all
+
+-- an answer has a line at least
+abbrev pub or_none : List (List ℕ) → List (List ℕ)
+or_none [] = codes "none" ∷ []
+or_none (line ∷ lines) = line ∷ lines
+
+-- the lines of the answer
+abbrev pub answer_lines : Query → MapOf Edition → List Edition → List (List ℕ)
+answer_lines query records all = or_none (lines_of query records all)

@@ -1,0 +1,141 @@
+//! What a catalogue answers to a query.
+//!
+//! The edition that has a record is looked up. For any other query the walk over the editions looks at each, so such an
+//! answer takes time by their number.
+ghost use Rattle.std.specs.Prelude.{◌≡◌, List, [], ◌∷◌, ◌++◌, map, filter, flat_map, length, IfOk};
+ghost use Rattle.catalogue_core.specs.EditionKeys.{work_key_of};
+ghost use Rattle.catalogue_core.specs.Histories.{current, AreEditionsOf};
+ghost use Rattle.catalogue_core.specs.declared.edition.Edition.{Edition as EditionModel};
+ghost use Rattle.catalogue_query.specs.declared.query.Query.TheVariants.{Count};
+ghost use Rattle.catalogue_query.specs.Answers.{has_contributor, told, told_of, work_keys, lines_of, or_none, answer_lines};
+
+use crate::answer::Answer;
+use crate::lines::count_line;
+use crate::query::Query;
+use crate::telling::{add_asked, add_told};
+use catalogue_core::catalogue::Catalogue;
+use catalogue_core::work_key::work_key_of;
+use std::alloc::Global;
+use union_base::bytes::Bytes;
+use union_base::memory::Memory;
+use union_base::record_id::RecordId;
+use union_base::sequence::Sequence;
+use union_base::sorted_list::SortedList;
+
+/// The catalogue's answer to a query (this project's own), from the editions of its current records, in order of their least
+/// contributors:
+///
+/// | Query | Lines |
+/// |---|---|
+/// | `Id` | of the edition that has the record `edition LIB.CTL` of its least contributor, `by LIB.CTL` of each contributor, and `work KEY` |
+/// | `Isbn`, `Control`, `Title`, `Work` | `edition LIB.CTL` of each edition that has the ISBN, the control pair or the title, or is of the work |
+/// | `Holdings` | for each contributor of the edition that has the record, for each field 852 of the contributor's current record, in order of their bytes: `hold LIB.CTL\|location\|sublocation\|classification`, with a blank for each control character and each `\|` of these texts |
+/// | `Count` | `editions E works W records R` |
+///
+/// An answer that would have no line has the one line `none`.
+///
+/// Answers `Memory` where memory ran out.
+pub fn answer(alloc: Global, catalogue: &Catalogue, query: &Query) -> Result<Answer, Memory>
+    ensures { IfOk result (λ found. (all : List EditionModel) × AreEditionsOf catalogue.now all
+        × (found.lines ≡ answer_lines query.now (current catalogue.now) all)) }
+{
+    let lines = lines_of(alloc, catalogue, query)?;
+    Ok(Answer {
+        lines: Sequence::from(or_none(alloc, lines)?),
+    })
+}
+
+/// The lines, or the one line `none` where there are none.
+fn or_none(alloc: Global, lines: Vec<Bytes>) -> Result<Vec<Bytes>, Memory>
+    ensures { IfOk result (λ found. found.items ≡ or_none lines.items) }
+{
+    let mut found = lines;
+    if found.is_empty() {
+        found.push(Bytes::of(alloc, b"none")?)?;
+    }
+    Ok(found)
+}
+
+/// The lines of the answer, which may be none.
+fn lines_of(alloc: Global, catalogue: &Catalogue, query: &Query) -> Result<Vec<Bytes>, Memory>
+    ensures { IfOk result (λ lines. (all : List EditionModel) × AreEditionsOf catalogue.now all
+        × (lines.items ≡ lines_of query.now (current catalogue.now) all)) }
+{
+    match query {
+        Query::Id(id) => lines_of_holder(alloc, catalogue, query, id),
+        Query::Holdings(id) => lines_of_holder(alloc, catalogue, query, id),
+        Query::Count => count_lines(alloc, catalogue),
+        _ => lines_of_asked(alloc, catalogue, query),
+    }
+}
+
+/// What the query is told of the edition that has the record.
+fn lines_of_holder(
+    alloc: Global,
+    catalogue: &Catalogue,
+    query: &Query,
+    id: &RecordId,
+) -> Result<Vec<Bytes>, Memory>
+    ensures { IfOk result (λ lines. (all : List EditionModel) × AreEditionsOf catalogue.now all
+        × (lines.items ≡ flat_map (told query.now (current catalogue.now)) (filter (has_contributor id.now) all))) }
+{
+    let mut lines = Vec::new(alloc);
+    if let Some(edition) = catalogue.holder(id) {
+        add_told(alloc, &mut lines, catalogue, query, edition)?;
+    }
+    Ok(lines)
+}
+
+/// What the query is told of the editions that it asks for.
+fn lines_of_asked(alloc: Global, catalogue: &Catalogue, query: &Query) -> Result<Vec<Bytes>, Memory>
+    ensures { IfOk result (λ lines. (all : List EditionModel) × AreEditionsOf catalogue.now all
+        × (lines.items ≡ told_of query.now (current catalogue.now) all)) }
+{
+    let mut lines = Vec::new(alloc);
+    let mut next = catalogue.first();
+    for _ in 0..catalogue.edition_count() {
+        if let Some(edition) = next {
+            add_asked(alloc, &mut lines, catalogue, query, edition)?;
+            next = catalogue.after(edition.least());
+        }
+    }
+    Ok(lines)
+}
+
+/// The line of the counts.
+fn count_lines(alloc: Global, catalogue: &Catalogue) -> Result<Vec<Bytes>, Memory>
+    ensures { IfOk result (λ lines. (all : List EditionModel) × AreEditionsOf catalogue.now all
+        × (lines.items ≡ lines_of Count (current catalogue.now) all)) }
+{
+    let editions = catalogue.edition_count();
+    let works = work_count(alloc, catalogue)?;
+    let records = catalogue.record_count();
+    let mut lines = Vec::with_capacity(alloc, 1)?;
+    lines.push(count_line(alloc, editions, works, records)?)?;
+    Ok(lines)
+}
+
+/// How many works the editions are of.
+fn work_count(alloc: Global, catalogue: &Catalogue) -> Result<u64, Memory>
+    ensures { IfOk result (λ count. (all : List EditionModel) × AreEditionsOf catalogue.now all
+        × (count ≡ length (work_keys all))) }
+{
+    let keys = SortedList::of(keys_of_editions(alloc, catalogue)?)?;
+    Ok(keys.as_slice().len() as u64)
+}
+
+/// The work key of each edition.
+fn keys_of_editions(alloc: Global, catalogue: &Catalogue) -> Result<Vec<Bytes>, Memory>
+    ensures { IfOk result (λ keys. (all : List EditionModel) × AreEditionsOf catalogue.now all
+        × (keys.items ≡ map work_key_of all)) }
+{
+    let mut keys = Vec::new(alloc);
+    let mut next = catalogue.first();
+    for _ in 0..catalogue.edition_count() {
+        if let Some(edition) = next {
+            keys.push(work_key_of(alloc, edition)?)?;
+            next = catalogue.after(edition.least());
+        }
+    }
+    Ok(keys)
+}

@@ -1,0 +1,114 @@
+//! What a query is told of an edition that it asks for.
+ghost use Rattle.std.specs.Prelude.{◌≡◌, ◌++◌, [], if◌then◌else◌, map, OnOk};
+ghost use Rattle.catalogue_core.specs.Histories.{current};
+ghost use Rattle.catalogue_query.specs.Lines.{by_line, hold_line};
+ghost use Rattle.catalogue_query.specs.Answers.{is_asked, identity_lines, record_lines, holding_lines, told};
+
+use crate::asked::is_asked;
+use crate::lines::{by_line, edition_line, hold_line, work_line};
+use crate::query::Query;
+use catalogue_core::catalogue::Catalogue;
+use catalogue_core::edition::Edition;
+use catalogue_core::work_key::work_key_of;
+use holdings_book::holdings::{Holding, holdings_of};
+use std::alloc::Global;
+use union_base::bytes::Bytes;
+use union_base::memory::Memory;
+use union_base::record_id::RecordId;
+
+/// Adds what the query is told of the edition, where it asks for it.
+pub(crate) fn add_asked(
+    alloc: Global,
+    lines: &mut Vec<Bytes>,
+    catalogue: &Catalogue,
+    query: &Query,
+    edition: &Edition,
+) -> Result<(), Memory>
+    ensures { OnOk result (lines.new.items ≡ lines.old.items
+        ++ (if is_asked query.now edition.now then told query.now (current catalogue.now) edition.now else [])) }
+{
+    if is_asked(alloc, query, edition)? {
+        add_told(alloc, lines, catalogue, query, edition)?;
+    }
+    Ok(())
+}
+
+/// Adds what the query is told of the edition.
+pub(crate) fn add_told(
+    alloc: Global,
+    lines: &mut Vec<Bytes>,
+    catalogue: &Catalogue,
+    query: &Query,
+    edition: &Edition,
+) -> Result<(), Memory>
+    ensures { OnOk result (lines.new.items ≡ lines.old.items ++ told query.now (current catalogue.now) edition.now) }
+{
+    match query {
+        Query::Id(_) => add_identity(alloc, lines, edition),
+        Query::Holdings(_) => add_holdings(alloc, lines, catalogue, edition),
+        _ => {
+            lines.push(edition_line(alloc, edition.least())?)?;
+            Ok(())
+        }
+    }
+}
+
+/// Adds the edition by its least contributor, then each of its contributors, and its work.
+fn add_identity(alloc: Global, lines: &mut Vec<Bytes>, edition: &Edition) -> Result<(), Memory>
+    ensures { OnOk result (lines.new.items ≡ lines.old.items ++ identity_lines edition.now) }
+{
+    lines.push(edition_line(alloc, edition.least())?)?;
+    add_contributors(alloc, lines, edition.content.contributors.as_slice())?;
+    let key = work_key_of(alloc, edition)?;
+    lines.push(work_line(alloc, key.bytes())?)?;
+    Ok(())
+}
+
+fn add_contributors(alloc: Global, lines: &mut Vec<Bytes>, ids: &[RecordId]) -> Result<(), Memory>
+    ensures { OnOk result (lines.new.items ≡ lines.old.items ++ map by_line ids.now) }
+{
+    for id in ids {
+        lines.push(by_line(alloc, id)?)?;
+    }
+    Ok(())
+}
+
+/// Adds the holdings of each contributor of the edition.
+fn add_holdings(
+    alloc: Global,
+    lines: &mut Vec<Bytes>,
+    catalogue: &Catalogue,
+    edition: &Edition,
+) -> Result<(), Memory>
+    ensures { OnOk result (lines.new.items ≡ lines.old.items ++ holding_lines (current catalogue.now) edition.now) }
+{
+    for id in edition.content.contributors.as_slice() {
+        add_record(alloc, lines, catalogue, id)?;
+    }
+    Ok(())
+}
+
+/// Adds the holdings of the current record of that id.
+fn add_record(
+    alloc: Global,
+    lines: &mut Vec<Bytes>,
+    catalogue: &Catalogue,
+    id: &RecordId,
+) -> Result<(), Memory>
+    ensures { OnOk result (lines.new.items ≡ lines.old.items ++ record_lines (current catalogue.now) id.now) }
+{
+    let Some(base) = catalogue.base(id) else {
+        return Ok(());
+    };
+    let holdings = holdings_of(alloc, id, base.content.united.as_slice())?;
+    add_hold_lines(alloc, lines, &holdings)
+}
+
+fn add_hold_lines(alloc: Global, lines: &mut Vec<Bytes>, holdings: &[Holding]) -> Result<(), Memory>
+    ensures { OnOk result (lines.new.items ≡ lines.old.items ++ map hold_line holdings.now) }
+{
+    for holding in holdings {
+        lines.push(hold_line(alloc, holding)?)?;
+    }
+    Ok(())
+}

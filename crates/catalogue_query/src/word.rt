@@ -1,0 +1,54 @@
+//! The first word of a line.
+ghost use Rattle.std.specs.Prelude.{◌≡◌};
+ghost use Rattle.std.specs.List.{before_first, after_first};
+ghost use Rattle.catalogue_query.specs.Queries.{is_blank, word_of};
+
+use memchr::memchr;
+
+/// The words with which queries begin.
+#[derive(Clone, Copy)]
+pub(crate) enum Word {
+    Id,
+    Isbn,
+    Control,
+    Title,
+    Work,
+    Holdings,
+    Count,
+}
+
+impl Word {
+    /// The word of that spelling, where there is one.
+    pub(crate) fn read(text: &[u8]) -> Option<Word>
+        ensures { result ≡ word_of text.now }
+    {
+        if text == b"id".as_slice() {
+            Some(Word::Id)
+        } else if text == b"isbn".as_slice() {
+            Some(Word::Isbn)
+        } else if text == b"control".as_slice() {
+            Some(Word::Control)
+        } else if text == b"title".as_slice() {
+            Some(Word::Title)
+        } else if text == b"work".as_slice() {
+            Some(Word::Work)
+        } else if text == b"holdings".as_slice() {
+            Some(Word::Holdings)
+        } else if text == b"count".as_slice() {
+            Some(Word::Count)
+        } else {
+            None
+        }
+    }
+}
+
+/// What stands before the first blank of the text and what stands behind it: all of it and nothing where there is no blank.
+pub(crate) fn cut_at_blank(text: &[u8]) -> (&[u8], &[u8])
+    ensures before { result.0.now ≡ before_first is_blank text.now }
+    ensures behind { result.1.now ≡ after_first is_blank text.now }
+{
+    match memchr(b' ', text) {
+        Some(at) => (text.split_at(at).0, text.split_at(at + 1).1),
+        None => (text, &[]),
+    }
+}

@@ -1,0 +1,4 @@
+pub mod CheckedLaws
+pub mod BlockLaws
+pub mod PassedLaws
+pub mod HandingLaws

@@ -1,0 +1,163 @@
+-- What a reader that passed blocks without a batch answers next.
+use Rattle.std.proofs.Common.{◌≡◌, ℕ, suc, ◌+◌, ◌≤◌, ◌<◌, Bool, true, false, List, [], ◌∷◌, ◌++◌, length, append_assoc, append-nil, ◌⊎◌, inl, inr, refl, sym, ap, subst, ◌∙◌, arith, length-append}
+use Rattle.std.specs.Prelude.{Option, Some, None, Result, Ok, Err, ⊤, IsTrue, map, filter}
+use Rattle.std.proofs.lemmas.Bool.{le-leb}
+use Rattle.std.proofs.lemmas.List.{length-map}
+use Rattle.std.proofs.lemmas.List.Sums.{length-filter, count_by-le-length}
+use Rattle.std.proofs.lemmas.Slice.Zip.{AllZip-long}
+use Rattle.library_stream.specs.Streaming.{Streaming, frames_on, passes, is_too_long, stopped}
+use Rattle.library_stream.specs.Answering.{Takes}
+use Rattle.catalogue_core.specs.declared.batch.Batch.{Batch}
+use Rattle.catalogue_core.specs.Batches.{is_batch}
+use Rattle.catalogue_core.specs.declared.op.Op.{Op}
+use Rattle.catalogue_core.specs.declared.op.TheConstants.{LARGEST_BATCH}
+use Rattle.library_batches.specs.Streams.{Frame, is_accepted, accepted}
+use Rattle.library_batches.specs.Refused.{refused_from}
+use Rattle.library_batches.specs.Batches.{AreBatches, AreFirstBatches, IsBatchOf, IsOpOf}
+use Rattle.library_batches.specs.Reading.{Batching, Answers, AnswersTold, KeepsFrames, TakesBatch, ahead}
+use Rattle.library_batches.specs.Blocks.{IsBlock, IsChecked, IsFull, StopsBehind, BlockAnswers}
+use Rattle.library_batches.specs.declared.block.Block.{Block}
+use Rattle.library_batches.specs.declared.refused.RefusedFrame.{RefusedFrame}
+use Rattle.library_batches.specs.declared.stop.Stop.{Stop}
+use Rattle.library_batches.specs.declared.stop.Stop.TheVariants.{TooLong, Failed, Memory}
+use Rattle.library_batches.proofs.CheckedLaws.{refused_from-append}
+use Rattle.library_batches.proofs.BlockLaws.{IsBlockBefore, some_in, AreBatches-block, AreFirstBatches-block, AreBatches-none, AreFirstBatches-none}
+
+-- blocks without a batch were passed: what the batches still to come are, the batches of what was coming are
+pub record PassesBlocks (before : Batching) (coming : List Frame) (now : Batching) (still : List Frame) : Type 0 where
+  pub keeps : KeepsFrames before coming now still
+  pub all : (later : List Batch) → AreBatches before.library still later → AreBatches before.library coming later
+  pub first : (later : List Batch) → AreFirstBatches before.library still later → AreFirstBatches before.library coming later
+
+-- the same where the source may not tell its bytes
+abbrev pub Passes : Batching → Option (List ℕ) → Batching → Option (List ℕ) → Type 0
+Passes before None now left = ⊤
+Passes before (Some bytes) now None = ⊥
+Passes before (Some bytes) now (Some rest) =
+    PassesBlocks before (ahead before bytes) now (ahead now rest) × (is_too_long now.stream rest ≡ is_too_long before.stream bytes)
+
+-- nothing is passed at first
+pub Passes-none : (a : Batching) (left : Option (List ℕ)) → Passes a left a left
+Passes-none a None = tt
+Passes-none a (Some bytes) =
+    (record { keeps = record { library = refl; frames = refl; refused = refl }; all = λ later all. all; first = λ later first. first }, refl)
+
+-- the frames that a block takes are kept
+KeepsFrames-block : (a b c : Batching) (coming between still : List Frame) (taken : List Frame) → KeepsFrames a coming b between → between ≡ taken ++ still
+    → c.library ≡ b.library → c.frames ≡ b.frames + length taken → c.refused ≡ b.refused ++ refused_from (b.frames + 1) taken → KeepsFrames a coming c still
+KeepsFrames-block a b c coming between still taken keeps takes library frames refused =
+    let place : c.frames + 1 ≡ (b.frames + 1) + length taken = omega arith in
+    record {
+      library = library ∙ keeps.library;
+      frames = omega (arith, keeps.frames, frames, ap length takes, length-append taken still);
+      refused = ap (λ xs. xs ++ refused_from (c.frames + 1) still) refused
+          ∙ (append_assoc b.refused (refused_from (b.frames + 1) taken) (refused_from (c.frames + 1) still)
+          ∙ (ap (λ k. b.refused ++ (refused_from (b.frames + 1) taken ++ refused_from k still)) place
+          ∙ (ap (λ xs. b.refused ++ xs) (sym (refused_from-append (b.frames + 1) taken still) ∙ sym (ap (refused_from (b.frames + 1)) takes))
+          ∙ keeps.refused)));
+    }
+
+-- where the source ended within a block, nothing is behind it
+is_before : (ended : Bool) (c : Batching) (rest : List ℕ) (taken : List Frame) → IsFull ended c.stream (length taken) → length taken ≤ LARGEST_BATCH
+    → IsBlockBefore taken (ahead c rest)
+is_before true c rest taken full most = inr (ap (λ course. frames_on course c.stream.pending c.stream.unread rest) full, most)
+is_before false c rest taken full most = inl full
+
+-- a block without a batch is passed
+pub Passes-block : (a b c : Batching) (one two three : Option (List ℕ)) (block : Block) → Passes a one b two → IsBlock b two c three block
+    → c.library ≡ b.library → some_in block.ops.items ≡ false → Passes a one c three
+Passes-block a b c None two three block passes is library none = tt
+Passes-block a b c (Some x) None three block passes is library none = absurd passes
+Passes-block a b c (Some x) (Some y) None block passes is library none = absurd is.takes
+Passes-block a b c (Some x) (Some y) (Some z) block passes is library none =
+    let before : IsBlockBefore is.taken (ahead c z) = is_before block.ended c z is.taken is.full is.most in (
+      record {
+        keeps = KeepsFrames-block a b c (ahead a x) (ahead b y) (ahead c z) is.taken passes.0.keeps is.takes.0 library is.frames is.checked.refused;
+        all = λ later all. passes.0.all later (subst (λ fs. AreBatches a.library fs later) (sym is.takes.0)
+            (subst (λ code. AreBatches code (is.taken ++ ahead c z) later) passes.0.keeps.library
+            (AreBatches-none b.library is.taken (ahead c z) block.ops.items later before none is.checked.asked
+            (subst (λ code. AreBatches code (ahead c z) later) (sym passes.0.keeps.library) all))));
+        first = λ later all. passes.0.first later (subst (λ fs. AreFirstBatches a.library fs later) (sym is.takes.0)
+            (subst (λ code. AreFirstBatches code (is.taken ++ ahead c z) later) passes.0.keeps.library
+            (AreFirstBatches-none b.library is.taken (ahead c z) block.ops.items later before none is.checked.asked
+            (subst (λ code. AreFirstBatches code (ahead c z) later) (sym passes.0.keeps.library) all))));
+      },
+      sym is.takes.1 ∙ passes.1,
+    )
+
+-- a block with a batch is answered
+pub Answers-batch : (a b c : Batching) (one two three : Option (List ℕ)) (block : Block) (batch : Batch) → Passes a one b two → IsBlock b two c three block
+    → c.library ≡ b.library → batch.library ≡ b.library → batch.ops ≡ block.ops.items → some_in block.ops.items ≡ true
+    → Answers (Ok (Some batch)) a one c three
+Answers-batch a b c None two three block batch passes is library code ops some = tt
+Answers-batch a b c (Some x) None three block batch passes is library code ops some = absurd passes
+Answers-batch a b c (Some x) (Some y) None block batch passes is library code ops some = absurd is.takes
+Answers-batch a b c (Some x) (Some y) (Some z) block batch passes is library code ops some =
+    let before : IsBlockBefore is.taken (ahead c z) = is_before block.ended c z is.taken is.full is.most in
+    let is_batch : IsBatchOf a.library is.taken batch = record {
+      library_is = code ∙ passes.0.keeps.library;
+      ops = rw (ops, ← passes.0.keeps.library) is.checked.asked;
+    } in (
+      record {
+        keeps = KeepsFrames-block a b c (ahead a x) (ahead b y) (ahead c z) is.taken passes.0.keeps is.takes.0 library is.frames is.checked.refused;
+        all = λ later all. passes.0.all (batch ∷ later) (subst (λ fs. AreBatches a.library fs (batch ∷ later)) (sym is.takes.0)
+            (AreBatches-block a.library is.taken (ahead c z) batch later before (ap some_in ops ∙ some) is_batch all));
+        first = λ later all. passes.0.first (batch ∷ later) (subst (λ fs. AreFirstBatches a.library fs (batch ∷ later)) (sym is.takes.0)
+            (AreFirstBatches-block a.library is.taken (ahead c z) batch later before (ap some_in ops ∙ some) is_batch all));
+      },
+      sym is.takes.1 ∙ passes.1,
+    )
+
+-- at the end of the source every batch was handed out
+pub Answers-end : (a b c : Batching) (one two three : Option (List ℕ)) (block : Block) → Passes a one b two → IsBlock b two c three block
+    → c.library ≡ b.library → some_in block.ops.items ≡ false → block.ended ≡ true → Answers (Ok None) a one c three
+Answers-end a b c None two three block passed is library none ended = tt
+Answers-end a b c (Some x) None three block passed is library none ended = absurd passed
+Answers-end a b c (Some x) (Some y) None block passed is library none ended = absurd is.takes
+Answers-end a b c (Some x) (Some y) (Some z) block passed is library none ended =
+    let all = Passes-block a b c (Some x) (Some y) (Some z) block passed is library none in
+    let full = subst (λ e. IsFull e c.stream (length is.taken)) ended is.full in
+    let nothing : ahead c z ≡ [] = ap (λ course. frames_on course c.stream.pending c.stream.unread z) full in (
+      subst (λ fs. AreBatches a.library fs [] → AreBatches a.library (ahead a x) []) nothing (all.0.all []) tt,
+      subst (λ fs. KeepsFrames a (ahead a x) c fs) nothing all.0.keeps,
+      sym all.1 ∙ ap (λ course. passes course z) full,
+    )
+
+-- the source is too long
+pub Answers-long : (a b c : Batching) (one two three : Option (List ℕ)) → Passes a one b two → StopsBehind b.stream two c.stream three → c.stream ≡ stopped
+    → Answers (Err TooLong) a one c three
+Answers-long a b c None two three passes stops stands = tt
+Answers-long a b c (Some x) None three passes stops stands = absurd passes
+Answers-long a b c (Some x) (Some y) None passes stops stands = absurd stops.1
+Answers-long a b c (Some x) (Some y) (Some z) passes stops stands =
+    sym passes.1 ∙ stops.1.1 ∙ ap (λ stream. is_too_long stream z) stands
+
+-- the reading failed, or memory ran out
+pub Answers-failed : (a b c : Batching) (one two three : Option (List ℕ)) → Passes a one b two → StopsBehind b.stream two c.stream three
+    → Answers (Err Failed) a one c three
+Answers-failed a b c None two three passes stops = tt
+Answers-failed a b c (Some x) None three passes stops = absurd passes
+Answers-failed a b c (Some x) (Some y) None passes stops = absurd stops.1
+Answers-failed a b c (Some x) (Some y) (Some z) passes stops = tt
+
+pub Answers-memory : (a b c : Batching) (one two three : Option (List ℕ)) → Passes a one b two → StopsBehind b.stream two c.stream three
+    → Answers (Err Memory) a one c three
+Answers-memory a b c None two three passes stops = tt
+Answers-memory a b c (Some x) None three passes stops = absurd passes
+Answers-memory a b c (Some x) (Some y) None passes stops = absurd stops.1
+Answers-memory a b c (Some x) (Some y) (Some z) passes stops = tt
+
+-- the reading of a block stopped
+pub Answers-stopped : (stop : Stop) (a b c : Batching) (one two three : Option (List ℕ)) → Passes a one b two → BlockAnswers (Err stop) b two c three
+    → Answers (Err stop) a one c three
+Answers-stopped TooLong a b c one two three passed stops = Answers-long a b c one two three passed stops.0 stops.1
+Answers-stopped Failed a b c one two three passed stops = Answers-failed a b c one two three passed stops
+Answers-stopped Memory a b c one two three passed stops = Answers-memory a b c one two three passed stops
+
+-- no fewer operations than one and no more than frames: they fit a batch
+pub is_batch-block : (library : List ℕ) (start : ℕ) (taken : List Frame) (ops : List Op) (before now : List RefusedFrame)
+    → IsChecked library start taken ops before now → length taken ≤ LARGEST_BATCH → 0 < length ops → IsTrue (is_batch library ops)
+is_batch-block library start taken ops before now checked most some =
+    let long = AllZip-long (IsOpOf library) (accepted taken) ops checked.asked in
+    let few : length ops ≤ LARGEST_BATCH = omega (arith, long, length-map (filter is_accepted taken) (λ (f : Frame). f.1), length-filter is_accepted taken, count_by-le-length is_accepted taken, most) in
+    rw (le-leb 1 (length ops) some, le-leb (length ops) LARGEST_BATCH few) checked.own

@@ -1,0 +1,50 @@
+-- What the reading of one block of a source's frames gives.
+use Rattle.std.specs.Prelude.{◌≡◌, ℕ, ◌+◌, ◌≤◌, Bool, true, false, IsTrue, List, ◌++◌, length, Option, Result, Ok, Err}
+use Rattle.std.specs.List.{AllZip, list_all}
+use Rattle.library_stream.specs.Streaming.{Streaming, stopped, most_ahead}
+use Rattle.library_stream.specs.Answering.{Takes}
+use Rattle.library_stream.specs.declared.course.Course.TheVariants.{Ended}
+use Rattle.catalogue_core.specs.Batches.{is_own_op}
+use Rattle.catalogue_core.specs.declared.op.Op.{Op}
+use Rattle.catalogue_core.specs.declared.op.TheConstants.{LARGEST_BATCH}
+use Rattle.library_batches.specs.Streams.{Frame, accepted}
+use Rattle.library_batches.specs.Refused.{refused_from}
+use Rattle.library_batches.specs.Batches.{IsOpOf}
+use Rattle.library_batches.specs.Reading.{Batching}
+use Rattle.library_batches.specs.declared.block.Block.{Block}
+use Rattle.library_batches.specs.declared.refused.RefusedFrame.{RefusedFrame}
+use Rattle.library_batches.specs.declared.stop.Stop.{Stop}
+use Rattle.library_batches.specs.declared.stop.Stop.TheVariants.{TooLong, Failed, Memory}
+
+-- the frames, numbered from that number on, were checked: the accepted ones asked for these operations, and the refused ones
+-- were added to those that were refused before
+pub record IsChecked (library : List ℕ) (start : ℕ) (taken : List Frame) (ops : List Op) (before now : List RefusedFrame) : Type 0 where
+  pub asked : AllZip (IsOpOf library) (accepted taken) ops
+  pub own : IsTrue (list_all (is_own_op library) ops)
+  pub refused : now ≡ before ++ refused_from start taken
+
+-- a block is whole, unless the source ended within it
+abbrev pub IsFull : Bool → Streaming → ℕ → Type 0
+IsFull true reader frames = reader.course ≡ Ended
+IsFull false reader frames = frames ≡ LARGEST_BATCH
+
+-- a block of the frames that were ahead
+pub record IsBlock (before : Batching) (left : Option (List ℕ)) (now : Batching) (left' : Option (List ℕ)) (block : Block) : Type 0 where
+  pub taken : List Frame
+  pub takes : Takes before.stream left now.stream left' taken
+  pub checked : IsChecked before.library (before.frames + 1) taken block.ops.items before.refused now.refused
+  pub frames : now.frames ≡ before.frames + length taken
+  pub most : length taken ≤ LARGEST_BATCH
+  pub full : IsFull block.ended now.stream (length taken)
+  pub fewer : most_ahead now.stream + length taken ≤ most_ahead before.stream
+
+-- frames were taken before the reading stopped
+abbrev pub StopsBehind : Streaming → Option (List ℕ) → Streaming → Option (List ℕ) → Type 0
+StopsBehind before left now left' = (taken : List Frame) × Takes before left now left' taken
+
+-- what an answer on a block says
+abbrev pub BlockAnswers : Result Block Stop → Batching → Option (List ℕ) → Batching → Option (List ℕ) → Type 0
+BlockAnswers (Ok block) before left now left' = IsBlock before left now left' block
+BlockAnswers (Err TooLong) before left now left' = StopsBehind before.stream left now.stream left' × (now.stream ≡ stopped)
+BlockAnswers (Err Failed) before left now left' = StopsBehind before.stream left now.stream left'
+BlockAnswers (Err Memory) before left now left' = StopsBehind before.stream left now.stream left'

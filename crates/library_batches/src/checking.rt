@@ -1,0 +1,48 @@
+//! The checking of one frame.
+ghost use Rattle.std.specs.Prelude.{◌≡◌, ◌+◌, ◌++◌, ◌∷◌, [], ℕ, List, length, OnOk};
+ghost use Rattle.iso2709_frame.specs.Frames.{IsWhole};
+ghost use Rattle.library_batches.specs.Streams.{Frame};
+ghost use Rattle.library_batches.specs.Blocks.{IsChecked};
+ghost use Rattle.library_batches.specs.declared.refused.RefusedFrame.{RefusedFrame as RefusedModel};
+
+use crate::refused::RefusedFrame;
+use catalogue_core::op::Op;
+use catalogue_core::records::op_of;
+use iso2709_frame::cut::Cut;
+use marc_rules::check::{Refusal, check_frame};
+use std::alloc::Global;
+use union_base::library_code::LibraryCode;
+use union_base::memory::Memory;
+
+/// Checks a frame of that number, and adds the operation that its record asks for, or its refusal. The record is gone then.
+pub fn check_next(
+    alloc: Global,
+    library: &LibraryCode,
+    number: u64,
+    cut: Cut,
+    frame: &[u8],
+    ops: &mut Vec<Op>,
+    refused: &mut Vec<RefusedFrame>,
+) -> Result<(), Memory>
+    requires whole { cut ≡ Cut.Whole → IsWhole frame.now }
+    ensures { OnOk result ((start : ℕ) (taken : List Frame) (before : List RefusedModel) → number ≡ start + length taken
+        → IsChecked library.now start taken ops.old.items before refused.old.items
+        → IsChecked library.now start (taken ++ (cut, frame.now) ∷ []) ops.new.items before refused.new.items) }
+{
+    match check_frame(alloc, cut, frame) {
+        Ok(rec) => {
+            let asked = op_of(alloc, library, &rec)?;
+            ops.push(asked)?;
+            Ok(())
+        }
+        Err(Refusal::Rule { rule, place }) => {
+            refused.push(RefusedFrame {
+                frame: number,
+                rule,
+                place,
+            })?;
+            Ok(())
+        }
+        Err(Refusal::Memory) => Err(Memory),
+    }
+}

@@ -1,0 +1,25 @@
+-- The history of a catalogue as the entries of a desk.
+use Rattle.std.specs.Prelude.{◌≡◌, ℕ, List, map}
+use Rattle.catalogue_core.specs.Histories.{current, outcomes}
+use Rattle.catalogue_core.specs.declared.batch.Batch.{Batch}
+use Rattle.catalogue_core.specs.declared.history_entry.HistoryEntry.{HistoryEntry}
+use Rattle.catalogue_core.specs.declared.outcome.Outcome.{Outcome}
+use Rattle.load_sessions.specs.Questions.{IsAnswer}
+use Rattle.load_sessions.specs.declared.questions.Query.{Query}
+use Rattle.load_sessions.specs.declared.questions.Answer.{Answer}
+
+-- the entries of a history
+abbrev pub entries_of : List HistoryEntry → List (ℕ × Batch)
+entries_of history = map (λ (entry : HistoryEntry). (entry.pass, entry.batch)) history
+
+-- the history of entries
+abbrev pub history_of : List (ℕ × Batch) → List HistoryEntry
+history_of entries = map (λ (entry : ℕ × Batch). record { pass = entry.0; batch = entry.1 }) entries
+
+-- what comes of a batch behind these entries
+abbrev pub gives : List (ℕ × Batch) → Batch → List Outcome → Type 0
+gives entries batch found = found ≡ outcomes batch.library (current (history_of entries)) batch.ops
+
+-- what is answered behind these entries
+abbrev pub tells : List (ℕ × Batch) → Query → Answer → Type 0
+tells entries query told = IsAnswer (history_of entries) query told

@@ -1,0 +1,4 @@
+pub mod Questions
+pub mod Entries
+pub mod Tallies
+pub mod Sessions

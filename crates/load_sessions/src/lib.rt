@@ -1,0 +1,18 @@
+//! The loading of libraries at a desk: sessions, which may run at once, and an asker beside them.
+//!
+//! A session reads the source of one library and makes one turn at the desk for each of its batches (`library_batches`).
+//! `running::run_sessions` runs some sessions on some threads. Whatever their turns' order, each session's pass has gained
+//! the first batches of its source in their order, and all of them where its end is Done; its report then has the frames, the
+//! refused ones, and what came of its operations in the one history of the desk. The machine of the desk is
+//! `served::Served`, whose entries are the history of a catalogue. Definitions: specs/Sessions.antt, specs/Tallies.antt,
+//! specs/Askers.antt.
+//!
+//! Cost: a turn for each batch, and of memory the reader of one source for each session that is under way.
+#![tactic(auto)]
+
+mod answering;
+pub mod end;
+pub mod questions;
+pub mod report;
+pub mod served;
+pub mod session;

@@ -1,0 +1,84 @@
+//! The machine of the desk: a catalogue.
+ghost use Rattle.std.specs.Prelude.{◌≡◌, ◌<◌, ◌^◌, ◌++◌, ◌∷◌, [], length, IfOk, OnOk, OnErr};
+ghost use Rattle.std.proofs.Common.{sym, subst};
+ghost use Rattle.std.proofs.lemmas.List.{length-map};
+ghost use Rattle.catalogue_core.specs.Histories.{current, outcomes};
+ghost use Rattle.load_sessions.specs.Entries.{entries_of, gives, tells};
+
+use crate::answering::answer;
+use crate::questions::{Answer, Query};
+use catalogue_core::batch::Batch;
+use catalogue_core::catalogue::Catalogue;
+use catalogue_core::outcome::Outcome;
+use catalogue_lock::machine::Machine;
+use merge_laws::steps::Steps;
+use std::alloc::Global;
+use std::marker::Brand;
+use std::sync::ledger::{Blank, Ledger};
+use union_base::memory::Memory;
+
+/// A catalogue at a desk. Its entries are the catalogue's history, and it has no setting.
+#[derive(Drop)]
+pub struct Served {
+    pub catalogue: Catalogue,
+    pub ghost few: { length catalogue < 2 ^ 63 },
+}
+
+/// Applies a batch, with the match tests counted in a ledger of their own.
+fn apply_by<L: Ledger>(
+    alloc: Global,
+    catalogue: &mut Catalogue,
+    number: u32,
+    batch: Batch,
+    blank: Blank,
+) -> Result<Vec<Outcome>, Memory>
+    requires name { blank.name ≡ L.name }
+    requires parts { blank.parts ≡ L.parts }
+    requires some { 0 < L.parts }
+    requires few { length catalogue.old < 2 ^ 63 }
+    ensures appended { OnOk result (catalogue.new ≡ catalogue.old ++ record { pass = number; batch = batch } ∷ []) }
+    ensures outcomes { IfOk result (λ found. found.items ≡ outcomes batch.library (current catalogue.old) batch.ops) }
+    ensures kept { OnErr result (catalogue.new ≡ catalogue.old) }
+    ensures few { length catalogue.new < 2 ^ 63 }
+{
+    let mut steps: Steps<L> = Steps::open(blank);
+    let found = catalogue.apply(alloc, number, batch, &mut steps)?;
+    let _turns = catalogue.turns();
+    Ok(found)
+}
+
+impl Machine for Served {
+    type Setting = ();
+
+    type Change = Batch;
+
+    type Question = Query;
+
+    type Outcome = Vec<Outcome>;
+
+    type Answer = Answer;
+
+    ghost setting = { λ m. tt };
+
+    ghost entries = { λ m. entries_of m.catalogue };
+
+    ghost spare = { tt };
+
+    ghost yields = { λ setting entries number batch found. gives entries batch found.items };
+
+    ghost answers = { λ setting entries query told. tells entries query told };
+
+    ghost bounded = { λ m. subst (λ n. n < 2 ^ 63) (sym (length-map m.catalogue _)) m.few };
+
+    fn apply(&mut self, alloc: Global, number: u32, batch: Batch) -> Result<Vec<Outcome>, Memory> {
+        apply_by::<Brand>(alloc, &mut self.catalogue, number, batch, Blank::new(1))
+    }
+
+    fn ask(&self, alloc: Global, query: &Query) -> Result<Answer, Memory> {
+        answer(alloc, &self.catalogue, query)
+    }
+
+    fn turns(&self) -> u64 {
+        self.catalogue.turns()
+    }
+}
