@@ -13,4 +13,8 @@ pub mod run;
 pub mod shelved;
 pub mod stop_status;
 pub mod tally;
+#[cfg(test)]
+mod tests;
+#[cfg(test)]
+mod union_tests;
 pub mod writing;

@@ -1,0 +1,7 @@
+mod FileLaws
+mod SourceLaws
+mod BatchLaws
+mod TextLaws
+mod LineLaws
+mod StopLaws
+mod ScriptLaws

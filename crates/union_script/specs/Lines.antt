@@ -1,5 +1,5 @@
 -- What the running of lines of a script says, one or many.
-use Rattle.std.specs.Prelude.{◌≡◌, ℕ, ◌<◌, Bool, List, [], ◌∷◌, ◌++◌, length, Ok, Err, IfSome}
+use Rattle.std.specs.Prelude.{◌≡◌, ℕ, ◌<◌, Bool, List, ◌∷◌, ◌++◌, length, Ok, Err, IfSome}
 use Rattle.std.specs.declared.option.Option.{Option}
 use Rattle.std.specs.declared.result.Result.{Result}
 use Rattle.std.specs.Io.KnownBytes.{Appends}
@@ -19,9 +19,9 @@ use Rattle.union_script.specs.Texts.{Contents, ScriptText, has_refusals}
 use Rattle.union_script.specs.Inputs.{files_loaded, AreWithin}
 
 -- the lines were run: their text was written, and the history is that behind them
-pub record HasRun (contents : Contents) (lines : List ScriptLine) (history now : List HistoryEntry) (refused : Bool) (old new : Option (List ℕ)) : Type 0 where
+pub record HasRun (contents : Contents) (lines : List ScriptLine) (history now : List HistoryEntry) (told : Bool) (old new : Option (List ℕ)) : Type 0 where
   pub within : AreWithin contents (files_loaded lines)
-  pub refused : refused ≡ has_refusals contents lines
+  pub refused : told ≡ has_refusals contents lines
   pub text : List ℕ
   pub writes : ScriptText contents lines history text now
   pub written : Appends old new text

@@ -1,13 +1,11 @@
 -- What a run of a script says.
-use Rattle.std.specs.Prelude.{◌≡◌, ◌≢◌, ℕ, ◌⊎◌, Bool, true, false, List, [], ◌∷◌, ◌++◌, Some, None, IfSome, IsTrue}
+use Rattle.std.specs.Prelude.{◌≡◌, ◌≢◌, ℕ, ◌⊎◌, false, List, [], Some, None, IfSome, IsTrue}
 use Rattle.std.specs.declared.option.Option.{Option}
 use Rattle.std.specs.Io.KnownBytes.{Appends, Keeps}
 use Rattle.catalogue_core.specs.declared.history_entry.HistoryEntry.{HistoryEntry}
-use Rattle.union_io.specs.Writing.{AppendsFront}
 use Rattle.union_words.specs.Flows.{ShelfFlow, IsCalm, FailsAt, NoneFails, Outflow, HasFailedAt}
-use Rattle.union_words.specs.ScriptLines.{ScriptLine, Load}
+use Rattle.union_words.specs.ScriptLines.{ScriptLine}
 use Rattle.union_words.specs.Statuses.{is_done, is_input_fault, end_by}
-use Rattle.union_words.specs.Words.{LibraryFile}
 use Rattle.union_words.specs.declared.input.Input.{Input}
 use Rattle.union_words.specs.declared.input.Input.TheVariants.{Library, Asks, Script}
 use Rattle.union_words.specs.declared.status.Status.{Status}

@@ -5,7 +5,7 @@ ghost use Rattle.library_batches.specs.Reading.{begun};
 ghost use Rattle.library_stream.specs.declared.frame_reader.TheConstants.{LARGEST_SOURCE};
 ghost use Rattle.union_words.specs.Meanings.{file_meaning};
 ghost use Rattle.union_words.specs.Words;
-ghost use Rattle.union_script.specs.Batches.{Applies, IsLoaded};
+ghost use Rattle.union_script.specs.Batches.{AreApplied, IsLoaded};
 ghost use Rattle.union_script.specs.Readings.{Reads, ReadsFile};
 
 use crate::stops::stopped_with;
@@ -71,7 +71,13 @@ fn load_source<L: Ledger, S: Source>(
     let counts = apply_batches(alloc, &mut reader, union, source)?;
     let mut text = Vec::new(alloc);
     let refused = reader.refused();
-    add_report(&mut text, library.bytes(), reader.frames(), refused, &counts)?;
+    add_report(
+        &mut text,
+        library.bytes(),
+        reader.frames(),
+        refused,
+        &counts,
+    )?;
     Ok(Report {
         text,
         refused: !refused.is_empty(),

@@ -14,11 +14,7 @@ use union_words::status::Status;
 pub const LARGEST_SCRIPT: usize = 1_048_576;
 
 /// Opens the file of a script, reads it whole and gives it back.
-pub fn read_script<F: Shelf>(
-    alloc: Global,
-    path: &Bytes,
-    shelf: &mut F,
-) -> Result<Vec<u8>, Status>
+pub fn read_script<F: Shelf>(alloc: Global, path: &Bytes, shelf: &mut F) -> Result<Vec<u8>, Status>
     ensures files { F.files shelf.new ≡ F.files shelf.old }
     ensures reads { ReadsFile result (record { input = Input.Script; path = path.now })
         (record { files = F.files shelf.old; before = F.faults shelf.old; after = F.faults shelf.new })

@@ -1,0 +1,156 @@
+-- The batches of a source, one after the other.
+use Rattle.std.proofs.Common.{◌≡◌, ℕ, suc, ◌+◌, ◌≤◌, false, true, List, [], ◌∷◌, ◌++◌, length, refl, sym, ap, subst, ◌∙◌, arith, append_assoc, append-nil}
+use Rattle.std.specs.Prelude.{◌<◌, Option, Some, None, IfSome, Ok, Err, take, fold, Bool, ◌&&◌, nat_le, IsTrue}
+use Rattle.std.specs.List.{list_all}
+use Rattle.std.proofs.lemmas.Bool.{ltb-false, ltb-true, leb-true, false≢true}
+use Rattle.std.proofs.lemmas.List.{take_all, map-append}
+use Rattle.std.proofs.lemmas.List.Sums.{fold-append}
+use Rattle.iso2709_frame.specs.Frames.{frames}
+use Rattle.library_stream.specs.Streaming.{is_too_long, passes}
+use Rattle.library_stream.specs.declared.course.Course.TheVariants.{Open}
+use Rattle.catalogue_core.specs.Histories.{MapOf, current, after_op, after_batch, outcomes}
+use Rattle.catalogue_core.specs.declared.batch.Batch.{Batch}
+use Rattle.catalogue_core.specs.declared.op.Op.{Op}
+use Rattle.catalogue_core.specs.Batches.{is_batch, is_own_op}
+use Rattle.catalogue_core.specs.declared.edition.Edition.{Edition}
+use Rattle.catalogue_core.specs.declared.history_entry.HistoryEntry.{HistoryEntry}
+use Rattle.library_batches.specs.Batches.{AreBatches}
+use Rattle.library_batches.specs.Outcomes.{found_in}
+use Rattle.library_batches.specs.Reading.{Batching, begun, ahead, Answers}
+use Rattle.library_batches.specs.Refused.{refused, refused_from}
+use Rattle.library_batches.specs.declared.stop.Stop.TheVariants.{TooLong}
+use Rattle.union_script.specs.Texts.{turns_of}
+
+-- these batches were handed out of a source that had those bytes: they stand before the ones that are still to come
+pub record HandedOut (library : List ℕ) (limit : ℕ) (bytes : List ℕ) (reader : Batching) (rest : List ℕ) (batches : List Batch) : Type 0 where
+  pub all : (later : List Batch) → AreBatches library (ahead reader rest) later → AreBatches library (frames (take limit bytes)) (batches ++ later)
+  pub frames_are : reader.frames + length (ahead reader rest) ≡ length (frames (take limit bytes))
+  pub refused_are : reader.refused ++ refused_from (reader.frames + 1) (ahead reader rest) ≡ refused (frames (take limit bytes))
+  pub long : is_too_long reader.stream rest ≡ passes (Open limit) bytes
+
+-- the same where the source may not tell its bytes
+abbrev pub Hands : List ℕ → ℕ → Option (List ℕ) → Batching → Option (List ℕ) → List Batch → Type 0
+Hands library limit None reader left batches = Unit {0}
+Hands library limit (Some bytes) reader None batches = ⊥
+Hands library limit (Some bytes) reader (Some rest) batches = HandedOut library limit bytes reader rest batches
+
+-- nothing was handed out at first
+pub hands_none : (library : List ℕ) (limit : ℕ) (told : Option (List ℕ)) → Hands library limit told (begun library limit) told []
+hands_none library limit None = tt
+hands_none library limit (Some bytes) = record {
+  all = λ later are. are;
+  frames_are = omega arith;
+  refused_are = refl;
+  long = refl;
+}
+
+-- one batch more
+pub hands_more : (library : List ℕ) (limit : ℕ) (told now then : Option (List ℕ)) (a b : Batching) (batches : List Batch) (batch : Batch)
+    → a.library ≡ library → Hands library limit told a now batches → Answers (Ok (Some batch)) a now b then
+    → Hands library limit told b then (batches ++ batch ∷ [])
+hands_more library limit None now then a b batches batch own hands answers = tt
+hands_more library limit (Some bytes) None then a b batches batch own hands answers = absurd hands
+hands_more library limit (Some bytes) (Some rest) None a b batches batch own hands answers = absurd answers
+hands_more library limit (Some bytes) (Some rest) (Some more) a b batches batch own hands answers =
+    let takes = answers.0 in
+    record {
+      all = λ later are.
+          subst (λ all. AreBatches library (frames (take limit bytes)) all) (sym (append_assoc batches (batch ∷ []) later))
+          (hands.all (batch ∷ later) (subst (λ code. AreBatches code (ahead a rest) (batch ∷ later)) own
+          (takes.all later (subst (λ code. AreBatches code (ahead b more) later) (sym own) are))));
+      frames_are = takes.keeps.frames ∙ hands.frames_are;
+      refused_are = takes.keeps.refused ∙ hands.refused_are;
+      long = answers.1 ∙ hands.long;
+    }
+
+-- the source passes the limit
+pub hands_long : (library : List ℕ) (limit : ℕ) (told now then : Option (List ℕ)) (a b : Batching) (batches : List Batch)
+    → Hands library limit told a now batches → Answers (Err TooLong) a now b then → IfSome told (λ bytes. limit < length bytes)
+hands_long library limit None now then a b batches hands answers = tt
+hands_long library limit (Some bytes) None then a b batches hands answers = absurd hands
+hands_long library limit (Some bytes) (Some rest) None a b batches hands answers = absurd answers
+hands_long library limit (Some bytes) (Some rest) (Some more) a b batches hands answers =
+    ltb-true limit (length bytes) (sym hands.long ∙ answers)
+
+-- behind the last batch the frames were counted, and all batches were handed out
+pub record AllHandedOut (library : List ℕ) (limit : ℕ) (bytes : List ℕ) (reader : Batching) (batches : List Batch) : Type 0 where
+  pub fits : length bytes ≤ limit
+  pub all : AreBatches library (frames bytes) batches
+  pub frames_are : reader.frames ≡ length (frames bytes)
+  pub refused_are : reader.refused ≡ refused (frames bytes)
+
+pub hands_all : (library : List ℕ) (limit : ℕ) (told now then : Option (List ℕ)) (a b : Batching) (batches : List Batch)
+    → a.library ≡ library → Hands library limit told a now batches → Answers (Ok None) a now b then
+    → IfSome told (λ bytes. AllHandedOut library limit bytes b batches)
+hands_all library limit None now then a b batches own hands answers = tt
+hands_all library limit (Some bytes) None then a b batches own hands answers = absurd hands
+hands_all library limit (Some bytes) (Some rest) None a b batches own hands answers = absurd answers
+hands_all library limit (Some bytes) (Some rest) (Some more) a b batches own hands answers =
+    let fits : length bytes ≤ limit = ltb-false limit (length bytes) (sym hands.long ∙ answers.2) in
+    let whole : take limit bytes ≡ bytes = take_all limit bytes fits in
+    let none : AreBatches library (ahead a rest) [] = subst (λ code. AreBatches code (ahead a rest) []) own answers.0 in
+    let all : AreBatches library (frames (take limit bytes)) batches = subst (λ all. AreBatches library (frames (take limit bytes)) all) (append-nil batches) (hands.all [] none) in
+    record {
+      fits = fits;
+      all = subst (λ xs. AreBatches library (frames xs) batches) whole all;
+      frames_are = omega (arith, answers.1.frames, hands.frames_are, ap (λ xs. length (frames xs)) whole);
+      refused_are = sym (append-nil b.refused) ∙ answers.1.refused ∙ hands.refused_are ∙ ap (λ xs. refused (frames xs)) whole;
+    }
+
+-- the current records after turns
+current_turns : (all : MapOf Edition) (batches : List Batch)
+    → fold (λ all (entry : HistoryEntry). after_batch all entry.batch) all (turns_of batches) ≡ fold after_batch all batches
+current_turns all [] = refl
+current_turns all (batch ∷ batches) = current_turns (after_batch all batch) batches
+
+current_behind : (history : List HistoryEntry) (batches : List Batch) → current (history ++ turns_of batches) ≡ fold after_batch (current history) batches
+current_behind history batches =
+    fold-append (λ all (entry : HistoryEntry). after_batch all entry.batch) [] history (turns_of batches) ∙ current_turns (current history) batches
+
+found_more : (all : MapOf Edition) (batches : List Batch) (batch : Batch)
+    → found_in all (batches ++ batch ∷ []) ≡ found_in all batches ++ outcomes batch.library (fold after_batch all batches) batch.ops
+found_more all [] batch = append-nil (outcomes batch.library all batch.ops)
+found_more all (first ∷ batches) batch =
+    ap (λ found. outcomes first.library all first.ops ++ found) (found_more (after_batch all first) batches batch)
+    ∙ sym (append_assoc (outcomes first.library all first.ops) (found_in (after_batch all first) batches) _)
+
+-- what is found when one batch more is applied
+pub found_behind : (history : List HistoryEntry) (batches : List Batch) (batch : Batch)
+    → found_in (current history) (batches ++ batch ∷ []) ≡ found_in (current history) batches ++ outcomes batch.library (current (history ++ turns_of batches)) batch.ops
+found_behind history batches batch =
+    found_more (current history) batches batch
+    ∙ ap (λ all. found_in (current history) batches ++ outcomes batch.library all batch.ops) (sym (current_behind history batches))
+
+-- the turns of one batch more
+pub turns_more : (history : List HistoryEntry) (batches : List Batch) (batch : Batch)
+    → (history ++ turns_of batches) ++ record { pass = 0; batch = batch } ∷ [] ≡ history ++ turns_of (batches ++ batch ∷ [])
+turns_more history batches batch =
+    append_assoc history (turns_of batches) _ ∙ ap (λ turns. history ++ turns) (sym (map-append (λ (b : Batch). record { pass = 0; batch = b }) batches (batch ∷ [])))
+
+-- what comes of operations has one outcome each
+length_outcomes : (library : List ℕ) (all : MapOf Edition) (ops : List Op) → length (outcomes library all ops) ≡ length ops
+length_outcomes library all [] = refl
+length_outcomes library all (op ∷ ops) = ap suc (length_outcomes library (after_op library all op) ops)
+
+and_left : (a b : Bool) → (a && b) ≡ true → a ≡ true
+and_left true b both = refl
+and_left false b both = both
+
+and_right : (a b : Bool) → (a && b) ≡ true → b ≡ true
+and_right true b both = both
+and_right false b both = absurd (false≢true both)
+
+-- a batch has so few operations
+few_ops : (library : List ℕ) (ops : List Op) → IsTrue (is_batch library ops) → length ops ≤ 256
+few_ops library ops fits =
+    leb-true (length ops) 256 (and_right (nat_le 1 (length ops)) (nat_le (length ops) 256) (and_left _ (list_all (is_own_op library) ops) fits))
+
+pub few_outcomes : (batch : Batch) (all : MapOf Edition) → length (outcomes batch.library all batch.ops) ≤ 256
+few_outcomes batch all = subst (λ n. n ≤ 256) (sym (length_outcomes batch.library all batch.ops)) (few_ops batch.library batch.ops batch.fits)
+
+-- behind an answer that is no batch
+pub hands_rest : (next : Option Batch) (library : List ℕ) (limit : ℕ) (told now then : Option (List ℕ)) (a b : Batching) (batches : List Batch)
+    → ((batch : Batch) → next ≡ Some batch → ⊥) → a.library ≡ library → Hands library limit told a now batches → Answers (Ok next) a now b then
+    → IfSome told (λ bytes. AllHandedOut library limit bytes b batches)
+hands_rest None library limit told now then a b batches not own hands answers = hands_all library limit told now then a b batches own hands answers
+hands_rest (Some batch) library limit told now then a b batches not own hands answers = absurd (not batch refl)

@@ -1,0 +1,49 @@
+use Rattle.std.proofs.Common.{◌∷◌, [], true, false, refl, subst}
+use Rattle.union_words.specs.ScriptLines.{Export, Works, Ask, Word}
+use Rattle.union_script.specs.Lines.{LinesRun}
+use Rattle.union_script.specs.Texts.{refused_word, refused_unknown}
+use Rattle.union_script.proofs.LineLaws.{says_line}
+use Rattle.union_script.proofs.FileLaws.{flow}
+use Rattle.union_script.proofs.StopLaws.{outflow}
+use Rattle.union_script.proofs.TextLaws.{on_all}
+use Rattle.union_script.proofs.line.run_line.Goals as goal
+
+pub returns-in-Export-clause-run : goal.returns-in-Export-clause-run
+returns-in-Export-clause-run g c =
+    let files = g.F.Shelf.files c.args.shelf.now in
+    let faults = g.F.Shelf.faults c.args.shelf.now in
+    let history = c.args.union.now.catalogue in
+    let out = outflow (g.O.Sink.written c.args.out.now) (g.O.Sink.written c.run_export.new.out) (g.O.Sink.faults c.args.out.now) (g.O.Sink.faults c.run_export.new.out) in
+    subst (λ line. LinesRun c.run_export.result (line ∷ []) history history (flow files faults faults) out) c.in-Export.ensures
+    (says_line c.run_export.result Export history history c.run_export.ensures.0 false files faults faults out (λ name. refl)
+    (on_all files (λ contents. record { within = refl; writes = (c.run_export.ensures.1, refl); refused = refl })) c.run_export.ensures.2)
+
+pub returns-in-Works-clause-run : goal.returns-in-Works-clause-run
+returns-in-Works-clause-run g c =
+    let files = g.F.Shelf.files c.args.shelf.now in
+    let faults = g.F.Shelf.faults c.args.shelf.now in
+    let history = c.args.union.now.catalogue in
+    let out = outflow (g.O.Sink.written c.args.out.now) (g.O.Sink.written c.say.new.out) (g.O.Sink.faults c.args.out.now) (g.O.Sink.faults c.say.new.out) in
+    subst (λ line. LinesRun c.say.result (line ∷ []) history history (flow files faults faults) out) c.in-Works.ensures
+    (says_line c.say.result Works history history refused_unknown true files faults faults out (λ name. refl)
+    (on_all files (λ contents. record { within = refl; writes = (refl, refl); refused = refl })) c.say.ensures)
+
+pub returns-in-Ask-clause-run : goal.returns-in-Ask-clause-run
+returns-in-Ask-clause-run g c =
+    let files = g.F.Shelf.files c.args.shelf.now in
+    let faults = g.F.Shelf.faults c.args.shelf.now in
+    let history = c.args.union.now.catalogue in
+    let out = outflow (g.O.Sink.written c.args.out.now) (g.O.Sink.written c.say-in-Ask.new.out) (g.O.Sink.faults c.args.out.now) (g.O.Sink.faults c.say-in-Ask.new.out) in
+    subst (λ line. LinesRun c.say-in-Ask.result (line ∷ []) history history (flow files faults faults) out) c.in-Ask.ensures
+    (says_line c.say-in-Ask.result (Ask _) history history refused_unknown true files faults faults out (λ name. refl)
+    (on_all files (λ contents. record { within = refl; writes = (refl, refl); refused = refl })) c.say-in-Ask.ensures)
+
+pub returns-in-Word-clause-run : goal.returns-in-Word-clause-run
+returns-in-Word-clause-run g c =
+    let files = g.F.Shelf.files c.args.shelf.now in
+    let faults = g.F.Shelf.faults c.args.shelf.now in
+    let history = c.args.union.now.catalogue in
+    let out = outflow (g.O.Sink.written c.args.out.now) (g.O.Sink.written c.say-in-Word.new.out) (g.O.Sink.faults c.args.out.now) (g.O.Sink.faults c.say-in-Word.new.out) in
+    subst (λ line. LinesRun c.say-in-Word.result (line ∷ []) history history (flow files faults faults) out) c.in-Word.ensures
+    (says_line c.say-in-Word.result Word history history refused_word true files faults faults out (λ name. refl)
+    (on_all files (λ contents. record { within = refl; writes = (refl, refl); refused = refl })) c.say-in-Word.ensures)
