@@ -1,9 +1,8 @@
 -- What the editions become where records come and none goes.
-use Rattle.std.proofs.Common.{◌≡◌, ℕ, Bool, true, false, cond, IsTrue, ◌+◌, ◌<◌, List, [], ◌∷◌, ◌++◌, length, get_or, take, Contains, refl, sym, ap, subst, ◌∙◌, inl, inr, arith}
-use Rattle.std.specs.Prelude.{◌⊎◌, filter_map, fold, Option, Some, None, is_some, Result, Ok, Err, IfOk}
+use Rattle.std.proofs.Common.{◌≡◌, ℕ, Bool, true, false, cond, ◌+◌, ◌<◌, List, [], ◌∷◌, ◌++◌, length, get_or, take, Contains, refl, sym, ap, subst, ◌∙◌, inl, inr, arith}
+use Rattle.std.specs.Prelude.{◌⊎◌, filter_map, fold, Option, Some, is_some, Result, Ok, Err, IfOk}
 use Rattle.std.specs.List.{list_all, cons_option}
 use Rattle.std.specs.List.Sorted.{IsPermutation, IsSorted}
-use Rattle.std.specs.declared.cmp.Ordering.{Ordering}
 use Rattle.std.specs.declared.cmp.Ordering.TheVariants.{Less, Equal, Greater}
 use Rattle.std.specs.Ordering.{match_ordering, is_eq}
 use Rattle.std.specs.BTreeMap.{is_at, insert_entry}
@@ -45,12 +44,12 @@ grown-insert [] id e new = record {
 }
 grown-insert (p ∷ all) id e new =
     elim (id_cmp id p.0) as (λ r. is_some (cond (is_eq r) (Some p.1) (lookup (is_at (id_cmp id)) all)) ≡ false
-        → IsGrown (p.1 ∷ values_of all) (e ∷ []) (values_of (match_ordering r ((id, e) ∷ p ∷ all) ((p.0, e) ∷ all) (p ∷ insert_entry id_cmp all id e)))) [
+    → IsGrown (p.1 ∷ values_of all) (e ∷ []) (values_of (match_ordering r ((id, e) ∷ p ∷ all) ((p.0, e) ∷ all) (p ∷ insert_entry id_cmp all id e)))) [
       | Less ↦ λ h. record {
-          stays = λ x c. Contains-tail e (p.1 ∷ values_of all) x c;
-          comes = λ x c. Contains-append_left (e ∷ []) (p.1 ∷ values_of all) x c;
-          only = λ x c. elim (Contains-append_cases (e ∷ []) (p.1 ∷ values_of all) x c) [ inl mine ↦ inr mine | inr old ↦ inl old ];
-        }
+        stays = λ x c. Contains-tail e (p.1 ∷ values_of all) x c;
+        comes = λ x c. Contains-append_left (e ∷ []) (p.1 ∷ values_of all) x c;
+        only = λ x c. elim (Contains-append_cases (e ∷ []) (p.1 ∷ values_of all) x c) [ inl mine ↦ inr mine | inr old ↦ inl old ];
+      }
       | Equal ↦ λ h. absurd (let clash : true ≡ false = h in cc)
       | Greater ↦ λ h. (let rest = grown-insert all id e h in
           let more = values_of (insert_entry id_cmp all id e) in

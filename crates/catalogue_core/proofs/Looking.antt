@@ -26,6 +26,8 @@ use Rattle.merge_laws.proofs.Resolutions.{IsResolution-from_apart}
 use Rattle.merge_laws.proofs.Tags.{tag-from_dominated, member-from_tag}
 use Rattle.field_merge.specs.Kept.{id_cmp}
 use Rattle.field_merge.specs.KeptLaws.{id_total}
+use Rattle.work_clusters.specs.Works.{works_of}
+use Rattle.catalogue_core.specs.EditionKeys.{work_pairs}
 use Rattle.catalogue_core.specs.Batches.{is_one_of, is_own_op}
 use Rattle.catalogue_core.specs.Ids.{first_id, least, edition_cmp}
 use Rattle.catalogue_core.specs.Joining.{join}
@@ -224,26 +226,29 @@ holder-current history editions r id =
 
 -- ---- what a catalogue keeps
 
-pub kept-empty : IsKept [] [] []
+pub kept-empty : IsKept [] [] [] []
 kept-empty = record {
   current = record { loads = refl };
   resolved = record {
     resolved = IsResolution-from_apart edition_join_laws edition_match_laws [] [] (λ e (k, kl, h). absurd (omega arith)) (λ x (k, kl, h). absurd (omega arith)) (AllPairs-none (λ x y. (IsTrue (match x y) → ⊥) × (IsTrue (match y x) → ⊥)));
     ascending = refl;
   };
+  clustered = refl;
 }
 
-pub kept-turn : (history : List HistoryEntry) (number : ℕ) (batch : Batch) (places : MapOf Place) (editions : List Edition)
+pub kept-turn : (history : List HistoryEntry) (number : ℕ) (batch : Batch) (places : MapOf Place) (editions : List Edition) (works : List (List ℕ × List RecordId))
     → StandFor (batches history ++ batch ∷ []) places (after_batch (current history) batch)
     → IsOrderedResolution (values_of (after_batch (current history) batch)) editions
-    → IsKept (history ++ record { pass = number; batch = batch } ∷ []) places editions
-kept-turn history number batch places editions s r =
+    → works ≡ works_of (work_pairs editions)
+    → IsKept (history ++ record { pass = number; batch = batch } ∷ []) places editions works
+kept-turn history number batch places editions works s r w =
     let turn : HistoryEntry = record { pass = number; batch = batch } in
     let now : current (history ++ turn ∷ []) ≡ after_batch (current history) batch = fold-append (λ all (entry : HistoryEntry). after_batch all entry.batch) [] history (turn ∷ []) in
     let all : batches (history ++ turn ∷ []) ≡ batches history ++ batch ∷ [] = map-append (λ (t : HistoryEntry). t.batch) history (turn ∷ []) in
     record {
       current = record { loads = ap (λ bs. map_values (loaded_at bs) places) all ∙ s.loads ∙ ap (map_values Some) (sym now) };
       resolved = subst (λ list. IsOrderedResolution list editions) (ap values_of (sym now)) r;
+      clustered = w;
     }
 
 -- the base under an id

@@ -185,7 +185,7 @@ length-batches (turn ∷ history) = ap (λ n. suc n) (length-batches history)
 pub turn-placed : (history : List HistoryEntry) (batch : Batch) (places next after : MapOf Place) (found : List Outcome)
     → StandFor (batches history) places (current history) → next ≡ places
     → ((before : List Batch) (all : MapOf Edition) → length before ≡ length history → StandFor (before ++ batch ∷ []) next all
-        → StandFor (before ++ batch ∷ []) after (after_batch all batch) × (found ≡ outcomes batch.library all batch.ops))
+    → StandFor (before ++ batch ∷ []) after (after_batch all batch) × (found ≡ outcomes batch.library all batch.ops))
     → StandFor (batches history ++ batch ∷ []) after (after_batch (current history) batch) × (found ≡ outcomes batch.library (current history) batch.ops)
 turn-placed history batch places next after found s same turns =
     turns (batches history) (current history) (length-batches history) (stand-grown (batches history) (batch ∷ []) places next (current history) same s)

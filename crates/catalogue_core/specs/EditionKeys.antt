@@ -1,7 +1,8 @@
 -- The work key of an edition.
-use Rattle.std.specs.Prelude.{ℕ, Bool, ◌||◌, List, Option, codes, filter}
+use Rattle.std.specs.Prelude.{ℕ, Bool, ◌||◌, List, Option, codes, filter, map}
 use Rattle.std.specs.Option.{option_map}
 use Rattle.union_base.specs.declared.field.Field.{Field}
+use Rattle.union_base.specs.declared.record_id.RecordId.{RecordId}
 use Rattle.marc_parts.specs.Parts.{has_tag}
 use Rattle.field_merge.specs.declared.slot.Slot.{Slot}
 use Rattle.workset_keys.specs.WorkKeys.{work_key}
@@ -20,3 +21,7 @@ field_in slot = option_map (λ s. s.field) slot
 abbrev pub work_key_of : Edition → List ℕ
 work_key_of e =
     work_key (field_in e.content.f1xx) (field_in e.content.f240) e.content.f245.field (filter is_added_entry e.content.united) (least e)
+
+-- the work keys of editions, each with the id by which its edition is named
+abbrev pub work_pairs : List Edition → List (List ℕ × RecordId)
+work_pairs editions = map (λ e. (work_key_of e, least e)) editions

@@ -2,10 +2,12 @@
 //!
 //! A catalogue is its history: the batches that were applied, in order. Everything else that it answers is a function of that
 //! list (`specs/Histories.antt`): which records are current, and the editions that they come to, which are at every moment the
-//! resolution, from scratch, of the current records.
+//! resolution, from scratch, of the current records; and the works of those editions.
 ghost use Rattle.std.specs.Prelude.{◌≡◌, ◌<◌, ◌^◌, ◌++◌, ◌∷◌, [], List, length, not, is_none, IfOk, OnOk, OnErr, Some, slice_get};
 ghost use Rattle.std.specs.Option.{option_copied};
 ghost use Rattle.catalogue_core.specs.declared.edition.Edition.{Edition as EditionModel};
+ghost use Rattle.work_clusters.specs.Works.{works_of};
+ghost use Rattle.catalogue_core.specs.EditionKeys.{work_pairs};
 ghost use Rattle.catalogue_core.specs.Histories.{current, bases, at_id, is_current, outcomes, AreEditionsOf};
 ghost use Rattle.catalogue_core.specs.Walks.{first_of, first_behind, holder_of};
 
@@ -24,6 +26,7 @@ use std::marker::Model;
 use std::sync::ledger::Ledger;
 use union_base::memory::Memory;
 use union_base::record_id::RecordId;
+use work_clusters::works::Works;
 
 /// The union catalogue of some libraries. Contracts see it as its history.
 #[derive(Drop)]
@@ -31,6 +34,7 @@ pub struct Catalogue {
     history: Vec<HistoryEntry>,
     places: BTreeMap<RecordId, Place>,
     editions: Vec<Edition>,
+    works: Works,
 }
 
 impl Model for Catalogue {
@@ -43,7 +47,7 @@ impl Model for Catalogue {
 
     ghost view = { λ c. c.history.items };
 
-    ghost invariant = { λ c. IsKept c.history.items c.places.entries c.editions.items };
+    ghost invariant = { λ c. IsKept c.history.items c.places.entries c.editions.items c.works.works };
 }
 
 impl Catalogue {
@@ -55,6 +59,7 @@ impl Catalogue {
             history: Vec::new(alloc),
             places: BTreeMap::new(alloc),
             editions: Vec::new(alloc),
+            works: Works::empty(alloc),
         })
     }
 
@@ -72,13 +77,21 @@ impl Catalogue {
         ensures outcomes { IfOk result (λ found. found.items ≡ outcomes batch.library (current self.old) batch.ops) }
         ensures kept { OnErr result (self.new ≡ self.old) }
     {
-        let turn = planned(alloc, &self.history, &self.places, &self.editions, &batch, steps)?;
+        let turn = planned(
+            alloc,
+            &self.history,
+            &self.places,
+            &self.editions,
+            &batch,
+            steps,
+        )?;
         self.history.push(HistoryEntry {
             pass: number,
             batch,
         })?;
         self.places = turn.places;
         self.editions = turn.editions;
+        self.works = turn.works;
         Ok(turn.outcomes)
     }
 
@@ -123,6 +136,13 @@ impl Catalogue {
         ensures { result ≡ length (bases self.now) }
     {
         self.places.len() as u64
+    }
+
+    /// The works of the editions: under each work key, by their least contributors, the editions that have it. Takes no memory.
+    pub fn works(&self) -> &Works
+        ensures { (all : List EditionModel) × AreEditionsOf self.now all × (result.now.works ≡ works_of (work_pairs all)) }
+    {
+        &self.works
     }
 
     /// How many turns the history has. Takes no memory.

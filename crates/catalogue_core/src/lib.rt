@@ -9,6 +9,9 @@
 
 pub mod batch;
 pub mod catalogue;
+#[cfg(test)]
+mod catalogue_tests;
+mod clustering;
 pub mod edition;
 pub mod history_entry;
 pub mod ids;

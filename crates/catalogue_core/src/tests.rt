@@ -26,13 +26,13 @@ use union_base::memory::Memory;
 
 /// Two records with one ISBN, of two titles and years, and one without it, which has the title of the first and the year of
 /// the second.
-const RED: &[u8] =
+pub const RED: &[u8] =
     b"00173nam a2200085 a 4500001000300000008004100003020001500044100001400059245001400073\x1Ea1\x1E240101s1990    xx                  eng d\x1E  \x1Fa0306406152\x1E1 \x1FaHill, Ann\x1E00\x1FaRed ships\x1E\x1D";
 
-const BLUE: &[u8] =
+pub const BLUE: &[u8] =
     b"00181nam a2200085 a 4500001000300000008004100003020002200044100001400066245001500080\x1Eb1\x1E240101s1991    xx                  eng d\x1E  \x1Fa978-0-306-40615-7\x1E1 \x1FaHill, Ann\x1E00\x1FaBlue ships\x1E\x1D";
 
-const BRIDGE: &[u8] =
+pub const BRIDGE: &[u8] =
     b"00146nam a2200073 a 4500001000300000008004100003100001400044245001400058\x1Ec1\x1E240101s1991    xx                  eng d\x1E1 \x1FaHill, Ann\x1E00\x1FaRed ships\x1E\x1D";
 
 /// Records without names, with one ISBN in its two forms; the last is of another type.
@@ -53,11 +53,11 @@ const LATER: &[u8] =
     b"00195nam a22000977a 4500001000300000005001700003008004100020020001500061240000900076245001200085\x1Ey1\x1E20240101000000.0\x1E240101s2001    xx                  eng d\x1E  \x1Fa0306406152\x1E10\x1FaCats\x1E04\x1FaThe cat\x1E\x1D";
 
 /// A record with blanks around its number, and added entries.
-const ADDED: &[u8] =
+pub const ADDED: &[u8] =
     b"00187nam a2200097 a 4500001000600000008004100006245000800047700001300055710000900068711001200077\x1E  id \x1E240101s1999    xx                  eng d\x1E00\x1FaCat\x1E1 \x1FaZed, Zoe\x1E2 \x1FaAcme\x1E2 \x1FaMeeting\x1E\x1D";
 
 /// The edition of the library's record that the frame spells.
-fn edition_in(alloc: Global, library: &str, frame: &[u8]) -> Result<Edition, Fail> {
+pub fn edition_in(alloc: Global, library: &str, frame: &[u8]) -> Result<Edition, Fail> {
     let code = LibraryCode::read(library.as_bytes()).ok_or("a library code")?;
     if is_frame(frame) {
         if let Ok(rec) = check_frame(alloc, Cut::Whole, frame) {
@@ -93,7 +93,7 @@ fn resolved_by<L: Ledger>(editions: Vec<Edition>, blank: Blank) -> Result<Vec<Ed
 }
 
 /// What the library's records resolve to, in order.
-fn resolved(alloc: Global, library: &str, frames: &[&[u8]]) -> Result<Vec<Edition>, Fail> {
+pub fn resolved(alloc: Global, library: &str, frames: &[&[u8]]) -> Result<Vec<Edition>, Fail> {
     let mut editions = Vec::new(alloc);
     for frame in frames {
         editions.push(edition_in(alloc, library, frame)?)?;
@@ -102,7 +102,7 @@ fn resolved(alloc: Global, library: &str, frames: &[&[u8]]) -> Result<Vec<Editio
 }
 
 /// Whether the edition's least contributor is that record of the library LIBA.
-fn is_named(edition: &Edition, control: &[u8]) -> bool {
+pub fn is_named(edition: &Edition, control: &[u8]) -> bool {
     let id = edition.least();
     id.library.bytes() == b"LIBA".as_slice() && id.control.bytes() == control
 }

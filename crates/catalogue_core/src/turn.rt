@@ -5,11 +5,14 @@
 ghost use Rattle.std.specs.Prelude.{◌≡◌, ◌++◌, ◌∷◌, [], IfOk, filter_map};
 ghost use Rattle.std.specs.List.{list_all};
 ghost use Rattle.std.specs.Map.{values_of};
+ghost use Rattle.work_clusters.specs.Works.{works_of};
+ghost use Rattle.catalogue_core.specs.EditionKeys.{work_pairs};
 ghost use Rattle.catalogue_core.specs.Histories.{after_batch, outcomes, current, AreEditionsOf};
 ghost use Rattle.catalogue_core.specs.Keeping.{batches, loaded, takes_none, StandFor};
 ghost use Rattle.catalogue_core.specs.Resolutions.{IsOrderedResolution};
 
 use crate::batch::Batch;
+use crate::clustering::clustered;
 use crate::edition::Edition;
 use crate::history_entry::HistoryEntry;
 use crate::keeping::{copied_places, editions_at, loaded, place_ops};
@@ -25,12 +28,14 @@ use std::collections::BTreeMap;
 use std::sync::ledger::Ledger;
 use union_base::memory::Memory;
 use union_base::record_id::RecordId;
+use work_clusters::works::Works;
 
-/// What a turn makes of a catalogue: the places and the editions after it, and what came of its operations.
+/// What a turn makes of a catalogue: the places, the editions and the works after it, and what came of its operations.
 #[derive(Drop)]
 pub struct Turn {
     pub places: BTreeMap<RecordId, Place>,
     pub editions: Vec<Edition>,
+    pub works: Works,
     pub outcomes: Vec<Outcome>,
 }
 
@@ -38,9 +43,7 @@ pub struct Turn {
 fn take_none(outcomes: &[Outcome]) -> bool
     ensures { result ≡ list_all takes_none outcomes.now }
 {
-    outcomes
-        .iter()
-        .all(|outcome| matches!(outcome, Outcome::Added | Outcome::Absent))
+    outcomes.iter().all(|outcome| matches!(outcome, Outcome::Added | Outcome::Absent))
 }
 
 /// Copies of the editions. Memory where it runs out.
@@ -110,15 +113,18 @@ pub fn planned<L: Ledger>(
         (after_batch (current history.now) batch.now)) }
     ensures editions { IfOk result (λ turn. IsOrderedResolution
         (values_of (after_batch (current history.now) batch.now)) turn.editions.items) }
+    ensures works { IfOk result (λ turn. turn.works.works ≡ works_of (work_pairs turn.editions.items)) }
     ensures outcomes { IfOk result (λ turn. turn.outcomes.items
         ≡ outcomes batch.now.library (current history.now) batch.now.ops) }
 {
     let mut next = copied_places(alloc, places)?;
     let outcomes = place_ops(alloc, &mut next, history.len(), batch)?;
     let editions = next_editions(alloc, history, editions, batch, &next, &outcomes, steps)?;
+    let works = clustered(alloc, &editions)?;
     Ok(Turn {
         places: next,
         editions,
+        works,
         outcomes,
     })
 }

@@ -1,12 +1,13 @@
 -- The history of a catalogue as the entries of a desk.
 use Rattle.std.specs.Prelude.{◌≡◌, ℕ, List, map}
-use Rattle.catalogue_core.specs.Histories.{current, outcomes}
+use Rattle.catalogue_core.specs.Histories.{current, outcomes, AreEditionsOf}
 use Rattle.catalogue_core.specs.declared.batch.Batch.{Batch}
 use Rattle.catalogue_core.specs.declared.history_entry.HistoryEntry.{HistoryEntry}
 use Rattle.catalogue_core.specs.declared.outcome.Outcome.{Outcome}
-use Rattle.load_sessions.specs.Questions.{IsAnswer}
-use Rattle.load_sessions.specs.declared.questions.Query.{Query}
-use Rattle.load_sessions.specs.declared.questions.Answer.{Answer}
+use Rattle.catalogue_core.specs.declared.edition.Edition.{Edition}
+use Rattle.catalogue_query.specs.Answers.{answer_lines}
+use Rattle.catalogue_query.specs.declared.answer.Answer.{Answer}
+use Rattle.catalogue_query.specs.declared.query.Query.{Query}
 
 -- the entries of a history
 abbrev pub entries_of : List HistoryEntry → List (ℕ × Batch)
@@ -22,4 +23,5 @@ gives entries batch found = found ≡ outcomes batch.library (current (history_o
 
 -- what is answered behind these entries
 abbrev pub tells : List (ℕ × Batch) → Query → Answer → Type 0
-tells entries query told = IsAnswer (history_of entries) query told
+tells entries query told = (all : List Edition) × AreEditionsOf (history_of entries) all
+    × (told.lines ≡ answer_lines query (current (history_of entries)) all)

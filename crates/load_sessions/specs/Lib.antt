@@ -1,4 +1,5 @@
-pub mod Questions
 pub mod Entries
 pub mod Tallies
 pub mod Sessions
+pub mod Turning
+pub mod Askers

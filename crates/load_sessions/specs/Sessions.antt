@@ -1,5 +1,5 @@
 -- What is asked of a session, and what it did.
-use Rattle.std.specs.Prelude.{◌≡◌, ◌≢◌, ℕ, ◌<◌, ◌≤◌, List, [], length, take, Option, Some, IfSome}
+use Rattle.std.specs.Prelude.{◌≡◌, ◌≢◌, ℕ, ◌<◌, ◌≤◌, List, [], length, take, Option, Some, IfSome, slice_index_or}
 use Rattle.iso2709_frame.specs.Frames.{frames}
 use Rattle.library_stream.specs.declared.frame_reader.TheConstants.{LARGEST_SOURCE}
 use Rattle.union_io.specs.Causes.{Rose}
@@ -71,3 +71,9 @@ module _ {S : Type 0} where
       pub long : now.end ≡ TooLong → IfSome (left before.source) (λ bytes. before.limit < length bytes)
       pub fault : now.end ≡ ReadFault → Rose (faults before.source) (faults now.source)
       pub calm : now.end ≢ ReadFault → faults now.source ≡ faults before.source
+
+    -- what the run of some sessions did, each of its own
+    pub record RunsEach (desk : TableId) (before now : List (Session S)) : Type 0 where
+      pub long : length now ≡ length before
+      pub each : (place : ℕ) (other : Session S) → place < length before
+          → Runs desk (slice_index_or before place other) (slice_index_or now place other)

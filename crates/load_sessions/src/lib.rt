@@ -10,9 +10,11 @@
 //! Cost: a turn for each batch, and of memory the reader of one source for each session that is under way.
 #![tactic(auto)]
 
-mod answering;
+pub mod asker;
+mod asking;
 pub mod end;
-pub mod questions;
 pub mod report;
 pub mod served;
 pub mod session;
+pub mod running;
+mod turning;

@@ -5,12 +5,13 @@ ghost use Rattle.std.proofs.lemmas.List.{length-map};
 ghost use Rattle.catalogue_core.specs.Histories.{current, outcomes};
 ghost use Rattle.load_sessions.specs.Entries.{entries_of, gives, tells};
 
-use crate::answering::answer;
-use crate::questions::{Answer, Query};
 use catalogue_core::batch::Batch;
 use catalogue_core::catalogue::Catalogue;
 use catalogue_core::outcome::Outcome;
 use catalogue_lock::machine::Machine;
+use catalogue_query::answer::Answer;
+use catalogue_query::answering::answer;
+use catalogue_query::query::Query;
 use merge_laws::steps::Steps;
 use std::alloc::Global;
 use std::marker::Brand;

@@ -13,12 +13,13 @@ use Rattle.union_words.specs.Words.{LibraryFile}
 use Rattle.union_words.specs.declared.input.Input.{Input}
 use Rattle.union_words.specs.declared.input.Input.TheVariants.{Library}
 use Rattle.union_words.specs.declared.status.Status.{Status}
-use Rattle.union_words.specs.declared.status.Status.TheVariants.{Done, DoneWithRefusals, Usage, OpenFault, ReadFault, WriteFault, TooLong, Memory, NotBuilt}
-use Rattle.union_program.specs.Inputs.{ShelfFlow, FailsAt, IsTooLongAt, StopsAt, StopsOpening}
+use Rattle.union_words.specs.declared.status.Status.TheVariants.{Done, DoneWithRefusals, Usage, OpenFault, ReadFault, WriteFault, TooLong, Memory}
+use Rattle.union_words.specs.Flows.{ShelfFlow, FailsAt}
+use Rattle.union_program.specs.Inputs.{input_of, inputs_of, IsTooLongAt, StopsAt, StopsOpening}
 use Rattle.union_program.specs.Readings.{IsStop}
 use Rattle.union_program.specs.Stops.{stopped_with}
-use Rattle.union_program.specs.declared.stop.Stop.{Stop}
-use Rattle.union_program.specs.declared.stop.Stop.TheVariants.{NotOpened as StopNotOpened, TooLong as StopTooLong, Failed as StopFailed, Memory as StopMemory}
+use Rattle.library_batches.specs.declared.stop.Stop.{Stop}
+use Rattle.library_batches.specs.declared.stop.Stop.TheVariants.{TooLong as StopTooLong, Failed as StopFailed, Memory as StopMemory}
 
 -- the counts of a shelf
 abbrev Counts : Type 0
@@ -33,8 +34,8 @@ flow files before after = record { files = files; before = before; after = after
 same_more : (a b c : Counts) → SameCounts a b → SameCounts b c → SameCounts a c
 same_more a b c p q = λ name. q name ∙ p name
 
-fails_later : (input : Input) (libraries : List LibraryFile) (files : Option Contents) (a b c : Counts) → FailsAt libraries (flow files a b) input
-    → SameCounts b c → FailsAt libraries (flow files a c) input
+fails_later : (input : Input) (libraries : List LibraryFile) (files : Option Contents) (a b c : Counts) → FailsAt (inputs_of libraries) (flow files a b) input
+    → SameCounts b c → FailsAt (inputs_of libraries) (flow files a c) input
 fails_later input libraries files a b c fails same = record {
   file = fails.file;
   one = fails.one;
@@ -44,7 +45,7 @@ fails_later input libraries files a b c fails same = record {
 }
 
 fails_behind : (input : Input) (file : LibraryFile) (rest : List LibraryFile) (files : Option Contents) (a b c : Counts)
-    → SameCounts a b → FailsAt rest (flow files b c) input → FailsAt (file ∷ rest) (flow files a c) input
+    → SameCounts a b → FailsAt (inputs_of rest) (flow files b c) input → FailsAt (inputs_of (file ∷ rest)) (flow files a c) input
 fails_behind input file rest files a b c same fails = record {
   file = fails.file;
   one = inr fails.one;
@@ -67,7 +68,6 @@ opens_behind Done file rest files a b c d before after stops = absurd stops
 opens_behind DoneWithRefusals file rest files a b c d before after stops = absurd stops
 opens_behind Usage file rest files a b c d before after stops = absurd stops
 opens_behind WriteFault file rest files a b c d before after stops = absurd stops
-opens_behind NotBuilt file rest files a b c d before after stops = absurd stops
 
 -- the list from a place on
 pub drop_at : {X : Type 0} (xs : List X) (place : ℕ) (x : X) → slice_get xs place ≡ Some x → drop place xs ≡ x ∷ drop (place + 1) xs
@@ -91,15 +91,8 @@ pub file_stops : (stop : Stop) (file : LibraryFile) (files : Option Contents) (n
     → name ≡ file.path → told ≡ told_of files file.path → before ≡ 0 → IsStop stop (record { told = told; before = before; after = after })
     → (0 < after → Rose (a name) (b name)) → (after ≡ 0 → SameCounts a b) → SameElsewhere a b name
     → StopsAt (stopped_with stop (Library file.library)) (file ∷ []) (flow files a b)
-file_stops StopNotOpened file files name told before after a b is left none stop raised calm others = record {
-  file = file;
-  one = inl refl;
-  named = refl;
-  failed = subst (λ n. Rose (a n) (b n)) is (raised (some_fault before after none stop));
-  others = subst (SameElsewhere a b) is others;
-}
 file_stops StopFailed file files name told before after a b is left none stop raised calm others = record {
-  file = file;
+  file = input_of file;
   one = inl refl;
   named = refl;
   failed = subst (λ n. Rose (a n) (b n)) is (raised (some_fault before after none stop));

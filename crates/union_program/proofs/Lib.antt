@@ -3,6 +3,5 @@ pub mod TallyLaws
 pub mod NoteLaws
 pub mod InputLaws
 pub mod RunLaws
-pub mod EditionMapLaws
-pub mod BatchLaws
-pub mod DeliveryLaws
+pub mod OwnLaws
+pub mod LoadLaws

@@ -4,7 +4,7 @@ use Rattle.std.specs.Prelude.{Option, Some, None, IfSome, length}
 use Rattle.library_stream.specs.Answering.{Takes, StopsAtLimit}
 use Rattle.library_stream.specs.Streaming.{Streaming, opened}
 use Rattle.library_stream.proofs.AheadLaws.{handed_front}
-use Rattle.union_program.specs.Streams.{Frame}
+use Rattle.library_batches.specs.Streams.{Frame}
 
 -- what follows of told bytes
 pub on_told : {P Q : List ℕ → Type 0} (told : Option (List ℕ)) → ((bytes : List ℕ) → P bytes → Q bytes) → IfSome told P → IfSome told Q

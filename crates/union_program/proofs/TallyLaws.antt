@@ -7,8 +7,9 @@ use Rattle.std.proofs.lemmas.List.Sums.{fold-append}
 use Rattle.marc_fields.specs.declared.rules.Failure.{Failure}
 use Rattle.marc_parts.specs.Loads.{is_deleted}
 use Rattle.marc_rules.specs.NineteenRules.{status_of}
-use Rattle.union_program.specs.Streams.{Frame, failure_of, is_accepted, accepted}
-use Rattle.union_program.specs.Reports.{refusal_of, refused_from, refused, is_withdrawing, loads, withdrawals}
+use Rattle.library_batches.specs.Streams.{Frame, failure_of, is_accepted, accepted}
+use Rattle.library_batches.specs.Refused.{refusal_of, refused_from, refused}
+use Rattle.union_reports.specs.Reports.{is_withdrawing, loads, withdrawals}
 
 pub passed_one : {A : Type 0} (p : A → Bool) (x : A) → p x ≡ true → filter p (x ∷ []) ≡ x ∷ []
 passed_one p x h = rw h refl

@@ -1,12 +1,14 @@
--- What libraries deliver, and the records that are current then: of those under one id, the last that was loaded.
-use Rattle.std.specs.Prelude.{ℕ, Bool, not, nat_lt, if◌then◌else◌, List, [], ◌∷◌, ◌++◌, length, fold, count_by}
-use Rattle.std.specs.List.{list_any}
-use Rattle.marc_fields.specs.declared.marc_record.Record.{Record}
+-- What libraries deliver, the batches that it makes, and the report on it.
+use Rattle.std.specs.Prelude.{◌≢◌, ℕ, Bool, nat_lt, List, [], ◌∷◌, length, map}
+use Rattle.std.specs.List.{list_any, flat_map, AllByRecursion}
+use Rattle.catalogue_core.specs.declared.batch.Batch.{Batch}
+use Rattle.library_batches.specs.Batches.{AreBatches}
+use Rattle.library_batches.specs.Outcomes.{found_in}
+use Rattle.library_batches.specs.Refused.{refused}
+use Rattle.library_batches.specs.Streams.{Frame}
+use Rattle.union_reports.specs.Reports.{report_text}
+use Rattle.union_words.specs.Statuses.{end_by}
 use Rattle.union_words.specs.declared.status.Status.{Status}
-use Rattle.union_words.specs.declared.status.Status.TheVariants.{Done, DoneWithRefusals}
-use Rattle.union_program.specs.Streams.{Frame, accepted, AreSpelled}
-use Rattle.union_program.specs.Reports.{refused, refused_lines, withdrawals, report_line}
-use Rattle.union_program.specs.Currents.{MapOf, load, meetings_from}
 
 -- the frames of a library's source
 pub record Delivery : Type 0 where
@@ -16,13 +18,14 @@ pub record Delivery : Type 0 where
 abbrev pub delivery : List ℕ → List Frame → Delivery
 delivery library frames = record { library = library; frames = frames }
 
--- an accepted frame of it withdraws a record
-abbrev pub withdraws : Delivery → Bool
-withdraws d = nat_lt 0 (withdrawals d.frames)
+-- the libraries' codes
+abbrev pub codes_of : List Delivery → List (List ℕ)
+codes_of all = map (λ d. d.library) all
 
--- this stage takes the deliveries: no accepted frame withdraws a record
-abbrev pub is_taken : List Delivery → Bool
-is_taken all = not (list_any withdraws all)
+-- no code stands twice
+abbrev pub AreDistinct : List (List ℕ) → Type 0
+AreDistinct [] = Unit {0}
+AreDistinct (code ∷ rest) = AllByRecursion (λ other. code ≢ other) rest × AreDistinct rest
 
 -- a frame of it is refused
 abbrev pub has_refused : Delivery → Bool
@@ -30,43 +33,25 @@ has_refused d = nat_lt 0 (length (refused d.frames))
 
 -- how a run ends that came to its end
 abbrev pub end_of_all : List Delivery → Status
-end_of_all all = (if list_any has_refused all then DoneWithRefusals else Done)
+end_of_all all = end_by (list_any has_refused all)
 
--- a delivery, with the records of its accepted frames in their order
-pub record Batch : Type 0 where
+-- a delivery and its batches
+pub record Stream : Type 0 where
   pub library : List ℕ
   pub frames : List Frame
-  pub records : List Record
-  pub spelled : AreSpelled (accepted frames) records
+  pub batches : List Batch
+  pub are : AreBatches library frames batches
 
-abbrev pub delivered : Batch → Delivery
-delivered b = delivery b.library b.frames
+abbrev pub delivered : Stream → Delivery
+delivered s = delivery s.library s.frames
 
--- the current records when the batch was loaded as well
-abbrev pub load_batch : MapOf Record → Batch → MapOf Record
-load_batch all b = fold (load b.library) all b.records
+abbrev pub batches_of : Stream → List Batch
+batches_of s = s.batches
 
--- the current records when these batches were loaded in their order
-abbrev pub current_of : List Batch → MapOf Record
-current_of batches = fold load_batch [] batches
+-- the report on it: what came of its operations is what comes of them over no records, since no other library's operations
+-- speak of its records
+abbrev pub report_of : Stream → List ℕ
+report_of s = report_text s.library s.frames (found_in [] s.batches)
 
--- how many of the batch's records replaced a current one, and how many were added
-abbrev pub replaced_in : MapOf Record → Batch → ℕ
-replaced_in all b = count_by (λ met. met) (meetings_from b.library all b.records)
-
-abbrev pub added_in : MapOf Record → Batch → ℕ
-added_in all b = count_by not (meetings_from b.library all b.records)
-
--- the report of the batch, when it is loaded over these current records
-abbrev pub report_of : MapOf Record → Batch → List ℕ
-report_of all b =
-    refused_lines b.library (refused b.frames)
-    ++ report_line b.library (length b.frames) (added_in all b) (replaced_in all b) 0 0 (length (refused b.frames))
-
--- the reports of batches that are loaded in their order over these current records
-abbrev pub reports_over : MapOf Record → List Batch → List ℕ
-reports_over all [] = []
-reports_over all (b ∷ batches) = report_of all b ++ reports_over (load_batch all b) batches
-
-abbrev pub reports_of : List Batch → List ℕ
-reports_of batches = reports_over [] batches
+abbrev pub reports_of : List Stream → List ℕ
+reports_of streams = flat_map report_of streams

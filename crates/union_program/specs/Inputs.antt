@@ -1,49 +1,28 @@
 -- The inputs of a run: the files of libraries in the order of the command, as a shelf has them.
-use Rattle.std.specs.Prelude.{◌≡◌, ℕ, ◌⊎◌, Bool, nat_lt, List, [], ◌∷◌, length, map, Ok, Err, Some, None, IfSome, IsTrue}
+use Rattle.std.specs.Prelude.{◌≡◌, ℕ, Bool, nat_lt, List, [], ◌∷◌, length, map, Ok, Err, Some, None, IfSome, IsTrue}
 use Rattle.std.specs.List.{find, AllByRecursion}
 use Rattle.std.specs.Option.{option_map}
 use Rattle.std.specs.declared.option.Option.{Option}
 use Rattle.std.specs.declared.result.Result.{Result}
 use Rattle.iso2709_frame.specs.Frames.{frames}
 use Rattle.library_stream.specs.declared.frame_reader.TheConstants.{LARGEST_SOURCE}
-use Rattle.union_io.specs.Causes.{Rose}
-use Rattle.union_io.specs.Counts.{SameCounts, SameElsewhere}
 use Rattle.union_io.specs.Files.{told_of}
 use Rattle.union_io.specs.Names.{is_among}
+use Rattle.union_words.specs.Flows.{ShelfFlow, IsCalm, InputFile, FailsAt}
 use Rattle.union_words.specs.Words.{LibraryFile}
 use Rattle.union_words.specs.declared.input.Input.{Input}
 use Rattle.union_words.specs.declared.input.Input.TheVariants.{Library}
 use Rattle.union_words.specs.declared.status.Status.{Status}
-use Rattle.union_words.specs.declared.status.Status.TheVariants.{Done, DoneWithRefusals, Usage, OpenFault, ReadFault, WriteFault, TooLong, Memory, NotBuilt}
+use Rattle.union_words.specs.declared.status.Status.TheVariants.{Done, DoneWithRefusals, Usage, OpenFault, ReadFault, WriteFault, TooLong, Memory}
 use Rattle.union_program.specs.Deliveries.{Delivery, delivery}
 use Rattle.union_program.specs.declared.opened_file.OpenedFile.{OpenedFile}
 
--- a shelf: its files, where it tells them, and how often something failed under each name, before the run and after it
-pub record ShelfFlow : Type 0 where
-  pub files : Option (List ℕ → List ℕ)
-  pub before : List ℕ → ℕ
-  pub after : List ℕ → ℕ
+-- the input that is a library's file
+abbrev pub input_of : LibraryFile → InputFile
+input_of file = record { input = Library file.library; path = file.path }
 
--- nothing failed under any name
-abbrev pub IsCalm : ShelfFlow → Type 0
-IsCalm shelf = SameCounts shelf.before shelf.after
-
--- it is one of them
-abbrev pub IsOneOf : LibraryFile → List LibraryFile → Type 0
-IsOneOf file [] = ⊥
-IsOneOf file (first ∷ rest) = (file ≡ first) ⊎ IsOneOf file rest
-
--- the input is one of the libraries; something failed under the name of its file, and nothing under any other name
-pub record FailsAt (libraries : List LibraryFile) (shelf : ShelfFlow) (input : Input) : Type 0 where
-  pub file : LibraryFile
-  pub one : IsOneOf file libraries
-  pub named : input ≡ Library file.library
-  pub failed : Rose (shelf.before file.path) (shelf.after file.path)
-  pub others : SameElsewhere shelf.before shelf.after file.path
-
--- nothing failed under the names of the libraries' files
-abbrev pub NoneFails : List LibraryFile → ShelfFlow → Type 0
-NoneFails libraries shelf = AllByRecursion (λ file. ¬ Rose (shelf.before file.path) (shelf.after file.path)) libraries
+abbrev pub inputs_of : List LibraryFile → List InputFile
+inputs_of libraries = map input_of libraries
 
 -- the file has more bytes than are read
 abbrev pub is_overfull : (List ℕ → List ℕ) → LibraryFile → Bool
@@ -67,19 +46,18 @@ deliveries contents libraries = map (λ file. delivery file.library (frames (con
 
 -- the run stops at its inputs with this status
 abbrev pub StopsAt : Status → List LibraryFile → ShelfFlow → Type 0
-StopsAt (OpenFault input) libraries shelf = FailsAt libraries shelf input
-StopsAt (ReadFault input) libraries shelf = FailsAt libraries shelf input
+StopsAt (OpenFault input) libraries shelf = FailsAt (inputs_of libraries) shelf input
+StopsAt (ReadFault input) libraries shelf = FailsAt (inputs_of libraries) shelf input
 StopsAt (TooLong input) libraries shelf = IsCalm shelf × IfSome shelf.files (λ contents. IsTooLongAt contents libraries input)
 StopsAt Memory libraries shelf = IsCalm shelf
 StopsAt Done libraries shelf = ⊥
 StopsAt DoneWithRefusals libraries shelf = ⊥
 StopsAt Usage libraries shelf = ⊥
 StopsAt WriteFault libraries shelf = ⊥
-StopsAt NotBuilt libraries shelf = ⊥
 
 -- the run stops with this status where it opens its inputs
 abbrev pub StopsOpening : Status → List LibraryFile → ShelfFlow → Type 0
-StopsOpening (OpenFault input) libraries shelf = FailsAt libraries shelf input
+StopsOpening (OpenFault input) libraries shelf = FailsAt (inputs_of libraries) shelf input
 StopsOpening Memory libraries shelf = IsCalm shelf
 StopsOpening (ReadFault input) libraries shelf = ⊥
 StopsOpening (TooLong input) libraries shelf = ⊥
@@ -87,7 +65,6 @@ StopsOpening Done libraries shelf = ⊥
 StopsOpening DoneWithRefusals libraries shelf = ⊥
 StopsOpening Usage libraries shelf = ⊥
 StopsOpening WriteFault libraries shelf = ⊥
-StopsOpening NotBuilt libraries shelf = ⊥
 
 -- each of the files was read to its end, or the run stops there. What was found is so of all their contents
 abbrev pub Gathers : {T : Type 0} → Result T Status → List LibraryFile → ShelfFlow → (T → (List ℕ → List ℕ) → Type 0) → Type 0

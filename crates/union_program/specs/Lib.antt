@@ -1,11 +1,9 @@
-pub mod Streams
-pub mod Reports
 pub mod Tallies
-pub mod Currents
 pub mod Stops
 pub mod Readings
+pub mod Deliveries
+pub mod Interleavings
+pub mod Appliances
+pub mod Unions
 pub mod Inputs
 pub mod Runs
-pub mod Deliveries
-pub mod Merged
-pub mod Unions

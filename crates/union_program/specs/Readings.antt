@@ -1,21 +1,10 @@
 -- What the reading of a source says.
 use Rattle.std.specs.Prelude.{◌≡◌, ℕ, ◌<◌, ◌≤◌, List, length, Ok, Err, IfSome}
-use Rattle.std.specs.declared.option.Option.{Option}
 use Rattle.std.specs.declared.result.Result.{Result}
-use Rattle.union_io.specs.Causes.{Rose}
+use Rattle.library_batches.specs.declared.stop.Stop.{Stop}
+use Rattle.library_batches.specs.declared.stop.Stop.TheVariants.{TooLong, Failed, Memory}
 use Rattle.library_stream.specs.declared.frame_reader.TheConstants.{LARGEST_SOURCE}
-use Rattle.union_program.specs.declared.stop.Stop.{Stop}
-use Rattle.union_program.specs.declared.stop.Stop.TheVariants.{NotOpened, TooLong, Failed, Memory}
-
--- an input: its bytes, where they are told, and how often it failed before it was read and after
-pub record Inflow : Type 0 where
-  pub told : Option (List ℕ)
-  pub before : ℕ
-  pub after : ℕ
-
--- something failed there
-abbrev pub HasFailed : Inflow → Type 0
-HasFailed input = Rose input.before input.after
+use Rattle.union_words.specs.Flows.{Inflow, HasFailed}
 
 -- it has more bytes than are read, where they are told
 abbrev pub IsOverfull : Inflow → Type 0
@@ -23,7 +12,6 @@ IsOverfull input = IfSome input.told (λ bytes. LARGEST_SOURCE < length bytes)
 
 -- a failure raises the count, and nothing else does
 abbrev pub IsStop : Stop → Inflow → Type 0
-IsStop NotOpened input = HasFailed input
 IsStop TooLong input = IsOverfull input × (input.after ≡ input.before)
 IsStop Failed input = HasFailed input
 IsStop Memory input = input.after ≡ input.before

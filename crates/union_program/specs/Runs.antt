@@ -1,69 +1,29 @@
--- What a run of the program leaves behind, and what each status says.
-use Rattle.std.specs.Prelude.{◌≡◌, ◌≢◌, ℕ, ◌<◌, ◌≤◌, ◌⊎◌, Bool, true, false, IsTrue, List, [], ◌∷◌, length, Some, IfSome}
+-- What a run does, by the form of its words.
+use Rattle.std.specs.Prelude.{◌≡◌, ◌≢◌, ℕ, ◌⊎◌, ◌<◌, ◌≤◌, false, IsTrue, List, [], ◌∷◌, ◌++◌, length, Some, IfSome}
 use Rattle.std.specs.declared.option.Option.{Option}
 use Rattle.std.specs.Io.KnownBytes.{Appends, Keeps}
+use Rattle.catalogue_core.specs.Histories.{AreEditionsOf}
+use Rattle.catalogue_core.specs.declared.edition.Edition.{Edition}
+use Rattle.catalogue_export.specs.Editions.{export_text}
 use Rattle.iso2709_frame.specs.Frames.{frames}
-use Rattle.union_io.specs.Causes.{Rose}
 use Rattle.union_io.specs.Writing.{AppendsFront}
+use Rattle.library_batches.specs.Refused.{refused}
+use Rattle.library_batches.specs.declared.refused.RefusedFrame.{RefusedFrame}
+use Rattle.library_stream.specs.declared.frame_reader.TheConstants.{LARGEST_SOURCE}
+use Rattle.union_reports.specs.Reports.{check_text, left_lines}
+use Rattle.union_words.specs.Flows.{ShelfFlow, IsCalm, FailsAt, NoneFails, Inflow, HasFailed, Outflow, HasFailedAt, IsNoted}
+use Rattle.union_words.specs.Statuses.{is_done, is_early, is_input_fault, end_by}
+use Rattle.union_words.specs.Texts.{early_text}
+use Rattle.union_words.specs.Words.{LibraryFile}
 use Rattle.union_words.specs.declared.input.Input.{Input}
 use Rattle.union_words.specs.declared.input.Input.TheVariants.{Library}
 use Rattle.union_words.specs.declared.status.Status.{Status}
-use Rattle.union_words.specs.declared.status.Status.TheVariants.{Done, DoneWithRefusals, Usage, OpenFault, ReadFault, WriteFault, TooLong, Memory, NotBuilt}
-use Rattle.union_program.specs.Reports.{refused, check_text}
-use Rattle.union_words.specs.Words.{LibraryFile}
-use Rattle.union_program.specs.Deliveries.{Delivery, is_taken, end_of_all}
-use Rattle.union_program.specs.Inputs.{ShelfFlow, IsCalm, FailsAt, NoneFails, AreWithin, IsTooLongAt, deliveries}
-use Rattle.union_program.specs.Merged.{IsUnionOutput}
-use Rattle.union_program.specs.Readings.{Inflow, HasFailed, IsOverfull}
-use Rattle.library_stream.specs.declared.frame_reader.TheConstants.{LARGEST_SOURCE}
-use Rattle.union_program.specs.declared.refused.RefusedFrame.{RefusedFrame}
-
--- an output: what was written on it before the run and after it, where that is told, and how often it failed
-pub record Outflow : Type 0 where
-  pub old : Option (List ℕ)
-  pub new : Option (List ℕ)
-  pub before : ℕ
-  pub after : ℕ
-
--- something failed there in the run
-abbrev pub HasFailedAt : Outflow → Type 0
-HasFailedAt output = Rose output.before output.after
-
--- the run came to its end
-abbrev pub is_done : Status → Bool
-is_done Done = true
-is_done DoneWithRefusals = true
-is_done Usage = false
-is_done (OpenFault input) = false
-is_done (ReadFault input) = false
-is_done WriteFault = false
-is_done (TooLong input) = false
-is_done Memory = false
-is_done NotBuilt = false
-
--- the run ended before it wrote to its output
-abbrev pub is_early : Status → Bool
-is_early Done = false
-is_early DoneWithRefusals = false
-is_early Usage = true
-is_early (OpenFault input) = true
-is_early (ReadFault input) = true
-is_early WriteFault = false
-is_early (TooLong input) = true
-is_early Memory = true
-is_early NotBuilt = true
-
--- an input could not be opened, or a read of it failed
-abbrev pub is_input_fault : Status → Bool
-is_input_fault Done = false
-is_input_fault DoneWithRefusals = false
-is_input_fault Usage = false
-is_input_fault (OpenFault input) = true
-is_input_fault (ReadFault input) = true
-is_input_fault WriteFault = false
-is_input_fault (TooLong input) = false
-is_input_fault Memory = false
-is_input_fault NotBuilt = false
+use Rattle.union_words.specs.declared.status.Status.TheVariants.{Done, DoneWithRefusals, Usage, OpenFault, ReadFault, WriteFault, TooLong, Memory}
+use Rattle.union_program.specs.Deliveries.{Delivery, Stream, reports_of, end_of_all}
+use Rattle.union_program.specs.Inputs.{inputs_of, AreWithin, IsTooLongAt, deliveries}
+use Rattle.union_program.specs.Readings.{IsOverfull}
+use Rattle.union_program.specs.Unions.{IsUnion}
+use Rattle.union_program.specs.declared.loaded.Loaded.{Loaded}
 
 -- how a run ends that came to its end
 abbrev pub end_with : List RefusedFrame → Status
@@ -72,10 +32,6 @@ end_with (frame ∷ rest) = DoneWithRefusals
 
 abbrev pub end_of : List ℕ → Status
 end_of stream = end_with (refused (frames stream))
-
--- the text was written, or a front of it and then a write failed
-abbrev pub IsNoted : Outflow → List ℕ → Type 0
-IsNoted output text = Appends output.old output.new text ⊎ (AppendsFront output.old output.new text × HasFailedAt output)
 
 -- the statuses that come of an input which cannot be read to its end
 pub record EndsAtInput (input : Input) (flow : Inflow) (status : Status) : Type 0 where
@@ -89,7 +45,7 @@ pub record EndsAtInput (input : Input) (flow : Inflow) (status : Status) : Type 
 pub record IsCheck (library : List ℕ) (file : Inflow) (out : Outflow) (status : Status) : Type 0 where
   pub input : EndsAtInput (Library library) file status
   pub write_fault : status ≡ WriteFault → HasFailedAt out
-  pub others : (status ≢ Usage) × (status ≢ NotBuilt)
+  pub other : status ≢ Usage
   -- all of the text, none of it, or a front of it
   pub done : IsTrue (is_done status)
       → IfSome file.told (λ bytes. (status ≡ end_of bytes) × Appends out.old out.new (check_text library (frames bytes)))
@@ -99,44 +55,55 @@ pub record IsCheck (library : List ℕ) (file : Inflow) (out : Outflow) (status 
   pub complete : (bytes : List ℕ) → file.told ≡ Some bytes → length bytes ≤ LARGEST_SOURCE → ¬ HasFailed file → ¬ HasFailedAt out
       → (status ≡ end_of bytes) ⊎ (status ≡ Memory)
 
--- both texts of the export of what was delivered were written
-abbrev pub IsExported : List Delivery → Outflow → Outflow → Type 0
-IsExported all out notes =
-    (out_text : List ℕ) × (notes_text : List ℕ) × IsUnionOutput all out_text notes_text
-    × Appends out.old out.new out_text × Appends notes.old notes.new notes_text
+-- what is shown of the editions of a catalogue on the output, and what is noted of them behind the reports
+pub record Showing : Type 0 where
+  pub shown : List Edition → List ℕ
+  pub noted : List Edition → List ℕ
 
--- a front of each was written
-abbrev pub IsExportedInPart : List Delivery → Outflow → Outflow → Type 0
-IsExportedInPart all out notes =
-    (out_text : List ℕ) × (notes_text : List ℕ) × IsUnionOutput all out_text notes_text
-    × AppendsFront out.old out.new out_text × AppendsFront notes.old notes.new notes_text
+-- the export, and lines on what was left out of it
+abbrev pub exported : Showing
+exported = record { shown = export_text; noted = left_lines }
 
--- `export` of these libraries' files
-pub record IsUnionRun (libraries : List LibraryFile) (shelf : ShelfFlow) (out notes : Outflow) (status : Status) : Type 0 where
+-- all was written: what is shown of the union of these deliveries, their reports, and what is noted
+abbrev pub IsShown : Showing → List Delivery → Outflow → Outflow → Type 0
+IsShown showing all out notes =
+    (streams : List Stream) × (editions : List Edition) × IsUnion all streams editions
+    × Appends out.old out.new (showing.shown editions) × Appends notes.old notes.new (reports_of streams ++ showing.noted editions)
+
+-- a front of each text was written
+abbrev pub IsShownInPart : Showing → List Delivery → Outflow → Outflow → Type 0
+IsShownInPart showing all out notes =
+    (streams : List Stream) × (editions : List Edition) × IsUnion all streams editions
+    × AppendsFront out.old out.new (showing.shown editions) × AppendsFront notes.old notes.new (reports_of streams ++ showing.noted editions)
+
+-- a front of what is shown was written
+abbrev pub IsBegun : Showing → List Delivery → Outflow → Type 0
+IsBegun showing all out =
+    (streams : List Stream) × (editions : List Edition) × IsUnion all streams editions × AppendsFront out.old out.new (showing.shown editions)
+
+-- what is shown of the union of these libraries' files, and their reports
+pub record IsUnionRun (showing : Showing) (libraries : List LibraryFile) (shelf : ShelfFlow) (out notes : Outflow) (status : Status) : Type 0 where
   -- what failed, where something did
-  pub open_fault : (i : Input) → status ≡ OpenFault i → FailsAt libraries shelf i
-  pub read_fault : (i : Input) → status ≡ ReadFault i → FailsAt libraries shelf i
+  pub open_fault : (i : Input) → status ≡ OpenFault i → FailsAt (inputs_of libraries) shelf i
+  pub read_fault : (i : Input) → status ≡ ReadFault i → FailsAt (inputs_of libraries) shelf i
   pub calm : is_input_fault status ≡ false → IsCalm shelf
   pub write_fault : status ≡ WriteFault → HasFailedAt out ⊎ HasFailedAt notes
   pub other : status ≢ Usage
-  -- which file is too long, and what this stage takes
+  -- which file is too long
   pub too_long : (i : Input) → status ≡ TooLong i → IfSome shelf.files (λ contents. IsTooLongAt contents libraries i)
-  pub not_built : status ≡ NotBuilt
-      → IfSome shelf.files (λ contents. AreWithin contents libraries × (is_taken (deliveries contents libraries) ≡ false))
   -- all of both texts, none of them, or a front of each
   pub done : IsTrue (is_done status) → IfSome shelf.files (λ contents. AreWithin contents libraries
-      × (is_taken (deliveries contents libraries) ≡ true) × (status ≡ end_of_all (deliveries contents libraries))
-      × IsExported (deliveries contents libraries) out notes)
-  pub untouched : IsTrue (is_early status) → Keeps out.old out.new
+      × (status ≡ end_of_all (deliveries contents libraries)) × IsShown showing (deliveries contents libraries) out notes)
+  pub untouched : IsTrue (is_early status) → status ≢ Memory → Keeps out.old out.new
+  pub memory : status ≡ Memory → Keeps out.old out.new
+      ⊎ IfSome shelf.files (λ contents. AreWithin contents libraries × IsBegun showing (deliveries contents libraries) out)
   pub part : status ≡ WriteFault → IfSome shelf.files (λ contents. AreWithin contents libraries
-      × (is_taken (deliveries contents libraries) ≡ true) × IsExportedInPart (deliveries contents libraries) out notes)
+      × IsShownInPart showing (deliveries contents libraries) out notes)
   -- where nothing fails it is so, or memory ran out
   pub too_long_where : (contents : List ℕ → List ℕ) (i : Input) → shelf.files ≡ Some contents → IsTooLongAt contents libraries i
-      → NoneFails libraries shelf → (status ≡ TooLong i) ⊎ (status ≡ Memory)
-  pub not_built_where : (contents : List ℕ → List ℕ) → shelf.files ≡ Some contents → AreWithin contents libraries
-      → is_taken (deliveries contents libraries) ≡ false → NoneFails libraries shelf → (status ≡ NotBuilt) ⊎ (status ≡ Memory)
+      → NoneFails (inputs_of libraries) shelf → (status ≡ TooLong i) ⊎ (status ≡ Memory)
   pub complete : (contents : List ℕ → List ℕ) → shelf.files ≡ Some contents → AreWithin contents libraries
-      → is_taken (deliveries contents libraries) ≡ true → NoneFails libraries shelf → ¬ HasFailedAt out → ¬ HasFailedAt notes
+      → NoneFails (inputs_of libraries) shelf → ¬ HasFailedAt out → ¬ HasFailedAt notes
       → (status ≡ end_of_all (deliveries contents libraries)) ⊎ (status ≡ Memory)
 
 -- a text of the program's own
@@ -146,9 +113,23 @@ pub record IsTold (text : List ℕ) (out : Outflow) (status : Status) : Type 0 w
   pub part : status ≡ WriteFault → AppendsFront out.old out.new text
   pub write_fault : status ≡ WriteFault → HasFailedAt out
 
--- two texts, one on each output: all of both, or a front of each and then a write failed
-pub record Written (out_text notes_text : List ℕ) (end : Status) (out notes : Outflow) (status : Status) : Type 0 where
-  pub kinds : (status ≡ end) ⊎ (status ≡ WriteFault)
-  pub done : status ≢ WriteFault → Appends out.old out.new out_text × Appends notes.old notes.new notes_text
-  pub part : status ≡ WriteFault → AppendsFront out.old out.new out_text × AppendsFront notes.old notes.new notes_text
+-- a text on the second output: all of it, or a front of it and then a write failed, or none of it since memory ran out
+pub record IsReported (noted : List ℕ) (end : Status) (notes : Outflow) (status : Status) : Type 0 where
+  pub kinds : (status ≡ end) ⊎ ((status ≡ WriteFault) ⊎ (status ≡ Memory))
+  pub done : IsTrue (is_done status) → Appends notes.old notes.new noted
+  pub part : status ≡ WriteFault → AppendsFront notes.old notes.new noted × HasFailedAt notes
+  pub memory : status ≡ Memory → IsNoted notes (early_text Memory)
+
+-- two texts, one on each output: all of both, or a front of each and then a write failed, or memory ran out before the second
+pub record Written (shown noted : List ℕ) (end : Status) (out notes : Outflow) (status : Status) : Type 0 where
+  pub kinds : (status ≡ end) ⊎ ((status ≡ WriteFault) ⊎ (status ≡ Memory))
+  pub done : IsTrue (is_done status) → Appends out.old out.new shown × Appends notes.old notes.new noted
+  pub part : status ≡ WriteFault → AppendsFront out.old out.new shown × AppendsFront notes.old notes.new noted
   pub write_fault : status ≡ WriteFault → HasFailedAt out ⊎ HasFailedAt notes
+  pub memory : status ≡ Memory → AppendsFront out.old out.new shown × IsNoted notes (early_text Memory)
+
+-- what is shown of a loaded catalogue, and its reports
+abbrev pub Shows : Showing → Loaded → Outflow → Outflow → Status → Type 0
+Shows showing loaded out notes status =
+    (editions : List Edition) × AreEditionsOf loaded.catalogue editions
+    × Written (showing.shown editions) (loaded.reports.items ++ showing.noted editions) (end_by loaded.refused) out notes status

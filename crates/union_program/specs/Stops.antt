@@ -1,14 +1,13 @@
 -- The status of a run whose input was not read to its end.
 use Rattle.std.specs.Prelude.{Ok, Err}
 use Rattle.std.specs.declared.result.Result.{Result}
-use Rattle.union_program.specs.declared.stop.Stop.{Stop}
-use Rattle.union_program.specs.declared.stop.Stop.TheVariants.{NotOpened as StopNotOpened, TooLong as StopTooLong, Failed as StopFailed, Memory as StopMemory}
+use Rattle.library_batches.specs.declared.stop.Stop.{Stop}
+use Rattle.library_batches.specs.declared.stop.Stop.TheVariants.{TooLong as StopTooLong, Failed as StopFailed, Memory as StopMemory}
 use Rattle.union_words.specs.declared.input.Input.{Input}
 use Rattle.union_words.specs.declared.status.Status.{Status}
-use Rattle.union_words.specs.declared.status.Status.TheVariants.{Done, DoneWithRefusals, Usage, OpenFault, ReadFault, WriteFault, TooLong, Memory, NotBuilt}
+use Rattle.union_words.specs.declared.status.Status.TheVariants.{Done, DoneWithRefusals, Usage, OpenFault, ReadFault, WriteFault, TooLong, Memory}
 
 abbrev pub stopped_with : Stop → Input → Status
-stopped_with StopNotOpened input = OpenFault input
 stopped_with StopTooLong input = TooLong input
 stopped_with StopFailed input = ReadFault input
 stopped_with StopMemory input = Memory
@@ -23,7 +22,6 @@ or_too_long DoneWithRefusals input = TooLong input
 or_too_long Usage input = TooLong input
 or_too_long WriteFault input = TooLong input
 or_too_long (TooLong later) input = TooLong input
-or_too_long NotBuilt input = TooLong input
 
 -- the status of a run that stops at an input which has too many bytes, when this came of the inputs behind it
 abbrev pub behind_too_long : {T : Type 0} → Input → Result T Status → Status

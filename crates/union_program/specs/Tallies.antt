@@ -1,7 +1,8 @@
 -- What a count of frames says.
 use Rattle.std.specs.Prelude.{◌≡◌, List, length}
-use Rattle.union_program.specs.Streams.{Frame}
-use Rattle.union_program.specs.Reports.{loads, withdrawals, refused}
+use Rattle.library_batches.specs.Refused.{refused}
+use Rattle.library_batches.specs.Streams.{Frame}
+use Rattle.union_reports.specs.Reports.{loads, withdrawals}
 use Rattle.union_program.specs.declared.tally.Tally.{Tally}
 
 -- these frames were counted, and no others

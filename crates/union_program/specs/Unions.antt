@@ -1,46 +1,38 @@
--- What the loading of deliveries says.
-use Rattle.std.specs.Prelude.{◌≡◌, ◌+◌, ◌≤◌, ℕ, true, false, not, List, [], ◌∷◌, Some, map, fold, count_by}
-use Rattle.std.specs.List.{list_any}
-use Rattle.marc_fields.specs.declared.marc_record.Record.{Record}
-use Rattle.catalogue_core.specs.Records.{edition}
+-- The union catalogue of what libraries deliver.
+use Rattle.std.specs.Prelude.{◌≡◌, ◌≢◌, ℕ, List, length, map}
+use Rattle.std.specs.List.{list_any, AllByRecursion}
+use Rattle.catalogue_core.specs.Histories.{AreEditionsOf}
 use Rattle.catalogue_core.specs.declared.edition.Edition.{Edition}
-use Rattle.union_program.specs.Currents.{MapOf, load, meetings_from}
-use Rattle.union_program.specs.Deliveries.{Delivery, delivery, withdraws, Batch, delivered, has_refused, is_taken, current_of, reports_of}
-use Rattle.union_program.specs.Streams.{Frame, accepted, AreSpelled}
-use Rattle.union_program.specs.Tallies.{IsTally}
-use Rattle.union_program.specs.declared.batch_counts.BatchCounts.{BatchCounts}
+use Rattle.catalogue_core.specs.declared.history_entry.HistoryEntry.{HistoryEntry}
+use Rattle.union_program.specs.Deliveries.{Delivery, Stream, delivered, batches_of, reports_of, has_refused, codes_of, AreDistinct}
+use Rattle.union_program.specs.Interleavings.{IsInterleaving}
 use Rattle.union_program.specs.declared.loaded.Loaded.{Loaded}
 
--- under each id the edition of the record that is there
-abbrev pub AreEditions : MapOf Record → MapOf Edition → Type 0
-AreEditions [] [] = Unit {0}
-AreEditions (x ∷ records) (y ∷ editions) = (x.0 ≡ y.0) × (edition x.0.library x.1 ≡ Some y.1) × AreEditions records editions
-AreEditions [] (y ∷ editions) = ⊥
-AreEditions (x ∷ records) [] = ⊥
+-- these are the deliveries with their batches, and the editions of a catalogue whose history has all of these batches, each
+-- library's in their order, and no others
+pub record IsUnion (all : List Delivery) (streams : List Stream) (editions : List Edition) : Type 0 where
+  pub delivered : map delivered streams ≡ all
+  pub history : List HistoryEntry
+  pub interleaving : IsInterleaving (map batches_of streams) history
+  pub resolved : AreEditionsOf history editions
 
--- the records of the accepted frames were loaded over current records, in their order
-pub record AreLoaded (library : List ℕ) (before : MapOf Record) (all : List Frame) (counts : BatchCounts) (now : MapOf Edition) : Type 0 where
-  pub records : List Record
-  pub spelled : AreSpelled (accepted all) records
-  pub editions : AreEditions (fold (load library) before records) now
-  pub added : counts.added ≡ count_by not (meetings_from library before records)
-  pub replaced : counts.replaced ≡ count_by (λ met. met) (meetings_from library before records)
-
--- these frames were counted, and where none withdraws a record they were loaded over editions of current records
-pub record IsBatchLoaded (library : List ℕ) (old : MapOf Edition) (all : List Frame) (counts : BatchCounts) (new : MapOf Edition) : Type 0 where
-  pub tally : IsTally all counts.tally
-  pub few : counts.added + counts.replaced ≤ counts.tally.frames
-  pub loaded : withdraws (delivery library all) ≡ false → (before : MapOf Record) → AreEditions before old → AreLoaded library before all counts new
-
--- the current records of the deliveries, as editions, and the reports
+-- the batches of the deliveries were applied, and no others, and the reports are theirs
 pub record HasLoaded (all : List Delivery) (loaded : Loaded) : Type 0 where
-  pub batches : List Batch
-  pub delivered : map delivered batches ≡ all
-  pub editions : AreEditions (current_of batches) loaded.editions.entries
-  pub reports : loaded.reports.items ≡ reports_of batches
+  pub streams : List Stream
+  pub delivered : map delivered streams ≡ all
+  pub interleaving : IsInterleaving (map batches_of streams) loaded.catalogue
+  pub reports : loaded.reports.items ≡ reports_of streams
+  -- no other library has a batch there
+  pub others : (library : List ℕ) → AllByRecursion (λ code. code ≢ library) (codes_of all)
+      → AllByRecursion (λ entry. entry.batch.library ≢ library) loaded.catalogue
 
--- these deliveries were loaded, and no others
+-- these deliveries were loaded, and no others; each is of a library of its own
 pub record IsLoaded (all : List Delivery) (loaded : Loaded) : Type 0 where
   pub refused : loaded.refused ≡ list_any has_refused all
-  pub withdrawn : loaded.withdrawn ≡ list_any withdraws all
-  pub taken : is_taken all ≡ true → HasLoaded all loaded
+  pub number : loaded.libraries ≡ length all
+  pub union : AreDistinct (codes_of all) → HasLoaded all loaded
+
+-- so they make a union
+pub record HasUnited (all : List Delivery) (loaded : Loaded) : Type 0 where
+  pub refused : loaded.refused ≡ list_any has_refused all
+  pub union : HasLoaded all loaded

@@ -5,16 +5,17 @@
 ghost use Rattle.std.specs.Prelude.{◌≡◌, ◌++◌, ◌<◌, ◌≤◌, ◌+◌, ℕ, List, length, IsTrue, IfOk, OnOk};
 ghost use Rattle.iso2709_frame.specs.Frames.{frames};
 ghost use Rattle.union_program.specs.Readings.{Reads};
-ghost use Rattle.union_program.specs.Reports.{check_line, check_text};
-ghost use Rattle.union_program.specs.Runs.{is_done, end_of, end_with, IsCheck};
-ghost use Rattle.union_program.specs.Streams.{Frame};
+ghost use Rattle.union_reports.specs.Reports.{check_line, check_text};
+ghost use Rattle.union_program.specs.Runs.{end_of, end_with, IsCheck};
+ghost use Rattle.library_batches.specs.Streams.{Frame};
+ghost use Rattle.union_words.specs.Statuses.{is_done};
 ghost use Rattle.union_program.specs.Tallies.{IsTally};
 
 use crate::counting::count_frame;
-use crate::lines::{add_counted, add_refused_lines};
-use crate::refused::RefusedFrame;
-use crate::stop::Stop;
+use crate::stop_status::stop_status;
 use crate::tally::Tally;
+use library_batches::refused::RefusedFrame;
+use library_batches::stop::Stop;
 use library_stream::answer::Next;
 use library_stream::frame_reader::{FrameReader, LARGEST_SOURCE};
 use std::alloc::{AllocError, Global};
@@ -23,6 +24,7 @@ use union_base::memory::Memory;
 use union_io::failed::Failed;
 use union_io::sink::{Sink, put_all};
 use union_io::source::Source;
+use union_reports::lines::{add_counted, add_refused_lines};
 use union_words::input::Input;
 use union_words::status::Status;
 
@@ -132,6 +134,6 @@ pub fn check_run<S: Source, O: Sink>(
             Ok(()) => found.end,
             Err(Failed) => Status::WriteFault,
         },
-        Err(stop) => stop.status(Input::Library(*library)),
+        Err(stop) => stop_status(stop, Input::Library(*library)),
     }
 }

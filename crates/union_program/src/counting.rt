@@ -2,12 +2,12 @@
 ghost use Rattle.std.specs.Prelude.{◌≡◌, ◌<◌, ◌≤◌, ◌+◌, ◌++◌, ◌∷◌, [], List, None, Some, OnOk};
 ghost use Rattle.iso2709_frame.specs.Frames.{IsWhole};
 ghost use Rattle.marc_rules.specs.NineteenRules.{status_of};
-ghost use Rattle.union_program.specs.Streams.{Frame, failure_of};
+ghost use Rattle.library_batches.specs.Streams.{Frame, failure_of};
 ghost use Rattle.union_program.specs.Tallies.{IsTally};
 
-use crate::refused::RefusedFrame;
 use crate::tally::Tally;
 use iso2709_frame::cut::Cut;
+use library_batches::refused::RefusedFrame;
 use marc_fields::rules::Rule;
 use marc_parts::loads::is_deleted;
 use marc_rules::check::{Refusal, accepted_status};

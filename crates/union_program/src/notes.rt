@@ -4,7 +4,7 @@ ghost use Rattle.std.specs.Io.KnownBytes.{Appends};
 ghost use Rattle.union_io.specs.Causes.{HasCause};
 ghost use Rattle.union_io.specs.Writing.{AppendsFront};
 ghost use Rattle.union_words.specs.Texts.{early_text};
-ghost use Rattle.union_program.specs.Runs.{IsNoted};
+ghost use Rattle.union_words.specs.Flows.{IsNoted};
 
 use union_io::failed::Failed;
 use union_io::sink::{Sink, put_all};

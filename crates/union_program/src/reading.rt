@@ -2,23 +2,20 @@
 //!
 //! The first read that fails ends it. Behind a file that has too many bytes the later ones are still read, since a failed
 //! read goes before. Each source is given back to its shelf, whatever happens. Memory grows with what is loaded.
-ghost use Rattle.std.specs.Prelude.{◌≡◌, ◌++◌, ◌∷◌, [], ℕ, List, IsTrue, IfOk, IfSome, MatchOption, true, false};
+ghost use Rattle.std.specs.Prelude.{◌≡◌, ◌++◌, ◌∷◌, [], ℕ, List};
 ghost use Rattle.iso2709_frame.specs.Frames.{frames};
 ghost use Rattle.union_words.specs.Meanings.{libraries_meaning};
-ghost use Rattle.union_program.specs.Deliveries.{Delivery, delivery, is_taken};
+ghost use Rattle.union_program.specs.Deliveries.{Delivery, delivery};
 ghost use Rattle.union_program.specs.Inputs.{Gathers, IsFresh, AreFresh, deliveries, state_of, states_of, file_of, files_of};
-ghost use Rattle.union_program.specs.Merged.{IsPrepared};
-ghost use Rattle.union_program.specs.Runs.{is_done};
 ghost use Rattle.union_program.specs.Stops.{behind_too_long};
-ghost use Rattle.union_program.specs.Unions.{IsLoaded};
+ghost use Rattle.union_program.specs.Unions.{IsLoaded, HasUnited};
 
 use crate::loaded::Loaded;
 use crate::opened_file::OpenedFile;
 use crate::opening::{give_back_all, open_rest};
-use crate::prepared::Prepared;
+use crate::stop_status::stop_status;
 use std::alloc::Global;
 use std::collections::VecDeque;
-use union_base::memory::Memory;
 use union_io::shelf::Shelf;
 use union_words::input::Input;
 use union_words::libraries::Libraries;
@@ -45,7 +42,7 @@ fn read_file<F: Shelf>(
     shelf.give_back(source);
     match read {
         Ok(()) => Ok(()),
-        Err(stop) => Err(stop.status(Input::Library(library))),
+        Err(stop) => Err(stop_status(stop, Input::Library(library))),
     }
 }
 
@@ -91,40 +88,20 @@ fn read_rest<F: Shelf>(
     }
 }
 
-/// Opens and reads the files of the libraries, and loads what they have.
-fn load_libraries<F: Shelf>(
+/// Opens and reads the files of the libraries, and applies what they have to one catalogue, library after library.
+pub fn load_libraries<F: Shelf>(
     alloc: Global,
     libraries: &Libraries<'_>,
     shelf: &mut F,
 ) -> Result<Loaded, Status>
     ensures gathers { Gathers result (libraries_meaning libraries.now)
         (record { files = F.files shelf.old; before = F.faults shelf.old; after = F.faults shelf.new })
-        (λ loaded contents. IsLoaded (deliveries contents (libraries_meaning libraries.now)) loaded) }
+        (λ loaded contents. HasUnited (deliveries contents (libraries_meaning libraries.now)) loaded) }
 {
+    let Ok(mut loaded) = Loaded::new(alloc) else {
+        return Err(Status::Memory);
+    };
     let mut opened = open_rest(alloc, libraries, 0, shelf)?;
-    let mut loaded = Loaded::new(alloc);
     read_rest(alloc, &mut opened, &mut loaded, shelf)?;
     Ok(loaded)
-}
-
-/// What is to be written of the files of libraries; None where this stage does not take them.
-pub fn export_libraries<F: Shelf>(
-    alloc: Global,
-    libraries: &Libraries<'_>,
-    shelf: &mut F,
-) -> Result<Option<Prepared>, Status>
-    ensures gathers { Gathers result (libraries_meaning libraries.now)
-        (record { files = F.files shelf.old; before = F.faults shelf.old; after = F.faults shelf.new })
-        (λ found contents. MatchOption found (is_taken (deliveries contents (libraries_meaning libraries.now)) ≡ false)
-        (λ prepared. (is_taken (deliveries contents (libraries_meaning libraries.now)) ≡ true)
-        × IsPrepared (deliveries contents (libraries_meaning libraries.now)) prepared)) }
-    ensures end { IfOk result (λ found. IfSome found (λ prepared. IsTrue (is_done prepared.end))) }
-{
-    match load_libraries(alloc, libraries, shelf) {
-        Ok(loaded) => match loaded.prepare(alloc) {
-            Ok(found) => Ok(found),
-            Err(Memory) => Err(Status::Memory),
-        },
-        Err(status) => Err(status),
-    }
 }

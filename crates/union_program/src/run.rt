@@ -9,12 +9,14 @@ ghost use Rattle.union_io.specs.Files.{told_of};
 ghost use Rattle.union_words.specs.Meanings.{libraries_meaning};
 ghost use Rattle.union_words.specs.Texts.{early_text};
 ghost use Rattle.union_words.specs.Words;
-ghost use Rattle.union_program.specs.Runs.{is_early, is_done, IsNoted, IsCheck, IsUnionRun, IsTold, Written};
+ghost use Rattle.union_words.specs.Flows.{IsNoted};
+ghost use Rattle.union_words.specs.Statuses.{is_early};
+ghost use Rattle.union_program.specs.Runs.{exported, IsCheck, IsUnionRun, IsTold};
 
 use crate::notes::put_early;
-use crate::prepared::Prepared;
-use crate::reading::export_libraries;
+use crate::reading::load_libraries;
 use crate::shelved::check_file;
+use crate::writing::write_export;
 use std::alloc::Global;
 use union_base::bytes::Bytes;
 use union_base::memory::Memory;
@@ -28,7 +30,7 @@ use union_words::library_file::LibraryFile;
 use union_words::status::Status;
 use union_words::texts::{HELP, VERSION, help_text, version_text};
 
-/// Whether a run that ends so ended before it wrote to its output. Takes no memory.
+/// Whether a run that ends so ended for another cause than a failed write. Takes no memory.
 fn is_early(status: &Status) -> bool
     ensures { result ≡ is_early status.now }
 {
@@ -38,8 +40,7 @@ fn is_early(status: &Status) -> bool
         | Status::OpenFault(_)
         | Status::ReadFault(_)
         | Status::TooLong(_)
-        | Status::Memory
-        | Status::NotBuilt => true,
+        | Status::Memory => true,
     }
 }
 
@@ -90,23 +91,6 @@ fn run_check<F: Shelf, O: Sink>(
     }
 }
 
-/// Writes the export and the report.
-fn write_export<O: Sink, N: Sink>(prepared: &Prepared, out: &mut O, notes: &mut N) -> Status
-    requires { IsTrue (is_done prepared.now.end) }
-    ensures { Written prepared.now.out.items prepared.now.report.items prepared.now.end
-        (record { old = O.written out.old; new = O.written out.new; before = O.faults out.old; after = O.faults out.new })
-        (record { old = N.written notes.old; new = N.written notes.new; before = N.faults notes.old; after = N.faults notes.new })
-        result }
-{
-    match put_all(out, prepared.out.as_slice()) {
-        Ok(()) => match put_all(notes, prepared.report.as_slice()) {
-            Ok(()) => prepared.end,
-            Err(Failed) => Status::WriteFault,
-        },
-        Err(Failed) => Status::WriteFault,
-    }
-}
-
 /// Exports the files of libraries.
 fn run_export<F: Shelf, O: Sink, N: Sink>(
     alloc: Global,
@@ -115,7 +99,7 @@ fn run_export<F: Shelf, O: Sink, N: Sink>(
     out: &mut O,
     notes: &mut N,
 ) -> Status
-    ensures run { IsUnionRun (libraries_meaning libraries.now)
+    ensures run { IsUnionRun exported (libraries_meaning libraries.now)
         (record { files = F.files shelf.old; before = F.faults shelf.old; after = F.faults shelf.new })
         (record { old = O.written out.old; new = O.written out.new; before = O.faults out.old; after = O.faults out.new })
         (record { old = N.written notes.old; new = N.written notes.new; before = N.faults notes.old; after = N.faults notes.new })
@@ -124,9 +108,8 @@ fn run_export<F: Shelf, O: Sink, N: Sink>(
         → IsNoted (record { old = N.written notes.old; new = N.written notes.new; before = N.faults notes.old; after = N.faults notes.new })
         (early_text result) }
 {
-    match export_libraries(alloc, libraries, shelf) {
-        Ok(Some(prepared)) => write_export(&prepared, out, notes),
-        Ok(None) => end(notes, Status::NotBuilt),
+    match load_libraries(alloc, libraries, shelf) {
+        Ok(loaded) => write_export(alloc, loaded, out, notes),
         Err(status) => end(notes, status),
     }
 }
@@ -157,7 +140,7 @@ pub fn union_run<R, F: Shelf, O: Sink, N: Sink, G: Gate>(
         (record { old = O.written out.old; new = O.written out.new; before = O.faults out.old; after = O.faults out.new })
         result }
     ensures export { (libraries : List Words.LibraryFile) → Words.job_of MOST_LIBRARIES words.now ≡ Some (Words.Export libraries)
-        → IsUnionRun libraries
+        → IsUnionRun exported libraries
         (record { files = F.files shelf.old; before = F.faults shelf.old; after = F.faults shelf.new })
         (record { old = O.written out.old; new = O.written out.new; before = O.faults out.old; after = O.faults out.new })
         (record { old = N.written notes.old; new = N.written notes.new; before = N.faults notes.old; after = N.faults notes.new })
@@ -187,6 +170,7 @@ pub fn union_run<R, F: Shelf, O: Sink, N: Sink, G: Gate>(
             end(notes, status)
         }
         Some(Job::Export(libraries)) => run_export(alloc, &libraries, shelf, out, notes),
+        Some(Job::Works(_) | Job::Script(_)) => end(notes, Status::Memory),
         Some(Job::Help) => tell(out, help_text()),
         Some(Job::Version) => tell(out, version_text()),
     }

@@ -1,7 +1,7 @@
 //! The count of a stream's frames.
 ghost use Rattle.std.specs.Prelude.{◌≤◌, ◌+◌};
 
-use crate::refused::RefusedFrame;
+use library_batches::refused::RefusedFrame;
 
 /// How many frames there are, how many of them load or withdraw a record, and which are refused.
 #[derive(Drop)]

@@ -296,7 +296,7 @@ fn refused_frames_are_told(rt: HostRuntime) -> Result<(), Fail> {
 }
 
 #[test]
-fn withdrawals_are_checked_and_not_exported(rt: HostRuntime) -> Result<(), Fail> {
+fn withdrawals_are_checked_and_exported(rt: HostRuntime) -> Result<(), Fail> {
     let findings = b"LIBA frames 1 load 0 withdraw 1 refused 0\n";
     assert!(rt;
         ends(
@@ -314,8 +314,11 @@ fn withdrawals_are_checked_and_not_exported(rt: HostRuntime) -> Result<(), Fail>
             b"export LIBA=a",
             WITHDRAWAL,
             &CALM,
-            Status::NotBuilt,
-            (b"", b"union: not built\n")
+            Status::Done,
+            (
+                b"",
+                b"LIBA frames 1 added 0 replaced 0 removed 0 absent 1 refused 0\n"
+            )
         )?
     );
     Ok(())

@@ -45,6 +45,10 @@ const BRIDGED_IN_THREE: &[u8; 341] =
 const BRIDGED_IN_TWO: &[u8; 341] =
     b"00341nam a2200157 a 4500001000800000003000600008008004100014020001500055020002200070100001400092245001400106991002400120993001300144993001300157993001300170\x1ELIBA.a1\x1EUNION\x1E240101s1991    xx                  eng d\x1E  \x1Fa0306406152\x1E  \x1Fa978-0-306-40615-7\x1E1 \x1FaHill, Ann\x1E00\x1FaRed ships\x1E  \x1Fahill, ann/red ships\x1E  \x1FaLIBA\x1Fba1\x1E  \x1FaLIBA\x1Fbb1\x1E  \x1FaLIBB\x1Fbc1\x1E\x1D";
 
+/// The export as LIBA's when the second is withdrawn: two editions.
+const PARTED: &[u8; 487] =
+    b"00257nam a2200121 a 4500001000800000003000600008008004100014020001500055100001400070245001400084991002400098993001300122\x1ELIBA.a1\x1EUNION\x1E240101s1990    xx                  eng d\x1E  \x1Fa0306406152\x1E1 \x1FaHill, Ann\x1E00\x1FaRed ships\x1E  \x1Fahill, ann/red ships\x1E  \x1FaLIBA\x1Fba1\x1E\x1D00230nam a2200109 a 4500001000800000003000600008008004100014100001400055245001400069991002400083993001300107\x1ELIBA.c1\x1EUNION\x1E240101s1991    xx                  eng d\x1E1 \x1FaHill, Ann\x1E00\x1FaRed ships\x1E  \x1Fahill, ann/red ships\x1E  \x1FaLIBA\x1Fbc1\x1E\x1D";
+
 /// A withdrawal of the record `b1`.
 const WITHDRAWAL: &[u8; 41] = b"00041dam a2200037 a 4500001000300000\x1Eb1\x1E\x1D";
 
@@ -415,15 +419,6 @@ fn each_fault_of_a_library_has_its_status(rt: HostRuntime) -> Result<(), Fail> {
             (b"", b"union: cannot open LIBB\n")
         )?
     );
-    assert!(rt;
-        ends(
-            &rt,
-            b"export LIBA=a LIBB=c",
-            &calm(ONE, b"", WITHDRAWAL),
-            Status::NotBuilt,
-            (b"", b"union: not built\n")
-        )?
-    );
     let two = joined(alloc, &[ONE, b"\r\n", OTHER])?;
     let both = joined(alloc, &[EXPORT, OTHER_EXPORT])?;
     let narrow = Files {
@@ -438,6 +433,52 @@ fn each_fault_of_a_library_has_its_status(rt: HostRuntime) -> Result<(), Fail> {
             &narrow,
             Status::WriteFault,
             (front, b"")
+        )?
+    );
+    Ok(())
+}
+
+#[test]
+fn a_withdrawn_record_is_not_exported(rt: HostRuntime) -> Result<(), Fail> {
+    let alloc = rt.alloc();
+    let [one, two, three] = BRIDGE;
+    let all = joined(alloc, &[one, two, three, WITHDRAWAL])?;
+    let left = joined(alloc, &[one, three])?;
+    assert!(rt;
+        ends(
+            &rt,
+            b"export LIBA=a",
+            &calm(all.as_slice(), b"", b""),
+            Status::Done,
+            (
+                PARTED,
+                b"LIBA frames 4 added 3 replaced 0 removed 1 absent 0 refused 0\n"
+            )
+        )?
+    );
+    assert!(rt;
+        ends(
+            &rt,
+            b"export LIBA=a",
+            &calm(left.as_slice(), b"", b""),
+            Status::Done,
+            (
+                PARTED,
+                b"LIBA frames 2 added 2 replaced 0 removed 0 absent 0 refused 0\n"
+            )
+        )?
+    );
+    let three = joined(alloc, &[one, two, three])?;
+    assert!(rt;
+        ends(
+            &rt,
+            b"export LIBA=a LIBB=c",
+            &calm(three.as_slice(), b"", WITHDRAWAL),
+            Status::Done,
+            (
+                BRIDGED,
+                b"LIBA frames 3 added 3 replaced 0 removed 0 absent 0 refused 0\nLIBB frames 1 added 0 replaced 0 removed 0 absent 1 refused 0\n"
+            )
         )?
     );
     Ok(())

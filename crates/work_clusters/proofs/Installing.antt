@@ -1,12 +1,12 @@
 -- What a change leaves, once the entries with no ids are dropped.
-use Rattle.std.proofs.Common.{◌≡◌, ℕ, Bool, true, false, cond, not, ◌&&◌, ◌||◌, List, [], ◌∷◌, ◌++◌, map, refl, sym, subst, ap, ◌∙◌}
+use Rattle.std.proofs.Common.{◌≡◌, ℕ, Bool, true, false, cond, not, ◌&&◌, ◌||◌, List, [], ◌∷◌, ◌++◌, refl, sym, ap, ◌∙◌}
 use Rattle.std.specs.Prelude.{filter}
 use Rattle.std.specs.List.{list_all}
 use Rattle.union_base.specs.Both.{both_true, true_both}
 use Rattle.union_base.specs.SortedLists.{is_ascending, has}
 use Rattle.union_base.specs.declared.record_id.RecordId.{RecordId}
-use Rattle.work_clusters.specs.Works.{key_cmp, id_cmp, pair_cmp, keys_of, ids_under, pairs_of, without, changed}
-use Rattle.work_clusters.specs.WorksLaws.{some, AreWorks, works-from_ids, has-after}
+use Rattle.work_clusters.specs.Works.{key_cmp, id_cmp, pair_cmp, keys_of, pairs_of, without, changed}
+use Rattle.work_clusters.specs.WorksLaws.{some, works-from_ids, has-after}
 use Rattle.work_clusters.specs.Entries.{has_editions, listed, works_in, AreEntries}
 use Rattle.work_clusters.specs.Steps.{Exchanges}
 use Rattle.work_clusters.specs.declared.work.Work.{Work}

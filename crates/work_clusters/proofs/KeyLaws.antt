@@ -1,18 +1,16 @@
 -- The keys that no entry has, and the entries made for them.
-use Rattle.std.proofs.Common.{◌≡◌, ℕ, ◌+◌, ◌<◌, Bool, true, false, cond, not, ◌&&◌, ◌||◌, List, [], ◌∷◌, ◌++◌, length, get_or, take, map, refl, sym, subst, ap, ◌∙◌, arith}
-use Rattle.std.specs.declared.cmp.Ordering.{Ordering}
+use Rattle.std.proofs.Common.{◌≡◌, ℕ, ◌+◌, ◌<◌, Bool, true, false, cond, not, ◌&&◌, ◌||◌, List, [], ◌∷◌, ◌++◌, length, get_or, take, map, refl, ap, ◌∙◌, arith}
 use Rattle.std.specs.declared.cmp.Ordering.TheVariants.{Less, Equal, Greater}
 use Rattle.std.specs.Ordering.{match_ordering}
-use Rattle.std.specs.List.{list_all, list_any}
+use Rattle.std.specs.List.{list_all}
 use Rattle.std.proofs.lemmas.List.Folds.{list_any-append, list_all-append}
 use Rattle.union_base.specs.Both.{both_true, true_both}
 use Rattle.union_base.specs.SortedLists.{is_ascending, put, set_of, has}
-use Rattle.union_base.specs.Ties.{texts_apart}
 use Rattle.union_base.specs.declared.record_id.RecordId.{RecordId}
 use Rattle.union_base.proofs.SortedListLaws.{is_ascending-union}
 use Rattle.work_clusters.specs.Works.{key_cmp, id_cmp, is_key, keys_of}
-use Rattle.work_clusters.specs.WorksLaws.{some, key_total, has-set_of}
-use Rattle.work_clusters.specs.Entries.{has_editions, listed, has_key, AreEntries, AreAbsent, AreNew}
+use Rattle.work_clusters.specs.WorksLaws.{some, key_total}
+use Rattle.work_clusters.specs.Entries.{listed, has_key, AreAbsent, AreNew}
 use Rattle.work_clusters.specs.declared.work.Work.{Work}
 use Rattle.work_clusters.proofs.Reading.{same_key}
 use Rattle.work_clusters.proofs.RoomLaws.{has_key-listed, pairs_with, pairs_with-more}

@@ -1,5 +1,5 @@
 -- What it makes to sort new entries in among the others.
-use Rattle.std.proofs.Common.{◌≡◌, ℕ, zero, suc, ◌+◌, ◌<◌, ◌≤◌, Bool, true, false, cond, not, ◌&&◌, ◌||◌, List, [], ◌∷◌, ◌++◌, length, get_or, map, refl, sym, subst, ap, ◌∙◌, arith}
+use Rattle.std.proofs.Common.{◌≡◌, ℕ, zero, suc, ◌+◌, ◌<◌, ◌≤◌, Bool, true, false, cond, not, ◌&&◌, ◌||◌, List, [], ◌∷◌, ◌++◌, length, get_or, refl, sym, subst, ap, ◌∙◌, arith}
 use Rattle.std.specs.Prelude.{count_by, unwrap_or, Some}
 use Rattle.std.specs.declared.cmp.Ordering.{Ordering}
 use Rattle.std.specs.declared.cmp.Ordering.TheVariants.{Less, Equal, Greater}
@@ -16,7 +16,7 @@ use Rattle.union_base.specs.Ties.{texts_apart}
 use Rattle.union_base.specs.declared.record_id.RecordId.{RecordId}
 use Rattle.work_clusters.specs.Works.{key_cmp, id_cmp, is_key, keys_of, ids_under}
 use Rattle.work_clusters.specs.WorksLaws.{some, key_total, itself, or_false, ids_under-below, same_works}
-use Rattle.work_clusters.specs.Entries.{has_editions, by_key, listed, works_in, has_key, entry_cmp, AreEntries, AreNew}
+use Rattle.work_clusters.specs.Entries.{has_editions, listed, works_in, has_key, entry_cmp, AreEntries, AreNew}
 use Rattle.work_clusters.specs.declared.work.Work.{Work}
 use Rattle.work_clusters.proofs.Reading.{same_key, ids_under-kept, works_from_entries}
 

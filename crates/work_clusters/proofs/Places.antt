@@ -1,5 +1,5 @@
 -- What a search among entries in order finds.
-use Rattle.std.proofs.Common.{◌≡◌, ℕ, zero, suc, ◌+◌, ◌<◌, ◌≤◌, Bool, true, false, cond, not, List, [], ◌∷◌, length, get_or, take, drop, Result, Ok, Err, IfOk, IfErr, Option, Some, None, inl, inr, refl, sym, subst, ap, ◌∙◌, arith}
+use Rattle.std.proofs.Common.{◌≡◌, ℕ, zero, suc, ◌+◌, ◌<◌, true, false, cond, List, [], ◌∷◌, length, get_or, drop, Result, Ok, Err, IfOk, IfErr, Option, Some, None, inl, inr, refl, sym, subst, ap, ◌∙◌, arith}
 use Rattle.std.specs.declared.cmp.Ordering.{Ordering}
 use Rattle.std.specs.declared.cmp.Ordering.TheVariants.{Less, Equal, Greater}
 use Rattle.std.specs.Ordering.{is_lt, is_eq, ordering_index, ordering_reverse}
@@ -9,12 +9,12 @@ use Rattle.std.proofs.lemmas.Bool.{cases_lt}
 use Rattle.std.specs.List.{list_all}
 use Rattle.std.specs.List.Sorted.{IsSearchInRange, IsBinarySearchResult, IsNonDecreasingBy, IsSortedBy}
 use Rattle.std.proofs.lemmas.List.Sorted.{searchable_from_sorted}
-use Rattle.union_base.specs.Both.{both_true, true_both}
+use Rattle.union_base.specs.Both.{both_true}
 use Rattle.union_base.specs.SortedLists.{is_ascending}
 use Rattle.union_base.specs.Ties.{texts_apart}
-use Rattle.work_clusters.specs.Works.{key_cmp, is_key, is_above, keys_of}
+use Rattle.work_clusters.specs.Works.{key_cmp, is_above, keys_of}
 use Rattle.work_clusters.specs.WorksLaws.{key_total, itself, apart_below}
-use Rattle.work_clusters.specs.Entries.{has_editions, listed, works_in, AreEntries, IsAt, IsGap, IsPlaceAfter}
+use Rattle.work_clusters.specs.Entries.{has_editions, listed, works_in, IsAt, IsGap, IsPlaceAfter}
 use Rattle.work_clusters.specs.declared.work.Work.{Work}
 
 lt_is : (r : Ordering) → is_lt r ≡ true → r ≡ Less

@@ -1,10 +1,8 @@
 -- What the steps of a change make of the entries, one pair and then many.
-use Rattle.std.proofs.Common.{◌≡◌, ℕ, ◌+◌, ◌-◌, ◌<◌, ◌≤◌, Bool, true, false, cond, not, ◌&&◌, ◌||◌, List, [], ◌∷◌, ◌++◌, length, get_or, set, refl, sym, subst, ap, ◌∙◌, arith}
-use Rattle.std.specs.Prelude.{filter, unwrap_or, Some, None, count_by, vec_len, vec_capacity}
-use Rattle.std.specs.declared.cmp.Ordering.{Ordering}
+use Rattle.std.proofs.Common.{◌≡◌, ℕ, ◌+◌, ◌-◌, ◌<◌, ◌≤◌, Bool, true, false, cond, not, ◌&&◌, ◌||◌, List, [], ◌∷◌, ◌++◌, get_or, set, refl, sym, subst, ap, ◌∙◌, arith}
+use Rattle.std.specs.Prelude.{unwrap_or, Some, count_by, vec_len, vec_capacity}
 use Rattle.std.specs.declared.cmp.Ordering.TheVariants.{Less, Equal, Greater}
-use Rattle.std.specs.Ordering.{is_eq, eq_by_cmp, ordering_then, ordering_reverse}
-use Rattle.std.specs.List.{list_all, list_any}
+use Rattle.std.specs.Ordering.{is_eq, eq_by_cmp, ordering_reverse}
 use Rattle.std.specs.Map.{lookup}
 use Rattle.std.proofs.lemmas.List.Folds.{list_any-append}
 use Rattle.std.proofs.lemmas.List.Sums.{sum_by-append}
@@ -13,10 +11,10 @@ use Rattle.union_base.specs.Ties.{texts_apart}
 use Rattle.union_base.specs.SortedLists.{is_ascending, put, has}
 use Rattle.union_base.specs.declared.record_id.RecordId.{RecordId}
 use Rattle.union_base.proofs.SortedListLaws.{has-put, is_ascending-put}
-use Rattle.work_clusters.specs.Works.{key_cmp, id_cmp, pair_cmp, is_key, keys_of, ids_under}
+use Rattle.work_clusters.specs.Works.{key_cmp, id_cmp, pair_cmp, is_key, ids_under}
 use Rattle.work_clusters.specs.WorksLaws.{id_total, key_total, itself, has-filter, then_eq, or_false}
 use Rattle.work_clusters.specs.Room.{HasRoom, room_under}
-use Rattle.work_clusters.specs.Entries.{by_key, listed, room_in, AreEntries, IsAt, IsGap}
+use Rattle.work_clusters.specs.Entries.{listed, room_in, AreEntries, IsAt, IsGap}
 use Rattle.work_clusters.specs.Steps.{TakesOut, PutsIn}
 use Rattle.work_clusters.specs.declared.work.Work.{Work}
 use Rattle.work_clusters.proofs.IdLists.{but, is_ascending-filter}

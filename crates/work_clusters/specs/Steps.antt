@@ -2,7 +2,7 @@
 use Rattle.std.specs.Prelude.{◌≡◌, ℕ, ◌+◌, ◌≤◌, not, ◌&&◌, ◌||◌, List, count_by}
 use Rattle.union_base.specs.SortedLists.{has}
 use Rattle.union_base.specs.declared.record_id.RecordId.{RecordId}
-use Rattle.work_clusters.specs.Works.{id_cmp, pair_cmp, is_key, keys_of, ids_under}
+use Rattle.work_clusters.specs.Works.{id_cmp, pair_cmp, is_key, ids_under}
 use Rattle.work_clusters.specs.Room.{room_under}
 use Rattle.work_clusters.specs.Entries.{listed, room_in, AreEntries}
 use Rattle.work_clusters.specs.declared.work.Work.{Work}

@@ -1,5 +1,5 @@
 -- Works: the ids of editions by work key.
-use Rattle.std.specs.Prelude.{◌≡◌, ℕ, Bool, not, true, List, ◌∷◌, [], ◌++◌, map, filter, find, unwrap_or, Option, Some, None}
+use Rattle.std.specs.Prelude.{ℕ, Bool, not, true, List, [], ◌++◌, map, filter, find, unwrap_or, Option, Some, None}
 use Rattle.std.specs.declared.cmp.Ordering.{Ordering}
 use Rattle.std.specs.Ordering.{nat_cmp, then_cmp, on, eq_by_cmp, is_lt}
 use Rattle.std.specs.Cmp.Lexicographic.{slice_cmp}

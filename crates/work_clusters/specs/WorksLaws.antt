@@ -7,12 +7,12 @@ use Rattle.std.specs.Ordering.{is_eq, is_lt, eq_by_cmp, ordering_then, ordering_
 use Rattle.std.specs.Cmp.{IsTotalOrder}
 use Rattle.std.specs.Cmp.Rules.{comparing}
 use Rattle.std.specs.FinMap.{IsAntisymmetric}
-use Rattle.std.specs.List.{list_all, list_any, flat_map}
+use Rattle.std.specs.List.{list_all}
 use Rattle.std.specs.Map.{lookup}
 use Rattle.std.proofs.lemmas.List.Folds.{list_any-append}
-use Rattle.union_base.specs.Both.{both_true, true_both}
+use Rattle.union_base.specs.Both.{both_true}
 use Rattle.union_base.specs.IdLaws.{ids_apart}
-use Rattle.union_base.specs.SortedLists.{is_ascending, put, union, set_of, has}
+use Rattle.union_base.specs.SortedLists.{is_ascending, put, set_of, has}
 use Rattle.union_base.specs.Ties.{texts_apart, then_ties}
 use Rattle.union_base.specs.declared.record_id.RecordId.{RecordId}
 use Rattle.union_base.proofs.SortedListLaws.{has-union, is_ascending-union, same_ascending}

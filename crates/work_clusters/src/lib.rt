@@ -4,7 +4,8 @@
 //! order, each list of ids in order and without repeats (specs/Works.antt). A change is planned, its room is made, and
 //! then it is installed, which takes no memory and can't be refused.
 //!
-//! Cost: a key is found by binary search. A change that brings new keys passes over all works once.
+//! Cost: a key is found by binary search among entries in order. A change takes such a search for each of its pairs, and
+//! one pass over all entries; where it brings new keys, they are sorted in by one pass more. A count is one pass.
 #![tactic(auto)]
 
 pub mod change;

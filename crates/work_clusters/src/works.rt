@@ -75,7 +75,8 @@ impl Works {
         }
     }
 
-    /// The change in which the gone pairs leave, and then the come pairs enter.
+    /// The change in which the gone pairs leave, and then the come pairs enter. Any pairs make a change: a gone pair that is
+    /// not there leaves nothing, and a come pair that is there stays. It is never refused.
     pub fn plan(
         &self,
         _alloc: Global,
@@ -90,7 +91,7 @@ impl Works {
         })
     }
 
-    /// Makes room for the change's come pairs. The works stay, whatever the answer.
+    /// Makes room for the change's come pairs; Memory where there is none. The works stay, whatever the answer.
     pub fn make_room(&mut self, alloc: Global, change: &WorkChange) -> Result<(), Memory>
         ensures works { self.new.works ≡ self.old.works }
         ensures room { OnOk result (HasRoom self.new.room change.now.come) }

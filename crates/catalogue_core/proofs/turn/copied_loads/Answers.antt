@@ -1,4 +1,4 @@
-use Rattle.std.proofs.Common.{[], sym, ap, ◌∙◌}
+use Rattle.std.proofs.Common.{sym, ap, ◌∙◌}
 use Rattle.std.specs.Prelude.{Some, None, option_copied}
 use Rattle.std.proofs.lemmas.List.{append-nil}
 use Rattle.catalogue_core.proofs.Growing.{loads-next}

@@ -1,5 +1,5 @@
 use Rattle.std.proofs.Common.{append_assoc}
-use Rattle.union_program.specs.Reports.{check_line}
+use Rattle.union_reports.specs.Reports.{check_line}
 use Rattle.union_program.proofs.check.add_check_line.Goals as goal
 
 pub returns : goal.returns

@@ -2,7 +2,7 @@ use Rattle.std.proofs.Common.{◌≡◌, ◌≤◌, ◌+◌, List}
 use Rattle.library_stream.specs.Answering.{Takes}
 use Rattle.library_stream.specs.Streaming.{opened, most_ahead}
 use Rattle.library_stream.specs.declared.frame_reader.TheConstants.{LARGEST_SOURCE}
-use Rattle.union_program.specs.Streams.{Frame}
+use Rattle.library_batches.specs.Streams.{Frame}
 use Rattle.union_program.specs.Tallies.{IsTally}
 use Rattle.union_program.proofs.check.count_frames.Given as goal
 

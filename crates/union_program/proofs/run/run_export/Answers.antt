@@ -1,11 +1,21 @@
 use Rattle.union_words.specs.Meanings.{libraries_meaning}
+use Rattle.union_program.specs.Runs.{exported}
 use Rattle.union_program.proofs.InputLaws.{flow}
-use Rattle.union_program.proofs.RunLaws.{stopped_run, keeps_all}
+use Rattle.union_program.proofs.RunLaws.{stopped_run, loaded_run, loaded_noted, keeps_all}
 use Rattle.union_program.proofs.run.run_export.Goals as goal
 
 pub returns-in-Err-clause-run : goal.returns-in-Err-clause-run
 returns-in-Err-clause-run g c =
-    rw c.end-in-Err.ensures.same
-    (stopped_run c.in-Err.status (libraries_meaning c.args.libraries.now)
-    (flow (g.F.Shelf.files c.args.shelf.now) (g.F.Shelf.faults c.args.shelf.now) (g.F.Shelf.faults c.export_libraries.new.shelf)) _ _
+    rw c.end.ensures.same
+    (stopped_run exported c.in-Err.status (libraries_meaning c.args.libraries.now)
+    (flow (g.F.Shelf.files c.args.shelf.now) (g.F.Shelf.faults c.args.shelf.now) (g.F.Shelf.faults c.load_libraries.new.shelf)) _ _
     c.in-Err.ensures.gathers (keeps_all (g.O.Sink.written c.args.out.now)))
+
+pub returns-in-Ok-clause-run : goal.returns-in-Ok-clause-run
+returns-in-Ok-clause-run g c =
+    loaded_run exported c.in-Ok.loaded c.write_export.result (libraries_meaning c.args.libraries.now)
+    (flow (g.F.Shelf.files c.args.shelf.now) (g.F.Shelf.faults c.args.shelf.now) (g.F.Shelf.faults c.load_libraries.new.shelf)) _ _
+    c.in-Ok.ensures.gathers.0 c.in-Ok.ensures.gathers.1 c.write_export.ensures
+
+pub returns-in-Ok-clause-noted : goal.returns-in-Ok-clause-noted
+returns-in-Ok-clause-noted g c = λ early. loaded_noted exported c.in-Ok.loaded c.write_export.result _ _ c.write_export.ensures early

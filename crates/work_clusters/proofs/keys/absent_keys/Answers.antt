@@ -1,6 +1,6 @@
-use Rattle.std.proofs.Common.{◌+◌, take, cond, sym, subst, ap, ◌∙◌}
+use Rattle.std.proofs.Common.{◌+◌, take, sym, subst}
 use Rattle.std.proofs.lemmas.List.{take_all}
-use Rattle.work_clusters.specs.Entries.{AreAbsent, has_key}
+use Rattle.work_clusters.specs.Entries.{AreAbsent}
 use Rattle.work_clusters.proofs.KeyLaws.{absent_none, absent_more}
 use Rattle.work_clusters.proofs.keys.absent_keys.Goals as goal
 

@@ -1,7 +1,6 @@
-use Rattle.std.proofs.Common.{◌≡◌, true, not, ◌||◌, subst, sym, ap, ◌∙◌}
-use Rattle.std.specs.List.{list_all}
+use Rattle.std.proofs.Common.{◌≡◌, not, ◌||◌, subst, ap, ◌∙◌}
 use Rattle.std.proofs.lemmas.Result.{on_ok_weaker}
-use Rattle.union_base.specs.SortedLists.{is_ascending, set_of, has}
+use Rattle.union_base.specs.SortedLists.{set_of}
 use Rattle.union_base.specs.Ties.{texts_apart}
 use Rattle.work_clusters.specs.Works.{key_cmp}
 use Rattle.work_clusters.specs.WorksLaws.{key_total, has-set_of}

@@ -1,4 +1,4 @@
-use Rattle.std.proofs.Common.{◌++◌, subst, sym, ap, ◌∙◌}
+use Rattle.std.proofs.Common.{subst}
 use Rattle.std.specs.List.Sorted.{IsPermutation}
 use Rattle.work_clusters.proofs.Merging.{merged_well, merged_works, merged_keys}
 use Rattle.work_clusters.proofs.keys.insert_entries.Goals as goal

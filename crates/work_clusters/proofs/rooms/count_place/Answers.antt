@@ -1,4 +1,4 @@
-use Rattle.std.proofs.Common.{◌≡◌, true, false, sym, ap, ◌∙◌, arith}
+use Rattle.std.proofs.Common.{◌≡◌, true, false, sym, ◌∙◌, arith}
 use Rattle.work_clusters.proofs.RoomLaws.{no_key_in_gap, listed_set, coming_here, counted_then, reserved_then, kept_then}
 use Rattle.work_clusters.proofs.rooms.count_place.Goals as goal
 

@@ -1,8 +1,8 @@
-use Rattle.std.proofs.Common.{◌≡◌, ℕ, ◌+◌, ◌<◌, ◌≤◌, Bool, true, false, cond, List, take, refl, sym, subst, ap, ◌∙◌, arith}
+use Rattle.std.proofs.Common.{◌≡◌, ℕ, ◌+◌, ◌<◌, ◌≤◌, true, false, cond, take, refl, sym, subst, ap, ◌∙◌, arith}
 use Rattle.std.proofs.lemmas.List.{take_all}
 use Rattle.work_clusters.specs.Works.{is_key}
 use Rattle.work_clusters.specs.Room.{room_under}
-use Rattle.work_clusters.specs.Entries.{has_key, listed, room_in, coming_under}
+use Rattle.work_clusters.specs.Entries.{has_key, room_in, coming_under}
 use Rattle.work_clusters.proofs.Reading.{same_key}
 use Rattle.work_clusters.proofs.RoomLaws.{well_same, has_key-same, pairs_with, pairs_with-more, pairs_with_at, pairs_with-le}
 use Rattle.work_clusters.proofs.rooms.count_places.Goals as goal

@@ -1,6 +1,6 @@
 use Rattle.std.proofs.Common.{◌+◌, Some, sym, subst, ap, ◌∙◌}
 use Rattle.std.specs.Option.{option_copied}
-use Rattle.work_clusters.specs.Entries.{IsAt, IsGap, IsPlaceAfter}
+use Rattle.work_clusters.specs.Entries.{IsPlaceAfter}
 use Rattle.work_clusters.proofs.Places.{place_after_none, place_after_at, place_after_gap}
 use Rattle.work_clusters.proofs.search.place_after.Goals as goal
 

@@ -1,4 +1,4 @@
-use Rattle.std.proofs.Common.{not, ◌&&◌, ◌||◌, ap, ◌∙◌, arith}
+use Rattle.std.proofs.Common.{◌||◌, ap, ◌∙◌, arith}
 use Rattle.union_base.specs.SortedLists.{has}
 use Rattle.work_clusters.specs.Works.{pair_cmp}
 use Rattle.work_clusters.proofs.steps.exchange.Goals as goal

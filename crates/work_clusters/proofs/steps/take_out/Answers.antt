@@ -1,4 +1,4 @@
-use Rattle.std.proofs.Common.{take, length, subst, sym, ap, ◌∙◌, ◌∷◌, [], ◌++◌, arith}
+use Rattle.std.proofs.Common.{take, subst, sym, ap, ◌∙◌, ◌∷◌, [], ◌++◌}
 use Rattle.std.proofs.lemmas.List.{take_more, take_all}
 use Rattle.work_clusters.specs.Steps.{TakesOut}
 use Rattle.work_clusters.proofs.StepLaws.{takes_out_none, takes_out_more}

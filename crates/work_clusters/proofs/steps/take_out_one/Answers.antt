@@ -1,4 +1,3 @@
-use Rattle.std.proofs.Common.{refl}
 use Rattle.work_clusters.proofs.Reading.{ids_at}
 use Rattle.work_clusters.proofs.StepLaws.{takes_out_at, takes_out_gap}
 use Rattle.work_clusters.proofs.steps.take_out_one.Goals as goal

@@ -2,7 +2,7 @@ use Rattle.std.proofs.Common.{◌≡◌, ◌+◌, true, false, not, cond, sym, a
 use Rattle.std.proofs.lemmas.List.{length_push}
 use Rattle.marc_parts.specs.Loads.{is_deleted}
 use Rattle.union_program.proofs.TallyLaws.{refused-accepted_more, withdrawals-one_more, loads-one_more}
-use Rattle.union_program.specs.Reports.{loads, withdrawals}
+use Rattle.union_reports.specs.Reports.{loads, withdrawals}
 use Rattle.union_program.proofs.tally.Tally.accept.Goals as goal
 
 pub returns-then-is_deleted-clause-counted : goal.returns-then-is_deleted-clause-counted

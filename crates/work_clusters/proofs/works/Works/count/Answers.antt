@@ -1,4 +1,4 @@
-use Rattle.std.proofs.Common.{sym, ap, ◌∙◌, length}
+use Rattle.std.proofs.Common.{ap, ◌∙◌, length}
 use Rattle.std.specs.Prelude.{filter}
 use Rattle.work_clusters.specs.Entries.{has_editions}
 use Rattle.work_clusters.proofs.Places.{length-works_in}

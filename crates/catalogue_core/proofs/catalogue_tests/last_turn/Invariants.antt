@@ -1,0 +1,5 @@
+-- the ledger of this one catalogue
+use Rattle.catalogue_core.proofs.catalogue_tests.last_turn.Given as goal
+
+abbrev pub ghosts-bridge_goes : goal.ghosts-bridge_goes
+ghosts-bridge_goes a = record { name = a.blank.name; parts = a.blank.parts }

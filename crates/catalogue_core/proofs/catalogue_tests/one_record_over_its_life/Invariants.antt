@@ -1,0 +1,5 @@
+-- the ledger of this one catalogue
+use Rattle.catalogue_core.proofs.catalogue_tests.one_record_over_its_life.Given as goal
+
+abbrev pub ghosts-load_correct_withdraw : goal.ghosts-load_correct_withdraw
+ghosts-load_correct_withdraw a = record { name = a.blank.name; parts = a.blank.parts }

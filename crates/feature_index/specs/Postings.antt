@@ -1,0 +1,30 @@
+-- A map from keys to lists of numbers, as the list of its entries. Keys are told apart by a test.
+use Rattle.std.specs.Prelude.{◌≡◌, ◌≢◌, ℕ, ◌<◌, ◌↔◌, ◌⊎◌, Bool, List, [], Contains, AllPairs, unwrap_or}
+use Rattle.std.specs.Map.{lookup}
+
+-- each number is less than those after it
+abbrev pub Ascends : List ℕ → Type 0
+Ascends numbers = AllPairs (λ m n. m < n) numbers
+
+-- the new list has the numbers of the old one, and this number
+pub record Gains (old new : List ℕ) (number : ℕ) : Type 0 where
+  pub numbers : (n : ℕ) → Contains new n ↔ (Contains old n ⊎ (n ≡ number))
+
+-- the new list has the numbers of the old one but this number
+pub record Loses (old new : List ℕ) (number : ℕ) : Type 0 where
+  pub numbers : (n : ℕ) → Contains new n ↔ (Contains old n × (n ≢ number))
+
+-- the numbers under a key, and how many more are sure to find room
+pub record Posting : Type 0 where
+  pub numbers : List ℕ
+  pub spare : ℕ
+
+-- what stands under a key: no numbers and no room, where it has no entry
+abbrev pub posting_of : {K : Type 0} → (K → K → Bool) → List (K × Posting) → K → Posting
+posting_of eq entries k = unwrap_or (lookup (eq k) entries) (record { numbers = []; spare = 0 })
+
+abbrev pub numbers_of : {K : Type 0} → (K → K → Bool) → List (K × Posting) → K → List ℕ
+numbers_of eq entries k = (posting_of eq entries k).numbers
+
+abbrev pub spare_of : {K : Type 0} → (K → K → Bool) → List (K × Posting) → K → ℕ
+spare_of eq entries k = (posting_of eq entries k).spare

@@ -1,0 +1,11 @@
+//! An index from keys to the numbers of the blocks that have them.
+//!
+//! Guarantee: `postings::Postings` is a finite map from keys to ascending lists of numbers, and once room was made for the keys
+//! of a change, the change is written without taking memory, so that it cannot stop half way. Cost: one look-up a call, and
+//! the shift of a list's later numbers where one is put in or taken out. The definitions are in specs/Postings.antt.
+#![tactic(auto)]
+
+pub mod postings;
+mod row;
+#[cfg(test)]
+mod tests;

@@ -1,0 +1,4 @@
+pub mod TallyLaws
+pub mod TurnLaws
+pub mod AskLaws
+pub mod EachLaws

@@ -1,0 +1,37 @@
+-- What the turns of a session come to.
+use Rattle.std.specs.Prelude.{◌≡◌, ◌≢◌, ℕ, ◌<◌, List, [], length, take, Option, Result, Ok, Err, IfSome, OnOk}
+use Rattle.iso2709_frame.specs.Frames.{frames}
+use Rattle.union_io.specs.Causes.{Rose}
+use Rattle.catalogue_lock.specs.Tokens.{view}
+use Rattle.library_batches.specs.Batches.{AreFirstBatches}
+use Rattle.library_batches.specs.Handing.{IsRead}
+use Rattle.library_batches.specs.Outcomes.{AreCounted}
+use Rattle.library_batches.specs.Reading.{Batching}
+use Rattle.library_batches.specs.declared.outcome_counts.OutcomeCounts.{OutcomeCounts}
+use Rattle.library_batches.specs.declared.stop.Stop.{Stop}
+use Rattle.library_batches.specs.declared.stop.Stop.TheVariants.{TooLong, Failed, Memory}
+use Rattle.atomic_table.specs.Seated.{TableId}
+use Rattle.load_sessions.specs.Sessions.{IsSameSession}
+use Rattle.load_sessions.specs.Tallies.{found}
+use Rattle.load_sessions.specs.declared.end.End.{End}
+use Rattle.load_sessions.specs.declared.end.End.TheVariants.{Done, ReadFault, TooLong as TooLongEnd, Memory as MemoryEnd}
+use Rattle.load_sessions.specs.declared.session.Session.{Session}
+
+module _ {S : Type 0} (name : S → List ℕ) (left : S → Option (List ℕ)) (faults : S → ℕ) where
+  -- the pass made turns of the first batches, and where nothing stopped it, of all; then its reader has the frames and the refused
+  -- ones, and the counts are of what came of them
+  pub record Turns (desk : TableId) (before now : Session S) (reader : Batching) (counts : OutcomeCounts) (result : Result (Unit {0}) Stop) : Type 0 where
+    pub keeps : IsSameSession name desk before now
+    pub gained : IfSome (left before.source) (λ bytes. AreFirstBatches before.library (frames (take before.limit bytes)) (view now.pass).own)
+    pub done : OnOk result (IfSome (left before.source) (λ bytes. IsRead before.library before.limit bytes (view now.pass).own reader))
+    pub counts_are : OnOk result (AreCounted (found (view now.pass).seen (view now.pass).number) counts)
+    pub long : result ≡ Err TooLong → IfSome (left before.source) (λ bytes. before.limit < length bytes)
+    pub fault : result ≡ Err Failed → Rose (faults before.source) (faults now.source)
+    pub calm : result ≢ Err Failed → faults now.source ≡ faults before.source
+
+-- the end that turns have which came to that
+abbrev pub Ends : Result (Unit {0}) Stop → End → Type 0
+Ends (Ok done) end = end ≡ Done
+Ends (Err TooLong) end = end ≡ TooLongEnd
+Ends (Err Failed) end = end ≡ ReadFault
+Ends (Err Memory) end = end ≡ MemoryEnd

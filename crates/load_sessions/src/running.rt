@@ -1,0 +1,226 @@
+//! The running of sessions.
+ghost use Rattle.std.specs.Prelude.{◌≡◌, ◌<◌, ◌≤◌, All};
+ghost use Rattle.library_batches.specs.Reading.{begun};
+ghost use Rattle.load_sessions.specs.Askers.{Asks, AsksIf, IsAsker, IsAskerIf};
+ghost use Rattle.load_sessions.specs.Sessions.{IsReady, Runs, RunsEach, counts_of};
+ghost use Rattle.load_sessions.specs.Turning.{Ends};
+
+use crate::asker::Asker;
+use crate::asking::ask_all;
+use crate::end::End;
+use crate::report::Report;
+use crate::served::Served;
+use crate::session::Session;
+use crate::turning::turn_batches;
+use catalogue_lock::desk::Desk;
+use library_batches::batch_reader::BatchReader;
+use library_batches::outcome_counts::OutcomeCounts;
+use library_batches::stop::Stop;
+use std::alloc::Global;
+use std::sync::Wait;
+use std::thread;
+use std::thread::{Threads, join_mut};
+use union_base::memory::Memory;
+use union_io::gate::Gate;
+use union_io::source::Source;
+
+/// The end of a session whose turns came to that.
+fn end_of(turned: Result<(), Stop>) -> End
+    ensures { Ends turned result }
+{
+    match turned {
+        Ok(()) => End::Done,
+        Err(Stop::TooLong) => End::TooLong,
+        Err(Stop::Failed) => End::ReadFault,
+        Err(Stop::Memory) => End::Memory,
+    }
+}
+
+/// The report of a reader that has read so far, with these counts.
+fn report_of(reader: BatchReader, counts: OutcomeCounts) -> Report
+    ensures frames { result.frames ≡ reader.frames }
+    ensures refused { result.refused.items ≡ reader.refused }
+    ensures counts { counts_of result ≡ counts }
+{
+    Report {
+        frames: reader.frames(),
+        refused: reader.into_refused(),
+        added: counts.added,
+        replaced: counts.replaced,
+        removed: counts.removed,
+        absent: counts.absent,
+    }
+}
+
+/// Runs a session with a reader that was made for it.
+fn run_reader<R: Wait, S: Source, G: Gate>(
+    rt: &R,
+    alloc: Global,
+    desk: &Desk<Served>,
+    gate: &G,
+    mut reader: BatchReader,
+    session: &mut Session<S>,
+)
+    requires ready { IsReady desk.now.board.shared.table_id session.old }
+    requires reader { reader ≡ begun session.old.library session.old.limit }
+    ensures { Runs S.name S.left S.faults desk.now.board.shared.table_id session.old session.new }
+{
+    let mut counts = OutcomeCounts::new();
+    let turned = turn_batches(rt, alloc, desk, gate, &mut reader, &mut counts, session);
+    session.report = report_of(reader, counts);
+    session.end = end_of(turned);
+}
+
+/// Runs a session: reads its source, and makes a turn for each of its batches.
+pub(crate) fn run_session<R: Wait, S: Source, G: Gate>(
+    rt: &R,
+    alloc: Global,
+    desk: &Desk<Served>,
+    gate: &G,
+    session: &mut Session<S>,
+)
+    requires { IsReady desk.now.board.shared.table_id session.old }
+    ensures { Runs S.name S.left S.faults desk.now.board.shared.table_id session.old session.new }
+{
+    match BatchReader::open(alloc, &session.library, session.limit) {
+        Ok(reader) => run_reader(rt, alloc, desk, gate, reader, session),
+        Err(Memory) => session.end = End::Memory,
+    }
+}
+
+/// Runs the sessions in their order.
+fn run_in_order<R: Wait, S: Source, G: Gate>(
+    rt: &R,
+    alloc: Global,
+    desk: &Desk<Served>,
+    gate: &G,
+    sessions: &mut [Session<S>],
+)
+    requires { All (IsReady desk.now.board.shared.table_id) sessions.old }
+    ensures { RunsEach S.name S.left S.faults desk.now.board.shared.table_id sessions.old sessions.new }
+{
+    for session in sessions.iter_mut() {
+        run_session(rt, alloc, desk, gate, session);
+    }
+}
+
+/// Runs the sessions on so many threads.
+fn run_at_once<R: Threads + Wait + Sync, S: Source + Send, G: Gate>(
+    rt: &R,
+    alloc: Global,
+    desk: &Desk<Served>,
+    gate: &G,
+    sessions: &mut [Session<S>],
+    workers: usize,
+)
+    requires workers { 0 < workers }
+    requires ready { All (IsReady desk.now.board.shared.table_id) sessions.old }
+    ensures { RunsEach S.name S.left S.faults desk.now.board.shared.table_id sessions.old sessions.new }
+{
+    let each = |_place: usize, session: &mut Session<S>|
+        requires { IsReady desk.now.board.shared.table_id session.now }
+        ensures { Runs S.name S.left S.faults desk.entry.now.board.shared.table_id session.entry.now session.exit.now }
+    { run_session(rt, alloc, desk, gate, session) };
+    thread::for_each_mut(rt, sessions, workers, &each);
+}
+
+/// Runs the sessions, with no asker.
+fn run_alone<R: Threads + Wait + Sync, S: Source + Send, G: Gate>(
+    rt: &R,
+    alloc: Global,
+    desk: &Desk<Served>,
+    gate: &G,
+    sessions: &mut [Session<S>],
+    workers: u32,
+)
+    requires workers { 1 ≤ workers }
+    requires ready { All (IsReady desk.now.board.shared.table_id) sessions.old }
+    ensures { RunsEach S.name S.left S.faults desk.now.board.shared.table_id sessions.old sessions.new }
+{
+    if workers == 1 {
+        run_in_order(rt, alloc, desk, gate, sessions)
+    } else {
+        run_at_once(rt, alloc, desk, gate, sessions, workers as usize)
+    }
+}
+
+/// Runs the sessions on so many threads, and the asker beside them.
+fn run_beside<R: Threads + Wait + Sync, S: Source + Send, G: Gate>(
+    rt: &R,
+    alloc: Global,
+    desk: &Desk<Served>,
+    gate: &G,
+    sessions: &mut [Session<S>],
+    asker: &mut Asker,
+    workers: usize,
+)
+    requires workers { 0 < workers }
+    requires ready { All (IsReady desk.now.board.shared.table_id) sessions.old }
+    requires asker { IsAsker desk.now.board.shared.table_id asker.old }
+    ensures sessions { RunsEach S.name S.left S.faults desk.now.board.shared.table_id sessions.old sessions.new }
+    ensures asker { Asks desk.now.board.shared.table_id asker.old asker.new }
+{
+    join_mut(
+        rt,
+        &mut || -> ()
+            requires { (0 < workers) × All (IsReady desk.now.board.shared.table_id) sessions.now }
+            ensures { RunsEach S.name S.left S.faults desk.entry.now.board.shared.table_id sessions.entry.now sessions.exit.now }
+        { run_at_once(rt, alloc, desk, gate, sessions, workers) },
+        &mut || ask_all(rt, alloc, desk, asker),
+    );
+}
+
+/// Runs the sessions and the asker.
+fn run_with_asker<R: Threads + Wait + Sync, S: Source + Send, G: Gate>(
+    rt: &R,
+    alloc: Global,
+    desk: &Desk<Served>,
+    gate: &G,
+    sessions: &mut [Session<S>],
+    asker: &mut Asker,
+    workers: u32,
+)
+    requires workers { 1 ≤ workers }
+    requires ready { All (IsReady desk.now.board.shared.table_id) sessions.old }
+    requires asker { IsAsker desk.now.board.shared.table_id asker.old }
+    ensures sessions { RunsEach S.name S.left S.faults desk.now.board.shared.table_id sessions.old sessions.new }
+    ensures asker { Asks desk.now.board.shared.table_id asker.old asker.new }
+{
+    if workers == 1 {
+        run_in_order(rt, alloc, desk, gate, sessions);
+        ask_all(rt, alloc, desk, asker)
+    } else {
+        run_beside(rt, alloc, desk, gate, sessions, asker, workers as usize)
+    }
+}
+
+/// Runs sessions at the desk, and an asker beside them, and answers when each has ended; it waits. No end is NotRun then.
+///
+/// Each session reads its source, cuts and checks its frames, and makes a turn with its pass for each batch of accepted
+/// operations; `gate` is told before and after each turn. With one worker the sessions run in their order and the asker runs
+/// last. With more they run on so many threads, each of which has neighbouring sessions, and the asker runs beside them.
+///
+/// A session ends with `ReadFault` only where a read of its source failed, with `TooLong` where its source gave `limit` bytes
+/// and at least one more, with `Memory` where memory ran out, and else with `Done`. The batches that a session turned are the
+/// first ones of its source whatever its end, and all of them where it is `Done`.
+pub fn run_sessions<R: Threads + Wait + Sync, S: Source + Send, G: Gate>(
+    rt: &R,
+    alloc: Global,
+    desk: &Desk<Served>,
+    sessions: &mut [Session<S>],
+    asker: Option<&mut Asker>,
+    workers: u32,
+    gate: &G,
+)
+    requires least { 1 ≤ workers }
+    requires most { workers ≤ 64 }
+    requires ready { All (IsReady desk.now.board.shared.table_id) sessions.old }
+    requires asker { IsAskerIf desk.now.board.shared.table_id asker }
+    ensures sessions { RunsEach S.name S.left S.faults desk.now.board.shared.table_id sessions.old sessions.new }
+    ensures asker { AsksIf desk.now.board.shared.table_id asker.entry asker.exit }
+{
+    match asker {
+        Some(asker) => run_with_asker(rt, alloc, desk, gate, sessions, asker, workers),
+        None => run_alone(rt, alloc, desk, gate, sessions, workers),
+    }
+}

@@ -1,0 +1,78 @@
+-- Keys that values share.
+use Rattle.std.proofs.Common.{◌≡◌, ℕ, Bool, true, false, zero, suc, eqb, List, [], ◌∷◌, ◌++◌, ◌||◌, refl, sym, ◌∙◌, ap, subst, true≢false, inl, inr, arith}
+use Rattle.std.specs.Prelude.{◌↔◌, Contains, IsTrue}
+use Rattle.std.specs.List.{list_any, dedup}
+use Rattle.std.specs.List.Sorted.{IsPermutation}
+use Rattle.std.proofs.lemmas.List.Elements.{Contains-append_left, Contains-append_right, Contains-append_cases, Contains-push, Contains-push_cases}
+use Rattle.std.proofs.lemmas.List.Kept.{Contains-dedup_nat, Contains-from_dedup}
+use Rattle.std.proofs.lemmas.List.Sorted.{IsPermutation-sym, Contains-permutation}
+use Rattle.std.specs.Cmp.{IsEquivalence}
+use Rattle.merge_laws.specs.Resolution.{KeyLaws}
+use Rattle.merge_laws.proofs.Places.{Contains-head, Contains-tail, Contains-cases}
+use Rattle.swoosh_resolver.specs.Tables.{AreKeys}
+
+module _ {K : Type 0} (eq : K → K → Bool) where
+  -- a key that the search finds is in the list
+  pub there-from_found : ((j k : K) → eq j k ≡ true → j ≡ k) → (keys : List K) (k : K) → list_any (λ y. eq y k) keys ≡ true → Contains keys k
+  there-from_found exact [] k h = absurd (true≢false (sym h))
+  there-from_found exact (y ∷ ys) k h =
+      elim (eq y k) as (λ b. eq y k ≡ b → Contains (y ∷ ys) k) [
+        | true ↦ λ e. subst (Contains (y ∷ ys)) (exact y k e) (Contains-head y ys)
+        | false ↦ λ e. Contains-tail y ys k (there-from_found exact ys k (rw e at h))
+      ] refl
+
+  -- and one that it does not find is not
+  pub absent-from_missed : IsEquivalence eq → (keys : List K) (k : K) → list_any (λ y. eq y k) keys ≡ false → Contains keys k → ⊥
+  absent-from_missed laws [] k h (i, il, e) = absurd (omega arith)
+  absent-from_missed laws (y ∷ ys) k h c =
+      elim (eq y k) as (λ b. eq y k ≡ b → ⊥) [
+        | true ↦ λ e. true≢false (rw e at h)
+        | false ↦ λ e. elim (Contains-cases y ys k c) as (λ _. ⊥) [
+          | inl same ↦ true≢false (sym (subst (λ z. eq y z ≡ true) same (laws.refl y)) ∙ e)
+          | inr c' ↦ absent-from_missed laws ys k (rw e at h) c'
+        ]
+      ] refl
+
+module _ {R K : Type 0} {match : R → R → Bool} {merge : R → R → R} {has_key : R → K → Type 0} {shares : R → R → Bool} (laws : KeyLaws match merge has_key shares) (x y : R) (xs ys : List K) (kx : AreKeys has_key x xs) (ky : AreKeys has_key y ys) where
+  -- values share a key that both lists have
+  pub shares-from_both : (k : K) → Contains xs k → Contains ys k → true ≡ shares x y
+  shares-from_both k cx cy = sym ((laws.shared x y).1 (k, (kx.members k).0 cx, (ky.members k).0 cy))
+
+  -- and share none where the lists have none in common
+  pub shares_none : ((k : K) → Contains xs k → Contains ys k → ⊥) → false ≡ shares x y
+  shares_none apart =
+      elim (shares x y) as (λ b. shares x y ≡ b → false ≡ b) [
+        | false ↦ λ e. refl
+        | true ↦ λ e. (let (k, hx, hy) = (laws.shared x y).0 e in absurd (apart k ((kx.members k).1 hx) ((ky.members k).1 hy)))
+      ] refl
+
+-- the numbers are those under the keys
+pub record AreGathered {K : Type 0} (under : K → List ℕ) (keys : List K) (numbers : List ℕ) : Type 0 where
+  pub members : (n : ℕ) → Contains numbers n ↔ ((k : K) × Contains keys k × Contains (under k) n)
+
+module _ {K : Type 0} (under : K → List ℕ) where
+  pub gathered_none : AreGathered under [] []
+  gathered_none = record { members = λ n. (λ (i, il, e). absurd (omega arith), λ (k, (i, il, e), c). absurd (omega arith)) }
+
+  pub gathered_more : (keys : List K) (numbers : List ℕ) (k : K) → AreGathered under keys numbers → AreGathered under (keys ++ k ∷ []) (numbers ++ under k)
+  gathered_more keys numbers k h = record {
+    members = λ n. (
+      λ c. elim (Contains-append_cases numbers (under k) n c) [
+        | inl old ↦ (let (j, cj, cn) = (h.members n).0 old in (j, Contains-append_left keys (k ∷ []) j cj, cn))
+        | inr new ↦ (k, Contains-push keys k, new)
+      ],
+      λ (j, cj, cn). elim (Contains-push_cases keys k j cj) [
+        | inl old ↦ Contains-append_left numbers (under k) n ((h.members n).1 (j, old, cn))
+        | inr same ↦ Contains-append_right numbers (under k) n (subst (λ q. Contains (under q) n) (sym same) cn)
+      ],
+    );
+  }
+
+  -- in ascending order and without repeats they are the same numbers
+  pub gathered_sorted : (keys : List K) (numbers sorted : List ℕ) → AreGathered under keys numbers → IsPermutation numbers sorted → AreGathered under keys (dedup eqb sorted)
+  gathered_sorted keys numbers sorted h p = record {
+    members = λ n. (
+      λ c. (h.members n).0 (Contains-permutation sorted numbers n (IsPermutation-sym numbers sorted p) (Contains-from_dedup eqb sorted n c)),
+      λ c. Contains-dedup_nat sorted n (Contains-permutation numbers sorted n p ((h.members n).1 c)),
+    );
+  }

@@ -1,0 +1,6 @@
+mod Keys
+mod Looking
+mod Places
+mod Numbering
+mod Opening
+mod Views

@@ -1,0 +1,85 @@
+-- A look for the open blocks that a value matches, among the numbers under its keys.
+use Rattle.std.proofs.Common.{◌≡◌, ℕ, ◌+◌, ◌<◌, ◌≤◌, Bool, true, false, cond, List, Option, None, Some, length, get_or, take, refl, sym, ◌∙◌, ap, subst, is_some, true≢false, if◌then◌else◌, arith}
+use Rattle.std.specs.Prelude.{◌↔◌, All, Contains, count_by}
+use Rattle.std.specs.List.{AllWithin}
+use Rattle.std.proofs.lemmas.List.{get_or_default}
+use Rattle.std.proofs.lemmas.List.Elements.{AllWithin-more}
+use Rattle.std.proofs.lemmas.List.Sums.{sum_by-take-le}
+use Rattle.std.proofs.Math.Nat.{le_trans}
+use Rattle.merge_laws.specs.Resolution.{KeyLaws}
+use Rattle.merge_laws.proofs.Places.{All-from_members}
+use Rattle.feature_index.specs.Postings.{Ascends}
+use Rattle.swoosh_resolver.specs.Tables.{Entry, AreKeys, block_at, blocks_in, without, passes}
+use Rattle.swoosh_resolver.proofs.Places.{block-from_open, number-from_block, passing-le, counted-up_to, counted-more}
+
+-- the numbers are those of the blocks that have one of the value's keys
+pub record IsLook {R K : Type 0} (has_key : R → K → Type 0) (blocks : List (Option (Entry R K))) (value : R) (keys : List K) (numbers : List ℕ) : Type 0 where
+  pub keyed : AreKeys has_key value keys
+  pub ascending : Ascends numbers
+  pub members : (n : ℕ) → Contains numbers n ↔ ((k : K) × Contains keys k × ((e : Entry R K) × (block_at blocks n ≡ Some e) × has_key e.value k))
+
+module _ {R K : Type 0} {match : R → R → Bool} {merge : R → R → R} {has_key : R → K → Type 0} {shares : R → R → Bool} (laws : KeyLaws match merge has_key shares)
+    (blocks : List (Option (Entry R K))) (closed : List ℕ) (value : R) (keys : List K) (numbers : List ℕ) (look : IsLook has_key blocks value keys numbers) where
+  abbrev left : List (Option (Entry R K))
+  left = without blocks closed
+
+  -- the open block under one of the numbers shares a key with the value
+  shares-at : (n : ℕ) → Contains numbers n → (e : Entry R K) → block_at left n ≡ Some e → shares e.value value ≡ true
+  shares-at n c e at =
+      let (k, ck, (f, there, has)) = (look.members n).0 c in
+      let same : f ≡ e = let here = block-from_open closed blocks n e at in cc in
+      (laws.shared e.value value).1 (k, subst (λ (z : Entry R K). has_key z.value k) same has, (look.keyed.members k).0 ck)
+
+  cost-at : (n : ℕ) → Contains numbers n → cond {A = ℕ} (is_some (block_at left n)) 1 0 ≤ cond (passes (λ e. shares e.value value) (block_at left n)) 1 0
+  cost-at n c = go (block_at left n) (λ e at. shares-at n c e at)
+    where
+      go : (o : Option (Entry R K)) → ((e : Entry R K) → o ≡ Some e → shares e.value value ≡ true) → cond {A = ℕ} (is_some o) 1 0 ≤ cond (passes (λ e. shares e.value value) o) 1 0
+      go None h = omega arith
+      go (Some e) h = rw (h e refl) (omega arith)
+
+  -- what was paid up to a place, and then at this place
+  pub paid-next : (start now then' i : ℕ) → i < length numbers
+      → now ≤ start + count_by (λ n. passes (λ e. shares e.value value) (block_at left n)) (take i numbers)
+      → then' ≤ now + (if is_some (block_at left (get_or numbers i 0)) then 1 else 0)
+      → then' ≤ start + count_by (λ n. passes (λ e. shares e.value value) (block_at left n)) (take (i + 1) numbers)
+  paid-next start now then' i il before one =
+      let n = get_or numbers i 0 in
+      let e : n ≡ get_or numbers i n = get_or_default numbers i 0 n il in
+      let more = counted-more (λ n. passes (λ e. shares e.value value) (block_at left n)) numbers i n il e in
+      let most = cost-at n (i, il, sym e) in
+      rw more (omega arith)
+
+  -- in all no more is paid than there are open blocks that share a key with the value
+  pub paid-all : (start now i : ℕ)
+      → now ≤ start + count_by (λ n. passes (λ e. shares e.value value) (block_at left n)) (take i numbers)
+      → now ≤ start + count_by (λ e. shares e.value value) (blocks_in left)
+  paid-all start now i paid =
+      let some = sum_by-take-le (λ n. cond (passes (λ e. shares e.value value) (block_at left n)) 1 0) numbers i in
+      let all = passing-le (λ e. shares e.value value) numbers left look.ascending in
+      omega arith
+
+  -- where no block under the numbers matches, no open block does
+  pub none-matches : (i : ℕ) → length numbers ≤ i → AllWithin (λ n. passes (λ e. match value e.value) (block_at left n) ≡ false) numbers 0 i → All (λ e. match value e.value ≡ false) (blocks_in left)
+  none-matches i past within = All-from_members (λ e. match value e.value ≡ false) (blocks_in left) (λ e c. one e c)
+    where
+      none : (n : ℕ) → Contains numbers n → passes (λ e. match value e.value) (block_at left n) ≡ false
+      none n (j, jl, e) = subst (λ m. passes (λ e. match value e.value) (block_at left m) ≡ false) e (within j n (omega arith) (omega arith))
+
+      one : (e : Entry R K) → Contains (blocks_in left) e → match value e.value ≡ false
+      one e c =
+          let (n, at) = number-from_block left e c in
+          elim (match value e.value) as (λ b. match value e.value ≡ b → match value e.value ≡ false) [
+            | false ↦ λ h. h
+            | true ↦ λ h.
+                (let (k, mine, its) = laws.matching value e.value h in
+                let stands : Contains numbers n = (look.members n).1 (k, (look.keyed.members k).1 mine, (e, block-from_open closed blocks n e at, its)) in
+                sym (ap (passes (λ e. match value e.value)) at) ∙ none n stands)
+          ] refl
+
+  -- one block more does not match
+  pub none-next : (i : ℕ) → i < length numbers → AllWithin (λ n. passes (λ e. match value e.value) (block_at left n) ≡ false) numbers 0 i
+      → passes (λ e. match value e.value) (block_at left (get_or numbers i 0)) ≡ false
+      → AllWithin (λ n. passes (λ e. match value e.value) (block_at left n) ≡ false) numbers 0 (i + 1)
+  none-next i il within here =
+      AllWithin-more (λ n. passes (λ e. match value e.value) (block_at left n) ≡ false) numbers 0 i within
+      (λ d. subst (λ m. passes (λ e. match value e.value) (block_at left m) ≡ false) (get_or_default numbers i 0 d il) here)

@@ -1,0 +1,108 @@
+-- Views of blocks and a change, when a member is taken out.
+use Rattle.std.proofs.Common.{◌≡◌, ◌≢◌, ℕ, ◌+◌, ◌<◌, Bool, false, cond, IsTrue, List, [], ◌∷◌, ◌++◌, Option, None, Some, length, get_or, map, append_assoc, refl, sym, ◌∙◌, ap, subst, inl, inr, arith}
+use Rattle.std.specs.Prelude.{All, Contains, AllPairs, IsSome, count_by, swap_remove}
+use Rattle.std.specs.List.Sorted.{IsPermutation}
+use Rattle.std.proofs.lemmas.List.{map-append}
+use Rattle.std.proofs.lemmas.List.Elements.{All-append, All-map, Contains-get_or, Contains-push_cases}
+use Rattle.std.proofs.lemmas.List.Quantifiers.{all_pairs_push}
+use Rattle.std.proofs.lemmas.List.Sorted.{IsPermutation-append_left, IsPermutation-append_right, IsPermutation-trans, IsPermutation-middle, IsPermutation-map, IsPermutation-swap_remove}
+use Rattle.std.proofs.lemmas.List.Sums.{sum_by-cons, sum_by-append}
+use Rattle.merge_laws.specs.Resolution.{AreApart, DoNotMatch}
+use Rattle.merge_laws.specs.Reach.{near}
+use Rattle.merge_laws.proofs.Places.{AllPairs-permutation, AllPairs-rest}
+use Rattle.swoosh_resolver.specs.Tables.{Entry, block_at, blocks_in, without, values_of, view_of, Fits, IsMatchAt, Merges}
+use Rattle.swoosh_resolver.proofs.Places.{without-push, block-closed, block-from_open, taken-from_set}
+
+module _ {R K : Type 0} (blocks : List (Option (Entry R K))) (closed : List ℕ) (opened : List (Entry R K)) where
+  -- an open block is closed
+  pub taken-kept : (n : ℕ) (e : Entry R K) → block_at (without blocks closed) n ≡ Some e → IsPermutation (view_of blocks closed opened) (e.value ∷ view_of blocks (closed ++ n ∷ []) opened)
+  taken-kept n e stands =
+      let rest = blocks_in (without blocks (closed ++ n ∷ [])) in
+      let one : IsPermutation (blocks_in (without blocks closed)) (e ∷ rest) = rw (without-push blocks closed n) (taken-from_set (without blocks closed) n e stands) in
+      IsPermutation-map (λ (e : Entry R K). e.value) (blocks_in (without blocks closed) ++ opened) (e ∷ rest ++ opened)
+      (IsPermutation-append_left opened (blocks_in (without blocks closed)) (e ∷ rest) one)
+
+  -- an opened value is taken back
+  pub taken-fresh : (i : ℕ) (e : Entry R K) → i < length opened → e ≡ get_or opened i e → IsPermutation (view_of blocks closed opened) (e.value ∷ view_of blocks closed (swap_remove opened i e))
+  taken-fresh i e il is =
+      let left = blocks_in (without blocks closed) in
+      let rest = swap_remove opened i e in
+      IsPermutation-map (λ (e : Entry R K). e.value) (left ++ opened) (e ∷ left ++ rest)
+      (IsPermutation-trans (left ++ opened) (left ++ e ∷ rest) (e ∷ left ++ rest)
+      (IsPermutation-append_right left opened (e ∷ rest) (IsPermutation-swap_remove opened i e il is))
+      (IsPermutation-middle left e rest))
+
+  module _ {match : R → R → Bool} (fits : Fits match blocks closed opened) where
+    apart-taken : (v : R) (rest : List R) → IsPermutation (view_of blocks closed opened) (v ∷ rest) → AreApart match rest
+    apart-taken v rest p =
+        AllPairs-rest (DoNotMatch match) v rest
+        (AllPairs-permutation (DoNotMatch match) (λ x y h. (h.1, h.0)) (view_of blocks closed opened) (v ∷ rest) p fits.apart)
+
+    pub fits-kept : (n : ℕ) (e : Entry R K) → block_at (without blocks closed) n ≡ Some e → Fits match blocks (closed ++ n ∷ []) opened
+    fits-kept n e stands = record {
+      distinct = all_pairs_push (λ m n. m ≢ n) closed n fits.distinct
+          (λ k d kl same. let none : block_at (without blocks closed) n ≡ None = block-closed closed blocks n (subst (Contains closed) same (Contains-get_or closed k d kl)) in cc);
+      named = λ m c. elim (Contains-push_cases closed n m c) as (λ _. IsSome (block_at blocks m)) [
+        | inl old ↦ fits.named m old
+        | inr same ↦ subst (λ m. IsSome (block_at blocks m)) same (let there = block-from_open closed blocks n e stands in rw there refl)
+      ];
+      apart = apart-taken e.value (view_of blocks (closed ++ n ∷ []) opened) (taken-kept n e stands);
+    }
+
+    pub fits-fresh : (i : ℕ) (e : Entry R K) → i < length opened → e ≡ get_or opened i e → Fits match blocks closed (swap_remove opened i e)
+    fits-fresh i e il is = record {
+      distinct = fits.distinct;
+      named = fits.named;
+      apart = apart-taken e.value (view_of blocks closed (swap_remove opened i e)) (taken-fresh i e il is);
+    }
+
+  count-map : (test : R → Bool) (entries : List (Entry R K)) → count_by test (values_of entries) ≡ count_by (λ e. test e.value) entries
+  count-map test [] = refl
+  count-map test (e ∷ es) =
+      let more = sum_by-cons (λ v. cond (test v) 1 0) e.value (values_of es) in
+      let more' = sum_by-cons (λ (e : Entry R K). cond (test e.value) 1 0) e es in
+      let rest = count-map test es in
+      omega arith
+
+  -- the members of the view that share a key are blocks, or opened values
+  pub near-view : (shares : R → R → Bool) (x : R) → near shares (view_of blocks closed opened) x ≡ count_by (λ e. shares e.value x) (blocks_in (without blocks closed)) + count_by (λ e. shares e.value x) opened
+  near-view shares x =
+      count-map (λ w. shares w x) (blocks_in (without blocks closed) ++ opened)
+      ∙ sum_by-append (λ (e : Entry R K). cond (shares e.value x) 1 0) (blocks_in (without blocks closed)) opened
+
+  -- what holds of the blocks and of the opened values holds of the view
+  pub All-view : (P : R → Type 0) → All (λ e. P e.value) (blocks_in (without blocks closed)) → All (λ e. P e.value) opened → All P (view_of blocks closed opened)
+  All-view P kept fresh =
+      All-map P (λ (e : Entry R K). e.value) (blocks_in (without blocks closed) ++ opened)
+      (All-append (λ (e : Entry R K). P e.value) (blocks_in (without blocks closed)) opened kept fresh)
+
+  -- the value is merged with an open block
+  pub merges-kept : {match : R → R → Bool} {merge : R → R → R} (value block merged : R) (n : ℕ) → IsMatchAt match (without blocks closed) value n block → merged ≡ merge block value → Merges match merge blocks closed opened value (closed ++ n ∷ []) opened merged
+  merges-kept {match} value block merged n m is = record {
+    by = m.by.value;
+    taken = taken-kept n m.by m.stands;
+    matches = subst (λ b. IsTrue (match value b)) m.is m.matches;
+    is = rw (← m.is) is;
+  }
+
+  -- the value is merged with an opened value
+  pub merges-fresh : {match : R → R → Bool} {merge : R → R → R} (value merged : R) (i : ℕ) (e : Entry R K) → i < length opened → e ≡ get_or opened i e → IsTrue (match value e.value) → merged ≡ merge e.value value → Merges match merge blocks closed opened value closed (swap_remove opened i e) merged
+  merges-fresh value merged i e il at matches is = record {
+    by = e.value;
+    taken = taken-fresh i e il at;
+    matches = matches;
+    is = is;
+  }
+
+  -- one value more is opened
+  pub view-push : (e : Entry R K) → view_of blocks closed (opened ++ e ∷ []) ≡ view_of blocks closed opened ++ e.value ∷ []
+  view-push e =
+      ap values_of (sym (append_assoc (blocks_in (without blocks closed)) opened (e ∷ [])))
+      ∙ map-append (λ (e : Entry R K). e.value) (blocks_in (without blocks closed) ++ opened) (e ∷ [])
+
+  pub fits-push : {match : R → R → Bool} → Fits match blocks closed opened → (e : Entry R K) → AreApart match (view_of blocks closed opened ++ e.value ∷ []) → Fits match blocks closed (opened ++ e ∷ [])
+  fits-push {match} fits e apart = record {
+    distinct = fits.distinct;
+    named = fits.named;
+    apart = subst (AreApart match) (sym (view-push e)) apart;
+  }

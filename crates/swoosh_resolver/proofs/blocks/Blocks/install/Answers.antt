@@ -1,0 +1,59 @@
+use Rattle.std.proofs.Common.{◌≡◌, ◌<◌, ◌≤◌, ◌+◌, ◌++◌, None, length, sym, ◌∙◌, ap, subst, arith}
+use Rattle.std.specs.Prelude.{Contains, IsSome, vec_capacity}
+use Rattle.std.specs.List.Sorted.{IsPermutation}
+use Rattle.std.proofs.lemmas.List.Sorted.{IsPermutation-map}
+use Rattle.merge_laws.specs.Resolution.{AreApart, DoNotMatch}
+use Rattle.merge_laws.proofs.Places.{AllPairs-permutation}
+use Rattle.swoosh_resolver.specs.Tables.{Entry, AreBlocks, Fits, HasRoom, block_at, blocks_in, values_of, view_of, without}
+use Rattle.swoosh_resolver.proofs.Places.{block-closed, length-without}
+use Rattle.swoosh_resolver.proofs.Opening.{within-from_some}
+use Rattle.swoosh_resolver.proofs.blocks.Blocks.install.Goals as goal
+
+pub open_all-requires-clause-free : goal.open_all-requires-clause-free
+open_all-requires-clause-free g c n there =
+    let blocks = c.self.inside.blocks.items in
+    let closed = c.args.change.closed.items in
+    let fits : Fits g.R.Resolvable.meets blocks closed c.args.change.opened.items = rw (← c.self.view_is) at c.requires.fits in
+    let in' : Contains closed n = rw c.as_slice-2.ensures.value at there in
+    let within = within-from_some blocks n (fits.named n in') in
+    let same = length-without closed blocks in
+    let left : c.close_all.new.blocks.items ≡ without blocks closed = c.close_all.ensures.blocks ∙ ap (without blocks) c.as_slice.ensures.value in
+    rw left (omega arith, block-closed closed blocks n in')
+
+pub open_all-requires-clause-places : goal.open_all-requires-clause-places
+open_all-requires-clause-places g c =
+    let blocks = c.self.inside.blocks.items in
+    let closed = c.args.change.closed.items in
+    let room = (rw (← c.self.view_is) at c.requires.room).places in
+    let same = length-without closed blocks in
+    let left : c.close_all.new.blocks.items ≡ without blocks closed = c.close_all.ensures.blocks ∙ ap (without blocks) c.as_slice.ensures.value in
+    let n = ap length left in
+    let m = ap length c.as_slice-2.ensures.value in
+    let capacity = c.close_all.ensures.capacity in
+    omega (arith, c.self.inside.blocks.ok)
+
+pub invariant_of-self : goal.invariant_of-self
+invariant_of-self g c =
+    let blocks = c.self.inside.blocks.items in
+    let closed = c.args.change.closed.items in
+    let left : c.close_all.new.blocks.items ≡ without blocks closed = c.close_all.ensures.blocks ∙ ap (without blocks) c.as_slice.ensures.value in
+    let opened = c.args.change.opened.items in
+    let view : IsPermutation (view_of blocks closed opened) (values_of (blocks_in c.open_all.new.blocks.items)) =
+    IsPermutation-map (λ (e : Entry g.row.R.Denot g.row.R-Key.Denot). e.value) (blocks_in (without blocks closed) ++ opened) (blocks_in c.open_all.new.blocks.items)
+    (rw left at c.open_all.ensures.view) in
+    let fits : Fits g.R.Resolvable.meets blocks closed opened = rw (← c.self.view_is) at c.requires.fits in
+    record {
+      apart = AllPairs-permutation (DoNotMatch g.R.Resolvable.meets) (λ x y h. (h.1, h.0)) (view_of blocks closed opened) (values_of (blocks_in c.open_all.new.blocks.items)) view fits.apart;
+      posted = c.open_all.ensures.posted;
+    }
+
+pub returns-clause-view : goal.returns-clause-view
+returns-clause-view g c =
+    let blocks = c.self.inside.blocks.items in
+    let closed = c.args.change.closed.items in
+    let left : c.close_all.new.blocks.items ≡ without blocks closed = c.close_all.ensures.blocks ∙ ap (without blocks) c.as_slice.ensures.value in
+    let opened = c.args.change.opened.items in
+    let view : IsPermutation (view_of blocks closed opened) (values_of (blocks_in c.open_all.new.blocks.items)) =
+    IsPermutation-map (λ (e : Entry g.row.R.Denot g.row.R-Key.Denot). e.value) (blocks_in (without blocks closed) ++ opened) (blocks_in c.open_all.new.blocks.items)
+    (rw left at c.open_all.ensures.view) in
+    rw (← c.self.view_is) view

@@ -1,0 +1,52 @@
+use Rattle.std.proofs.Common.{◌≡◌, ◌<◌, ◌≤◌, ◌+◌, false, IsTrue, Some, get_or, length, refl, sym, ◌∙◌, ap, subst, arith}
+use Rattle.std.specs.Prelude.{All}
+use Rattle.swoosh_resolver.specs.Tables.{Entry, IsMatchAt, without, blocks_in}
+use Rattle.swoosh_resolver.proofs.Views.{merges-kept, merges-fresh, fits-kept, fits-fresh, All-view}
+use Rattle.swoosh_resolver.proofs.blocks.Blocks.merge_next.Goals as goal
+
+pub returns-in-Some-clause-merged : goal.returns-in-Some-clause-merged
+returns-in-Some-clause-merged g c =
+    let blocks = c.args.self.now.blocks in
+    let change = c.args.change.now in
+    let found : IsMatchAt g.R.Resolvable.meets (without blocks change.closed.items) c.args.value.now.value c.in-Some.number c.in-Some.block.now = rw (← c.as_slice.ensures.value) (rw c.in-Some.is at c.in_ok-number.ensures.found) in
+    let value = ap (λ (e : Entry g.row.R.Denot g.row.R-Key.Denot). e.value) c.value.view_is in
+    rw c.in_ok-push.ensures.items
+    (merges-kept blocks change.closed.items change.opened.items c.args.value.now.value c.in-Some.block.now c.in_ok-merged.merged c.in-Some.number found
+    (c.in_ok-merged.ensures ∙ ap (g.R.Join.join c.in-Some.block.now) value))
+
+pub returns-in-Some-clause-fits : goal.returns-in-Some-clause-fits
+returns-in-Some-clause-fits g c =
+    let blocks = c.args.self.now.blocks in
+    let change = c.args.change.now in
+    let found : IsMatchAt g.R.Resolvable.meets (without blocks change.closed.items) c.args.value.now.value c.in-Some.number c.in-Some.block.now = rw (← c.as_slice.ensures.value) (rw c.in-Some.is at c.in_ok-number.ensures.found) in
+    rw c.in_ok-push.ensures.items (fits-kept blocks change.closed.items change.opened.items c.requires c.in-Some.number found.by found.stands)
+
+pub returns-in_ok-joined-in-Some-first_fresh-clause-merged : goal.returns-in_ok-joined-in-Some-first_fresh-clause-merged
+returns-in_ok-joined-in-Some-first_fresh-clause-merged g c =
+    let change = c.args.change.now in
+    let place = c.in-Some-first_fresh.place in
+    let other = c.swap_remove-other.result in
+    let within : place < length change.opened.items = rw c.as_slice-2.ensures.value at c.in-Some-first_fresh.ensures.within in
+    let found : IsTrue (g.R.Resolvable.meets c.args.value.now.value (get_or change.opened.items place other).value) = (rw c.as_slice-2.ensures.value at c.in-Some-first_fresh.ensures.found) other in
+    let matches : IsTrue (g.R.Resolvable.meets c.args.value.now.value other.value) = subst (λ (e : Entry g.row.R.Denot g.row.R-Key.Denot). IsTrue (g.R.Resolvable.meets c.args.value.now.value e.value)) (sym c.swap_remove-other.ensures.value) found in
+    let value = ap (λ (e : Entry g.row.R.Denot g.row.R-Key.Denot). e.value) c.value.view_is in
+    let its = ap (λ (e : Entry g.row.R.Denot g.row.R-Key.Denot). e.value) c.other.view_is in
+    rw c.swap_remove-other.ensures.items
+    (merges-fresh c.args.self.now.blocks change.closed.items change.opened.items c.args.value.now.value c.in_ok-joined-in-Some-first_fresh.field-0 place other within c.swap_remove-other.ensures.value matches
+    (c.in_ok-joined-in-Some-first_fresh.ensures ∙ ap (λ v. g.R.Join.join v c.value.inside.value) its ∙ ap (g.R.Join.join other.value) value))
+
+pub returns-in_ok-joined-in-Some-first_fresh-clause-fits : goal.returns-in_ok-joined-in-Some-first_fresh-clause-fits
+returns-in_ok-joined-in-Some-first_fresh-clause-fits g c =
+    let change = c.args.change.now in
+    let place = c.in-Some-first_fresh.place in
+    let within : place < length change.opened.items = rw c.as_slice-2.ensures.value at c.in-Some-first_fresh.ensures.within in
+    rw c.swap_remove-other.ensures.items
+    (fits-fresh c.args.self.now.blocks change.closed.items change.opened.items c.requires place c.swap_remove-other.result within c.swap_remove-other.ensures.value)
+
+pub returns-in-None-clause-none : goal.returns-in-None-clause-none
+returns-in-None-clause-none g c =
+    let blocks = c.args.self.now.blocks in
+    let change = c.args.change.now in
+    let kept = rw c.as_slice.ensures.value at (rw c.in_default.is at c.in_ok-number.ensures.none) in
+    let fresh = rw c.as_slice-2.ensures.value at c.in-None.ensures.none in
+    (refl, refl, All-view blocks change.closed.items change.opened.items (λ w. g.R.Resolvable.meets c.args.value.now.value w ≡ false) kept fresh)

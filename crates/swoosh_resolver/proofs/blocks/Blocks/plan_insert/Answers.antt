@@ -1,0 +1,83 @@
+use Rattle.std.proofs.Common.{◌≡◌, ◌≤◌, ◌+◌, false, suc, length, [], ◌∷◌, ◌++◌, sym, ◌∙◌, ap, subst, arith}
+use Rattle.std.specs.Prelude.{All}
+use Rattle.std.proofs.lemmas.List.Sorted.{length_permutation}
+use Rattle.merge_laws.specs.Resolution.{IsResolution, AreApart}
+use Rattle.merge_laws.proofs.Inserting.{IsInserting, inserting_none, inserting_joined, inserting_bound}
+use Rattle.merge_laws.proofs.Resolving.{IsResolving, resolving_kept, IsResolution-from_resolving}
+use Rattle.swoosh_resolver.specs.Tables.{Entry, view_of, Fits, Merges}
+use Rattle.swoosh_resolver.proofs.Views.{view-push, fits-push}
+use Rattle.swoosh_resolver.proofs.blocks.Blocks.plan_insert.Goals as goal
+
+pub loop-value-init : goal.loop-value-init
+loop-value-init g c = record {
+  fits = c.requires;
+  inserting = rw c.in_ok-value.ensures
+      (inserting_none g.met.R.Join.join_laws g.met.R.Resolvable.match_laws g.met.R.Resolvable.key_laws (view_of c.args.self.now.blocks c.args.change.closed.items c.args.change.opened.items)
+      c.args.value c.args.steps.now c.requires.apart);
+}
+
+pub loop-value-smaller : goal.loop-value-smaller
+loop-value-smaller g c =
+    let merges = rw c.in-Some.is at c.in_ok-merged.ensures.merged in
+    let l = length_permutation _ _ merges.taken in
+    omega arith
+
+pub loop-value-preserved : goal.loop-value-preserved
+loop-value-preserved g c =
+    let merges = rw c.in-Some.is at c.in_ok-merged.ensures.merged in
+    record {
+      fits = c.in_ok-merged.ensures.fits;
+      inserting = rw (c.in_ok-value-2.ensures, merges.is)
+          (inserting_joined g.met.R.Join.join_laws g.met.R.Resolvable.match_laws g.met.R.Resolvable.key_laws (view_of c.args.self.now.blocks c.args.change.closed.items c.args.change.opened.items)
+          c.args.value c.args.steps.now c.loop-value.steps c.loop-value.value.value (view_of c.args.self.now.blocks c.loop-value.change.closed.items c.loop-value.change.opened.items) c.merge_next.new.steps merges.by
+          (view_of c.args.self.now.blocks c.merge_next.new.change.closed.items c.merge_next.new.change.opened.items) c.loop-value.invariant.inserting c.merge_next.ensures.cost merges.taken merges.matches);
+    }
+
+pub returns-clause-fits : goal.returns-clause-fits
+returns-clause-fits g c =
+    let blocks = c.args.self.now.blocks in
+    let change = c.loop-value.change in
+    let list = view_of blocks c.args.change.closed.items c.args.change.opened.items ++ c.args.value ∷ [] in
+    let view = view_of blocks change.closed.items change.opened.items in
+    let value = c.loop-value.value in
+    let none = rw c.in_default.is at c.in_ok-merged.ensures.none in
+    let kept : IsResolving g.R.Resolvable.meets g.R.Join.join list [] (view ++ value.value ∷ []) =
+    resolving_kept g.met.R.Join.join_laws g.met.R.Resolvable.match_laws list [] view value.value c.loop-value.invariant.inserting.resolving none.2 in
+    rw (c.in_ok-push.ensures.items, none.0, none.1) (fits-push blocks change.closed.items change.opened.items c.loop-value.invariant.fits value kept.apart)
+
+pub returns-clause-resolved : goal.returns-clause-resolved
+returns-clause-resolved g c =
+    let blocks = c.args.self.now.blocks in
+    let change = c.loop-value.change in
+    let list = view_of blocks c.args.change.closed.items c.args.change.opened.items ++ c.args.value ∷ [] in
+    let view = view_of blocks change.closed.items change.opened.items in
+    let value = c.loop-value.value in
+    let none = rw c.in_default.is at c.in_ok-merged.ensures.none in
+    let kept : IsResolving g.R.Resolvable.meets g.R.Join.join list [] (view ++ value.value ∷ []) =
+    resolving_kept g.met.R.Join.join_laws g.met.R.Resolvable.match_laws list [] view value.value c.loop-value.invariant.inserting.resolving none.2 in
+    rw (c.in_ok-push.ensures.items, none.0, none.1, view-push blocks change.closed.items change.opened.items value)
+    (IsResolution-from_resolving g.met.R.Join.join_laws g.met.R.Resolvable.match_laws list (view ++ value.value ∷ []) kept)
+
+pub returns-in_err-merged-clause-cost : goal.returns-in_err-merged-clause-cost
+returns-in_err-merged-clause-cost g c all x r cx d =
+    let view = view_of c.args.self.now.blocks c.loop-value.change.closed.items c.loop-value.change.opened.items in
+    inserting_bound g.met.R.Join.join_laws g.met.R.Resolvable.match_laws g.met.R.Resolvable.key_laws (view_of c.args.self.now.blocks c.args.change.closed.items c.args.change.opened.items) c.args.value
+    c.args.steps.now c.loop-value.steps c.loop-value.value.value view c.merge_next.new.steps c.loop-value.invariant.inserting c.merge_next.ensures.cost all x r cx d
+
+pub returns-in_err-value-2-clause-cost : goal.returns-in_err-value-2-clause-cost
+returns-in_err-value-2-clause-cost g c all x r cx d =
+    let view = view_of c.args.self.now.blocks c.loop-value.change.closed.items c.loop-value.change.opened.items in
+    inserting_bound g.met.R.Join.join_laws g.met.R.Resolvable.match_laws g.met.R.Resolvable.key_laws (view_of c.args.self.now.blocks c.args.change.closed.items c.args.change.opened.items) c.args.value
+    c.args.steps.now c.loop-value.steps c.loop-value.value.value view c.merge_next.new.steps c.loop-value.invariant.inserting c.merge_next.ensures.cost all x r cx d
+
+pub returns-in_err-push-clause-cost : goal.returns-in_err-push-clause-cost
+returns-in_err-push-clause-cost g c all x r cx d =
+    let view = view_of c.args.self.now.blocks c.loop-value.change.closed.items c.loop-value.change.opened.items in
+    inserting_bound g.met.R.Join.join_laws g.met.R.Resolvable.match_laws g.met.R.Resolvable.key_laws (view_of c.args.self.now.blocks c.args.change.closed.items c.args.change.opened.items) c.args.value
+    c.args.steps.now c.loop-value.steps c.loop-value.value.value view c.merge_next.new.steps c.loop-value.invariant.inserting c.merge_next.ensures.cost all x r cx d
+
+pub returns-clause-cost : goal.returns-clause-cost
+returns-clause-cost g c all x r cx d =
+    let view = view_of c.args.self.now.blocks c.loop-value.change.closed.items c.loop-value.change.opened.items in
+    inserting_bound g.met.R.Join.join_laws g.met.R.Resolvable.match_laws g.met.R.Resolvable.key_laws (view_of c.args.self.now.blocks c.args.change.closed.items c.args.change.opened.items) c.args.value
+    c.args.steps.now c.loop-value.steps c.loop-value.value.value view c.merge_next.new.steps c.loop-value.invariant.inserting c.merge_next.ensures.cost all x r cx d

@@ -1,0 +1,6 @@
+use Rattle.std.proofs.Common.{◌≡◌}
+use Rattle.swoosh_resolver.specs.Tables.{AreNumbers}
+use Rattle.swoosh_resolver.proofs.install.numbers_of_opened.Given as goal
+
+abbrev pub invariant-loop-place : goal.invariant-loop-place
+invariant-loop-place l = AreNumbers l.closed l.first l.place l.numbers.items

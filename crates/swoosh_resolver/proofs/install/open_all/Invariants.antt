@@ -1,0 +1,17 @@
+-- the values so far are opened
+use Rattle.std.proofs.Common.{◌≡◌, ◌≤◌, ◌+◌, ◌++◌, length}
+use Rattle.std.specs.Prelude.{count_by, vec_capacity}
+use Rattle.feature_index.specs.Postings.{spare_of}
+use Rattle.swoosh_resolver.specs.Tables.{ArePosted, keys_in}
+use Rattle.swoosh_resolver.proofs.Opening.{IsOpening}
+use Rattle.swoosh_resolver.proofs.install.open_all.Given as goal
+
+abbrev pub invariant-loop-keyed : goal.invariant-loop-keyed
+invariant-loop-keyed g l = record {
+  place : l.place ≡ length l.yielded;
+  rest : l.yielded ++ l.keyed-iterator.rest.items ≡ l.fn.opened.items;
+  opening : IsOpening l.fn.blocks.items l.closed l.yielded l.blocks.items;
+  posted : ArePosted g.R.Key.PartialEq.eq g.R.Resolvable.has_key l.blocks.items l.postings;
+  spares : (k : g.row.R-Key.Denot) → spare_of g.R.Key.PartialEq.eq l.fn.postings k ≤ spare_of g.R.Key.PartialEq.eq l.postings k + count_by (g.R.Key.PartialEq.eq k) (keys_in l.yielded);
+  capacity : vec_capacity l.fn.blocks ≤ vec_capacity l.blocks;
+}

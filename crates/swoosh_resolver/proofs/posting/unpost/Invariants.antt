@@ -1,0 +1,8 @@
+-- the number was taken from under the keys so far
+use Rattle.std.proofs.Common.{◌≡◌, ℕ, take}
+use Rattle.feature_index.specs.Postings.{spare_of}
+use Rattle.swoosh_resolver.proofs.Numbering.{IsUnposted}
+use Rattle.swoosh_resolver.proofs.posting.unpost.Given as goal
+
+abbrev pub invariant-loop-key : goal.invariant-loop-key
+invariant-loop-key g l = IsUnposted g.R.Key.PartialEq.eq l.initial.postings (take l.key-index l.key-items) l.number l.postings

@@ -1,0 +1,19 @@
+//! Changes of blocks, on their way.
+use crate::keyed::Keyed;
+use merge_laws::resolvable::Resolvable;
+
+/// A change of blocks that is planned and not installed: the numbers of the blocks that it closes, and the values that it opens.
+#[derive(Drop)]
+pub struct Change<R: Resolvable> {
+    pub closed: Vec<u64>,
+    pub opened: Vec<Keyed<R>>,
+}
+
+/// Where a member of a view stands.
+#[derive(Clone, Copy, Debug, PartialEq, Eq)]
+pub enum Place {
+    /// The block under this number, which is not closed.
+    Kept(u64),
+    /// The opened value at this place of the change.
+    Fresh(u64),
+}

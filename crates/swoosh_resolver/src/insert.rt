@@ -1,0 +1,158 @@
+//! The insertion of a value.
+ghost use Rattle.std.specs.Prelude.{◌≡◌, ◌+◌, ◌<◌, ◌≤◌, ◌↔◌, ◌++◌, ℕ, [], ◌∷◌, Some, false, IsTrue, is_some, if◌then◌else◌, IfOk, IfSome, IfNone, OnOk, All, List, Contains, length, slice_index_or, count_by};
+ghost use Rattle.merge_laws.specs.Resolution.{IsResolution, IsDominated};
+ghost use Rattle.merge_laws.specs.Reach.{near, reach};
+ghost use Rattle.feature_index.specs.Postings.{Ascends};
+ghost use Rattle.swoosh_resolver.specs.Tables.{Entry, block_at, blocks_in, without, passes, view_of, Fits, IsMatchAt, Merges};
+
+use crate::blocks::Blocks;
+use crate::change::Change;
+use crate::keyed::Keyed;
+use merge_laws::resolvable::Resolvable;
+use merge_laws::steps::Steps;
+use std::alloc::Global;
+use std::sync::ledger::Ledger;
+use union_base::memory::Memory;
+
+/// The place of the first of the values that shares a key with the given one and matches it. Takes no memory.
+fn first_fresh<R: Resolvable, L: Ledger>(
+    opened: &[Keyed<R>],
+    value: &Keyed<R>,
+    steps: &mut Steps<L>,
+) -> Option<usize>
+    ensures within { IfSome result (λ i. i < length opened.now) }
+    ensures found { IfSome result (λ i. (d : Entry R R.Key) → IsTrue (R.meets value.now.value (slice_index_or opened.now i d).value)) }
+    ensures none { IfNone result (All (λ e. R.meets value.now.value e.value ≡ false) opened.now) }
+    ensures cost { steps.new ≤ steps.old + count_by (λ e. R.shares e.value value.now.value) opened.now }
+{
+    for (place, other) in opened.iter().enumerate() {
+        if value.matches(other, steps) {
+            return Some(place);
+        }
+    }
+    None
+}
+
+impl<R: Resolvable> Blocks<R> {
+    /// The numbers of the blocks that have one of the keys, in ascending order. Memory where it runs out.
+    fn candidates(&self, alloc: Global, keys: &[R::Key]) -> Result<Vec<u64>, Memory>
+        ensures ascending { IfOk result (λ numbers. Ascends numbers.items) }
+        ensures members { IfOk result (λ numbers. (n : ℕ) → Contains numbers.items n
+            ↔ ((k : R.Key) × Contains keys.now k × ((e : Entry R R.Key) × (block_at self.now.blocks n ≡ Some e) × R.has_key e.value k))) }
+    {
+        let mut numbers = Vec::new(alloc);
+        for key in keys.iter() {
+            numbers.extend_from_slice(self.postings.of(key))?;
+        }
+        numbers.sort()?;
+        numbers.dedup();
+        Ok(numbers)
+    }
+
+    /// The block under the number, where it is not closed and the value matches it. Takes no memory.
+    fn kept_match<L: Ledger>(
+        &self,
+        closed: &[u64],
+        number: u64,
+        value: &Keyed<R>,
+        steps: &mut Steps<L>,
+    ) -> Option<&R>
+        ensures some { IfSome result (λ b. IsMatchAt R.meets (without self.now.blocks closed.now) value.now.value number b.now) }
+        ensures none { IfNone result (passes (λ e. R.meets value.now.value e.value) (block_at (without self.now.blocks closed.now) number) ≡ false) }
+        ensures cost { steps.new ≤ steps.old + (if is_some (block_at (without self.now.blocks closed.now) number) then 1 else 0) }
+    {
+        if closed.contains(&number) {
+            return None;
+        }
+        let block = self.block(number)?;
+        if value.value.matches(block, steps) {
+            Some(block)
+        } else {
+            None
+        }
+    }
+
+    /// The first block that the value matches among those that are not closed, with its number. Memory where it runs out.
+    fn first_kept<L: Ledger>(
+        &self,
+        alloc: Global,
+        closed: &[u64],
+        value: &Keyed<R>,
+        steps: &mut Steps<L>,
+    ) -> Result<Option<(u64, &R)>, Memory>
+        ensures found { IfOk result (λ o. IfSome o (λ p. IsMatchAt R.meets (without self.now.blocks closed.now) value.now.value p.0 p.1.now)) }
+        ensures none { IfOk result (λ o. IfNone o (All (λ e. R.meets value.now.value e.value ≡ false) (blocks_in (without self.now.blocks closed.now)))) }
+        ensures cost { steps.new ≤ steps.old + count_by (λ e. R.shares e.value value.now.value) (blocks_in (without self.now.blocks closed.now)) }
+    {
+        let numbers = self.candidates(alloc, value.keys.as_slice())?;
+        for number in numbers.iter() {
+            if let Some(block) = self.kept_match(closed, *number, value, steps) {
+                return Ok(Some((*number, block)));
+            }
+        }
+        Ok(None)
+    }
+
+    /// What the value merges to with a member of the view that it matches, and then the change is without this member. None
+    /// where it matches none. Memory where it runs out.
+    fn merge_next<L: Ledger>(
+        &self,
+        alloc: Global,
+        change: &mut Change<R>,
+        value: &Keyed<R>,
+        steps: &mut Steps<L>,
+    ) -> Result<Option<R>, Memory>
+        requires { Fits R.meets self.now.blocks change.old.closed.items change.old.opened.items }
+        ensures merged { IfOk result (λ o. IfSome o (λ merged. Merges R.meets R.join self.now.blocks change.old.closed.items
+            change.old.opened.items value.now.value change.new.closed.items change.new.opened.items merged)) }
+        ensures fits { OnOk result (Fits R.meets self.now.blocks change.new.closed.items change.new.opened.items) }
+        ensures none { IfOk result (λ o. IfNone o ((change.new.closed.items ≡ change.old.closed.items) × (change.new.opened.items ≡ change.old.opened.items)
+            × All (λ w. R.meets value.now.value w ≡ false) (view_of self.now.blocks change.old.closed.items change.old.opened.items))) }
+        ensures cost { steps.new ≤ steps.old + near R.shares (view_of self.now.blocks change.old.closed.items change.old.opened.items) value.now.value }
+    {
+        if let Some((number, block)) = self.first_kept(
+            alloc,
+            change.closed.as_slice(),
+            value,
+            steps,
+        )? {
+            let merged = block.joined(alloc, &value.value)?;
+            change.closed.push(number)?;
+            return Ok(Some(merged));
+        }
+        match first_fresh(change.opened.as_slice(), value, steps) {
+            Some(place) => {
+                let other = change.opened.swap_remove(place);
+                Ok(Some(other.value.joined(alloc, &value.value)?))
+            }
+            None => Ok(None),
+        }
+    }
+
+    /// The change with the value inserted: its view is the resolution of the view so far and the value, and it closes no block
+    /// that is not merged with the value. Counts at most the reach of the insertion, also where it answers Memory. Memory
+    /// where it runs out.
+    pub fn plan_insert<L: Ledger>(
+        &self,
+        alloc: Global,
+        change: Change<R>,
+        value: R,
+        steps: &mut Steps<L>,
+    ) -> Result<Change<R>, Memory>
+        requires { Fits R.meets self.now.blocks change.closed.items change.opened.items }
+        ensures fits { IfOk result (λ new. Fits R.meets self.now.blocks new.closed.items new.opened.items) }
+        ensures resolved { IfOk result (λ new. IsResolution R.meets R.join
+            (view_of self.now.blocks change.closed.items change.opened.items ++ value ∷ []) (view_of self.now.blocks new.closed.items new.opened.items)) }
+        ensures cost { (all : List R) (x : R) → IsResolution R.meets R.join (view_of self.now.blocks change.closed.items change.opened.items ++ value ∷ []) all
+            → Contains all x → IsDominated R.meets R.join value x
+            → steps.new ≤ steps.old + reach R.meets R.shares (view_of self.now.blocks change.closed.items change.opened.items) x }
+    {
+        let mut change = change;
+        let mut value = Keyed::of(alloc, value)?;
+        while let Some(merged) = self.merge_next(alloc, &mut change, &value, steps)? {
+            value = Keyed::of(alloc, merged)?;
+        }
+        change.opened.push(value)?;
+        Ok(change)
+    }
+}

@@ -1,0 +1,58 @@
+//! Values with their index keys.
+ghost use Rattle.std.specs.Prelude.{◌≡◌, ◌+◌, ◌≤◌, if◌then◌else◌, IfOk};
+ghost use Rattle.swoosh_resolver.specs.Tables.{AreKeys};
+
+use merge_laws::resolvable::Resolvable;
+use merge_laws::steps::Steps;
+use std::alloc::Global;
+use std::marker::Model;
+use std::sync::ledger::Ledger;
+use union_base::memory::Memory;
+
+/// A value, and its index keys, each once.
+#[derive(Drop)]
+pub struct Keyed<R: Resolvable> {
+    pub value: R,
+    pub keys: Vec<R::Key>,
+}
+
+impl<R: Resolvable> Model for Keyed<R> {
+    ghost use Rattle.swoosh_resolver.specs.Tables.{Entry, AreKeys};
+
+    ghost Value = { Entry R R.Key };
+
+    ghost view = { λ k. record { value = k.value; keys = k.keys.items } };
+
+    ghost invariant = { λ k. AreKeys R.has_key k.value k.keys.items };
+}
+
+impl<R: Resolvable> Keyed<R> {
+    /// The value with its keys. Memory where it runs out.
+    pub fn of(alloc: Global, value: R) -> Result<Keyed<R>, Memory>
+        ensures { IfOk result (λ k. k.value ≡ value) }
+    {
+        let keys = value.index_keys(alloc)?;
+        Ok(Keyed { value, keys })
+    }
+
+    /// Whether the values have a key in common. Takes no memory.
+    pub(crate) fn shares_key(&self, other: &Keyed<R>) -> bool
+        ensures { result ≡ R.shares self.now.value other.now.value }
+    {
+        for key in self.keys.iter() {
+            if other.keys.as_slice().contains(key) {
+                return true;
+            }
+        }
+        false
+    }
+
+    /// Whether the values match. Values that share no key do not, and are not tested: where they share one, one step is
+    /// counted. Takes no memory.
+    pub(crate) fn matches<L: Ledger>(&self, other: &Keyed<R>, steps: &mut Steps<L>) -> bool
+        ensures answer { result ≡ R.meets self.now.value other.now.value }
+        ensures cost { steps.new ≤ steps.old + (if R.shares other.now.value self.now.value then 1 else 0) }
+    {
+        other.shares_key(self) && self.value.matches(&other.value, steps)
+    }
+}

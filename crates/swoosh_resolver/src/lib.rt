@@ -1,0 +1,14 @@
+//! Resolution by an index: blocks of which no two match, into which values are inserted by asking the index of their keys.
+//!
+//! Guarantee: a plan's view is the resolution of the view before it and the inserted value, and what is installed is the view
+//! that was planned. A plan changes nothing; room is made for it, and then it is installed without taking memory, so that it
+//! cannot stop half way. Cost: an insertion tests only values that share a key with the value at hand, at most the reach of
+//! the insertion in all (specs/Reach.antt of merge_laws), whatever the number of blocks. The definitions are in specs/Tables.antt.
+#![tactic(auto)]
+
+pub mod blocks;
+pub mod change;
+mod insert;
+mod install;
+pub mod keyed;
+mod posting;

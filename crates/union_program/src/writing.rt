@@ -1,0 +1,90 @@
+//! The writing of what libraries came to: of the catalogue's editions on `out`, and of the reports on `notes` behind it.
+ghost use Rattle.std.specs.Prelude.{◌≡◌, ◌++◌, IfOk, IsTrue};
+ghost use Rattle.std.specs.List.{flat_map};
+ghost use Rattle.union_reports.specs.Reports.{left_line};
+ghost use Rattle.union_words.specs.Statuses.{end_by, is_done};
+ghost use Rattle.union_program.specs.Runs.{exported, IsReported, Shows};
+
+use crate::loaded::Loaded;
+use crate::notes::put_early;
+use catalogue_export::export::export;
+use catalogue_export::export_fail::ExportFail;
+use std::alloc::Global;
+use union_base::memory::Memory;
+use union_base::record_id::RecordId;
+use union_io::failed::Failed;
+use union_io::sink::{Sink, put_all};
+use union_reports::reports::add_left_lines;
+use union_words::status::Status;
+
+/// How a run ends that came to its end, by whether some frame was refused. Takes no memory.
+fn end_by(refused: bool) -> Status
+    ensures { result ≡ end_by refused }
+{
+    if refused {
+        Status::DoneWithRefusals
+    } else {
+        Status::Done
+    }
+}
+
+/// The reports, and behind them a line for each edition of which fields were left out.
+fn with_left_lines(
+    alloc: Global,
+    reports: Vec<u8>,
+    left: &[(RecordId, usize)],
+) -> Result<Vec<u8>, Memory>
+    ensures { IfOk result (λ text. text.items ≡ reports.items ++ flat_map left_line left.now) }
+{
+    let mut text = reports;
+    add_left_lines(alloc, &mut text, left)?;
+    Ok(text)
+}
+
+/// Writes the reports, and a line for each edition of which fields were left out. Where memory ran out, the line that says so
+/// is written in their place.
+fn write_reports<N: Sink>(
+    alloc: Global,
+    loaded: Loaded,
+    left: &[(RecordId, usize)],
+    notes: &mut N,
+) -> Status
+    ensures { IsReported (loaded.reports.items ++ flat_map left_line left.now) (end_by loaded.refused)
+        (record { old = N.written notes.old; new = N.written notes.new; before = N.faults notes.old; after = N.faults notes.new })
+        result }
+{
+    let end = end_by(loaded.refused);
+    match with_left_lines(alloc, loaded.reports, left) {
+        Ok(text) => match put_all(notes, text.as_slice()) {
+            Ok(()) => end,
+            Err(Failed) => Status::WriteFault,
+        },
+        Err(Memory) => {
+            put_early(notes, &Status::Memory);
+            Status::Memory
+        }
+    }
+}
+
+/// Writes the export, the reports, and what was left out.
+pub fn write_export<O: Sink, N: Sink>(
+    alloc: Global,
+    loaded: Loaded,
+    out: &mut O,
+    notes: &mut N,
+) -> Status
+    ensures { Shows exported loaded
+        (record { old = O.written out.old; new = O.written out.new; before = O.faults out.old; after = O.faults out.new })
+        (record { old = N.written notes.old; new = N.written notes.new; before = N.faults notes.old; after = N.faults notes.new })
+        result }
+{
+    let mut left = Vec::new(alloc);
+    match export(alloc, &loaded.catalogue, out, &mut left) {
+        Ok(()) => write_reports(alloc, loaded, left.as_slice(), notes),
+        Err(ExportFail::WriteFault) => Status::WriteFault,
+        Err(ExportFail::Memory) => {
+            put_early(notes, &Status::Memory);
+            Status::Memory
+        }
+    }
+}
