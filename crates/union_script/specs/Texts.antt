@@ -1,6 +1,12 @@
 -- What a script writes, and how its lines change the catalogue.
-use Rattle.std.specs.Prelude.{◌≡◌, ℕ, Bool, true, false, not, nat_lt, List, [], ◌∷◌, ◌++◌, length, map, filter, codes}
-use Rattle.std.specs.List.{list_any}
+use Rattle.std.specs.Prelude.{◌≡◌, ℕ, Bool, true, false, not, nat_lt, List, [], ◌∷◌, ◌++◌, length, map, filter, codes, Result, Ok, Err}
+use Rattle.std.specs.List.{flat_map, list_any}
+use Rattle.std.specs.Result.{is_err}
+use Rattle.catalogue_query.specs.Answers.{answer_lines}
+use Rattle.catalogue_query.specs.Queries.{query_of}
+use Rattle.catalogue_query.specs.declared.query.Query.{Query}
+use Rattle.catalogue_query.specs.declared.query.QueryRefusal.{QueryRefusal}
+use Rattle.catalogue_query.specs.declared.query.QueryRefusal.TheVariants.{Unknown, Word as BadRest, Memory as QueryMemory}
 use Rattle.iso2709_frame.specs.Frames.{frames}
 use Rattle.catalogue_core.specs.Histories.{current, AreEditionsOf}
 use Rattle.catalogue_core.specs.declared.batch.Batch.{Batch}
@@ -52,12 +58,29 @@ refused_word = codes "refused word" ++ line_feed ∷ []
 abbrev pub refused_unknown : List ℕ
 refused_unknown = codes "refused unknown" ++ line_feed ∷ []
 
+-- each line, with a line feed behind it
+abbrev pub ended_lines : List (List ℕ) → List ℕ
+ended_lines lines = flat_map (λ line. line ++ line_feed ∷ []) lines
+
+-- the text is the answer to a query of the catalogue of that history
+pub record IsAnswer (query : Query) (history : List HistoryEntry) (text : List ℕ) : Type 0 where
+  pub editions : List Edition
+  pub resolved : AreEditionsOf history editions
+  pub answer : text ≡ ended_lines (answer_lines query (current history) editions)
+
+-- what is written of a line that gives this query, or none for this reason
+abbrev pub IsReply : Result Query QueryRefusal → List HistoryEntry → List ℕ → Type 0
+IsReply (Ok query) history text = IsAnswer query history text
+IsReply (Err Unknown) history text = text ≡ refused_unknown
+IsReply (Err BadRest) history text = text ≡ refused_word
+IsReply (Err QueryMemory) history text = ⊥
+
 -- what a line writes over that history, and the history behind it
 abbrev pub Writes : Contents → ScriptLine → List HistoryEntry → List ℕ → List HistoryEntry → Type 0
 Writes contents (Load file) history text now = Loads file.library (frames (contents file.path)) history text now
 Writes contents Export history text now = IsExport history text × (now ≡ history)
 Writes contents Works history text now = (text ≡ refused_unknown) × (now ≡ history)
-Writes contents (Ask line) history text now = (text ≡ refused_unknown) × (now ≡ history)
+Writes contents (Ask line) history text now = IsReply (query_of line) history text × (now ≡ history)
 Writes contents Word history text now = (text ≡ refused_word) × (now ≡ history)
 
 -- what lines write, one behind the other, and the history behind them
@@ -76,7 +99,7 @@ abbrev pub is_refused : Contents → ScriptLine → Bool
 is_refused contents (Load file) = has_refused (frames (contents file.path))
 is_refused contents Export = false
 is_refused contents Works = true
-is_refused contents (Ask line) = true
+is_refused contents (Ask line) = is_err (query_of line)
 is_refused contents Word = true
 
 -- something is refused in the lines

@@ -9,10 +9,12 @@
 //! with the refused frames of one load.
 #![tactic(auto)]
 
+mod asking;
 mod line;
 mod lines;
 mod loading;
 pub mod run;
+mod saying;
 mod script_file;
 mod stops;
 mod union;

@@ -5,37 +5,21 @@ ghost use Rattle.union_words.specs.ScriptLines.{Load as LoadLine, script_line};
 ghost use Rattle.union_script.specs.Lines.{LinesRun, Says};
 ghost use Rattle.union_script.specs.Texts.{asked_by, IsExport};
 
+use crate::asking::run_ask;
 use crate::loading::load_file;
+use crate::saying::{REFUSED_UNKNOWN, REFUSED_WORD, say};
 use crate::union::Union;
 use catalogue_core::catalogue::Catalogue;
 use catalogue_export::export::export;
 use catalogue_export::export_fail::ExportFail;
 use std::alloc::Global;
 use std::sync::ledger::Ledger;
-use union_io::failed::Failed;
 use union_io::shelf::Shelf;
-use union_io::sink::{Sink, put_all};
+use union_io::sink::Sink;
 use union_words::library_file::LibraryFile;
 use union_words::lines::is_skipped;
 use union_words::script_line::ScriptLine;
 use union_words::status::Status;
-
-/// What a line writes that is refused for its words.
-const REFUSED_WORD: &[u8] = b"refused word\n";
-
-/// What a line writes that begins with an unknown word.
-const REFUSED_UNKNOWN: &[u8] = b"refused unknown\n";
-
-/// Writes a text, where something was refused or not.
-fn say<O: Sink>(text: &[u8], refused: bool, out: &mut O) -> Result<bool, Status>
-    ensures { Says result text.now refused
-        (record { old = O.written out.old; new = O.written out.new; before = O.faults out.old; after = O.faults out.new }) }
-{
-    match put_all(out, text) {
-        Ok(()) => Ok(refused),
-        Err(Failed) => Err(Status::WriteFault),
-    }
-}
 
 /// Loads a library's file, and writes its report.
 fn run_load<L: Ledger, F: Shelf, O: Sink>(
@@ -86,7 +70,7 @@ fn run_line<L: Ledger, F: Shelf, O: Sink>(
         ScriptLine::Load(file) => run_load(alloc, &file, union, shelf, out),
         ScriptLine::Export => run_export(alloc, &union.catalogue, out),
         ScriptLine::Works => say(REFUSED_UNKNOWN, true, out),
-        ScriptLine::Ask(_) => say(REFUSED_UNKNOWN, true, out),
+        ScriptLine::Ask(line) => run_ask(alloc, line, &union.catalogue, out),
         ScriptLine::Word => say(REFUSED_WORD, true, out),
     }
 }

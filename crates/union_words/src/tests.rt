@@ -5,6 +5,7 @@ use crate::libraries::Libraries;
 use crate::library_file::LibraryFile;
 use crate::lines::{Lines, is_skipped};
 use crate::number::{count_of, seed_of, workers_of, workers_word};
+use crate::script_line::ScriptLine;
 use crate::status::Status;
 use crate::texts::{help_text, version_text};
 use std::alloc::{AllocError, Global};
@@ -232,6 +233,56 @@ const SCRIPTS: [(&[u8], &[u8]); 9] = [
 fn lines_are_cut(rt: HostRuntime) -> Result<(), Fail> {
     for (text, want) in SCRIPTS {
         assert!(rt; kept(rt.alloc(), text)?.as_slice() == want);
+    }
+    Ok(())
+}
+
+/// What a line of a script asks for, as a text.
+fn asked(alloc: Global, line: &[u8]) -> Result<Vec<u8>, AllocError> {
+    let mut text = Vec::new(alloc);
+    match ScriptLine::read(line) {
+        ScriptLine::Load(file) => {
+            text.extend_from_slice(b"load")?;
+            tell_file(&mut text, &file)?;
+        }
+        ScriptLine::Export => text.extend_from_slice(b"export")?,
+        ScriptLine::Works => text.extend_from_slice(b"works")?,
+        ScriptLine::Ask(line) => {
+            text.extend_from_slice(b"ask ")?;
+            text.extend_from_slice(line)?;
+        }
+        ScriptLine::Word => text.extend_from_slice(b"word")?,
+    }
+    Ok(text)
+}
+
+/// Lines of a script, and what each asks for.
+const SCRIPT_LINES: [(&[u8], &[u8]); 19] = [
+    (b"load LIBA a.mrc", b"load LIBA a.mrc"),
+    (b"load LIBA  a b ", b"load LIBA  a b "),
+    (b"load  LIBA a", b"word"),
+    (b"load liba a", b"word"),
+    (b"load LIBA", b"word"),
+    (b"load LIBA ", b"word"),
+    (b"load LIBA \xFF", b"word"),
+    (b"load", b"word"),
+    (b"export", b"export"),
+    (b"export ", b"export"),
+    (b"export  ", b"word"),
+    (b"export x", b"word"),
+    (b"works", b"works"),
+    (b"works x", b"word"),
+    (b"works\t", b"ask works\t"),
+    (b"Export", b"ask Export"),
+    (b"loads LIBA a", b"ask loads LIBA a"),
+    (b" export", b"ask  export"),
+    (b"count", b"ask count"),
+];
+
+#[test]
+fn script_lines_are_read(rt: HostRuntime) -> Result<(), Fail> {
+    for (line, want) in SCRIPT_LINES {
+        assert!(rt; asked(rt.alloc(), line)?.as_slice() == want);
     }
     Ok(())
 }

@@ -1,5 +1,5 @@
 use Rattle.std.proofs.Common.{◌∷◌, [], true, false, refl, subst}
-use Rattle.union_words.specs.ScriptLines.{Export, Works, Ask, Word}
+use Rattle.union_words.specs.ScriptLines.{Export, Works, Word}
 use Rattle.union_script.specs.Lines.{LinesRun}
 use Rattle.union_script.specs.Texts.{refused_word, refused_unknown}
 use Rattle.union_script.proofs.LineLaws.{says_line}
@@ -33,10 +33,9 @@ returns-in-Ask-clause-run g c =
     let files = g.F.Shelf.files c.args.shelf.now in
     let faults = g.F.Shelf.faults c.args.shelf.now in
     let history = c.args.union.now.catalogue in
-    let out = outflow (g.O.Sink.written c.args.out.now) (g.O.Sink.written c.say-in-Ask.new.out) (g.O.Sink.faults c.args.out.now) (g.O.Sink.faults c.say-in-Ask.new.out) in
-    subst (λ line. LinesRun c.say-in-Ask.result (line ∷ []) history history (flow files faults faults) out) c.in-Ask.ensures
-    (says_line c.say-in-Ask.result (Ask _) history history refused_unknown true files faults faults out (λ name. refl)
-    (on_all files (λ contents. record { within = refl; writes = (refl, refl); refused = refl })) c.say-in-Ask.ensures)
+    let out = outflow (g.O.Sink.written c.args.out.now) (g.O.Sink.written c.run_ask.new.out) (g.O.Sink.faults c.args.out.now) (g.O.Sink.faults c.run_ask.new.out) in
+    subst (λ line. LinesRun c.run_ask.result (line ∷ []) history history (flow files faults faults) out) c.in-Ask.ensures
+    (c.run_ask.ensures (flow files faults faults) (λ name. refl))
 
 pub returns-in-Word-clause-run : goal.returns-in-Word-clause-run
 returns-in-Word-clause-run g c =
