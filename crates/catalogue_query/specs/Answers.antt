@@ -1,6 +1,6 @@
 -- What a catalogue answers to a query: by the list of its editions, which stand in order of their least contributors, and by
 -- the editions of its current records under their ids.
-use Rattle.std.specs.Prelude.{ℕ, ◌&&◌, Bool, false, if◌then◌else◌, List, [], ◌∷◌, ◌++◌, map, filter, flat_map, length, codes}
+use Rattle.std.specs.Prelude.{ℕ, ◌&&◌, Bool, false, List, [], ◌∷◌, ◌++◌, map, filter, flat_map, length, codes}
 use Rattle.std.specs.List.{list_any}
 use Rattle.std.specs.Option.{option_map_or}
 use Rattle.std.specs.Map.{values_of}

@@ -1,4 +1,4 @@
-use Rattle.std.proofs.Common.{◌++◌, ◌+◌, [], cond, sym, ap, ◌∙◌, arith}
+use Rattle.std.proofs.Common.{◌++◌, [], cond, sym, ap, ◌∙◌, arith}
 use Rattle.std.specs.Prelude.{slice_get}
 use Rattle.std.specs.Option.{option_copied}
 use Rattle.catalogue_core.specs.Histories.{current}
