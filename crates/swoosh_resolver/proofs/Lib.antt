@@ -3,4 +3,5 @@ mod Looking
 mod Places
 mod Numbering
 mod Opening
+mod Unmerged
 mod Views

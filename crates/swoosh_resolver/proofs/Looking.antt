@@ -1,16 +1,15 @@
 -- A look for the open blocks that a value matches, among the numbers under its keys.
-use Rattle.std.proofs.Common.{◌≡◌, ℕ, ◌+◌, ◌<◌, ◌≤◌, Bool, true, false, cond, List, Option, None, Some, length, get_or, take, refl, sym, ◌∙◌, ap, subst, is_some, true≢false, if◌then◌else◌, arith}
+use Rattle.std.proofs.Common.{◌≡◌, ℕ, ◌+◌, ◌<◌, ◌≤◌, Bool, true, false, cond, List, Option, None, Some, length, get_or, take, refl, sym, ◌∙◌, ap, subst, is_some, if◌then◌else◌, arith}
 use Rattle.std.specs.Prelude.{◌↔◌, All, Contains, count_by}
 use Rattle.std.specs.List.{AllWithin}
 use Rattle.std.proofs.lemmas.List.{get_or_default}
 use Rattle.std.proofs.lemmas.List.Elements.{AllWithin-more}
 use Rattle.std.proofs.lemmas.List.Sums.{sum_by-take-le}
-use Rattle.std.proofs.Math.Nat.{le_trans}
 use Rattle.merge_laws.specs.Resolution.{KeyLaws}
 use Rattle.merge_laws.proofs.Places.{All-from_members}
 use Rattle.feature_index.specs.Postings.{Ascends}
 use Rattle.swoosh_resolver.specs.Tables.{Entry, AreKeys, block_at, blocks_in, without, passes}
-use Rattle.swoosh_resolver.proofs.Places.{block-from_open, number-from_block, passing-le, counted-up_to, counted-more}
+use Rattle.swoosh_resolver.proofs.Places.{block-from_open, number-from_block, passing-le, counted-more}
 
 -- the numbers are those of the blocks that have one of the value's keys
 pub record IsLook {R K : Type 0} (has_key : R → K → Type 0) (blocks : List (Option (Entry R K))) (value : R) (keys : List K) (numbers : List ℕ) : Type 0 where

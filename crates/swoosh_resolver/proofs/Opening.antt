@@ -1,5 +1,5 @@
 -- Blocks that are put under numbers, and what this makes of their postings.
-use Rattle.std.proofs.Common.{◌≡◌, ◌≢◌, ℕ, zero, suc, ◌+◌, ◌-◌, ◌<◌, ◌≤◌, Bool, true, false, cond, List, [], ◌∷◌, ◌++◌, Option, None, Some, Result, Ok, Err, IfOk, length, length-append, get_or, set, append_assoc, append-nil, refl, sym, ◌∙◌, ap, subst, inl, inr, arith}
+use Rattle.std.proofs.Common.{◌≡◌, ◌≢◌, ℕ, zero, suc, ◌+◌, ◌-◌, ◌<◌, ◌≤◌, Bool, true, false, cond, List, [], ◌∷◌, ◌++◌, Option, None, Some, Result, Ok, Err, IfOk, length, length-append, get_or, append_assoc, append-nil, refl, sym, ◌∙◌, ap, subst, inl, inr, arith}
 use Rattle.std.specs.Prelude.{◌↔◌, ◌⊎◌, AllPairs, Contains, count_by, IsSome, slice_set, nat_lt}
 use Rattle.std.specs.List.Sorted.{IsPermutation}
 use Rattle.std.proofs.Math.Decide.{dec_lt}
@@ -10,7 +10,8 @@ use Rattle.std.proofs.lemmas.List.Sums.{sum_by-append}
 use Rattle.std.proofs.lemmas.List.Elements.{Contains-get_or, filter_map-append}
 use Rattle.std.proofs.lemmas.List.Sorted.{IsPermutation-refl, IsPermutation-sym, IsPermutation-cons, IsPermutation-trans, IsPermutation-middle, IsPermutation-to_front}
 use Rattle.feature_index.specs.Postings.{Posting, numbers_of}
-use Rattle.swoosh_resolver.specs.Tables.{Entry, AreNumbers, AreOpened, ArePosted, block_at, blocks_in, keys_in, number_at, put}
+use Rattle.swoosh_resolver.specs.Tables.{Entry, AreNumbers, AreOpened, ArePosted, block_at, blocks_in, keys_in, number_at, put, without}
+use Rattle.swoosh_resolver.proofs.Places.{block-kept}
 
 module _ {X : Type 0} where
   -- a block stands within the list
@@ -164,7 +165,7 @@ module _ {X : Type 0} where
 -- now are the blocks with the values so far opened
 pub record IsOpening {X : Type 0} (start : List (Option X)) (closed : List ℕ) (done : List X) (now : List (Option X)) : Type 0 where
   pub longer : length now ≡ length start + (length done - length closed)
-  pub opened : AreOpened start closed done now
+  pub opened : AreOpened start closed (length start) done now
   pub view : IsPermutation (blocks_in start ++ done) (blocks_in now)
 
 module _ {X : Type 0} (start : List (Option X)) (closed : List ℕ) where
@@ -282,3 +283,14 @@ module _ (closed : List ℕ) (first opened : ℕ) (numbers : List ℕ) (are : Ar
 pub IfOk-then : {A E : Type 0} (r : Result A E) (P Q : A → Type 0) → ((x : A) → P x → Q x) → IfOk r P → IfOk r Q
 IfOk-then (Ok x) P Q f h = f x h
 IfOk-then (Err e) P Q f h = tt
+
+-- a block that is not closed keeps its number
+pub kept-number : {X : Type 0} (blocks : List (Option X)) (closed : List ℕ) (opened : List X) (blocks' : List (Option X)) → AreOpened (without blocks closed) closed (length blocks) opened blocks'
+    → (n : ℕ) (x : X) → block_at blocks n ≡ Some x → (Contains closed n → ⊥) → block_at blocks' n ≡ Some x
+kept-number blocks closed opened blocks' are n x at open' =
+    let within : n < length blocks = within-from_some blocks n (rw at refl) in
+    are.others n (λ i il same. elim (dec_lt i (length closed)) as (λ _. ⊥) [
+      | yes h ↦ open' (subst (Contains closed) (sym (same ∙ number-closed closed (length blocks) i h)) (Contains-get_or closed i 0 h))
+      | no h ↦ (let new' = number-new closed (length blocks) i (omega arith) in omega arith)
+    ])
+    ∙ block-kept closed blocks n open' ∙ at

@@ -1,16 +1,18 @@
 -- Views of blocks and a change, when a member is taken out.
-use Rattle.std.proofs.Common.{◌≡◌, ◌≢◌, ℕ, ◌+◌, ◌<◌, Bool, false, cond, IsTrue, List, [], ◌∷◌, ◌++◌, Option, None, Some, length, get_or, map, append_assoc, refl, sym, ◌∙◌, ap, subst, inl, inr, arith}
-use Rattle.std.specs.Prelude.{All, Contains, AllPairs, IsSome, count_by, swap_remove}
+use Rattle.std.proofs.Common.{◌≡◌, ◌≢◌, ℕ, ◌+◌, ◌<◌, Bool, cond, IsTrue, List, [], ◌∷◌, ◌++◌, Option, None, Some, length, get_or, append_assoc, refl, sym, ◌∙◌, ap, subst, inl, inr, arith}
+use Rattle.std.specs.Prelude.{All, Contains, IsSome, count_by, swap_remove}
 use Rattle.std.specs.List.Sorted.{IsPermutation}
 use Rattle.std.proofs.lemmas.List.{map-append}
 use Rattle.std.proofs.lemmas.List.Elements.{All-append, All-map, Contains-get_or, Contains-push_cases}
 use Rattle.std.proofs.lemmas.List.Quantifiers.{all_pairs_push}
 use Rattle.std.proofs.lemmas.List.Sorted.{IsPermutation-append_left, IsPermutation-append_right, IsPermutation-trans, IsPermutation-middle, IsPermutation-map, IsPermutation-swap_remove}
 use Rattle.std.proofs.lemmas.List.Sums.{sum_by-cons, sum_by-append}
-use Rattle.merge_laws.specs.Resolution.{AreApart, DoNotMatch}
+use Rattle.merge_laws.specs.Resolution.{JoinLaws, MatchLaws, IsDominated, AreApart, DoNotMatch}
 use Rattle.merge_laws.specs.Reach.{near}
 use Rattle.merge_laws.proofs.Places.{AllPairs-permutation, AllPairs-rest}
+use Rattle.merge_laws.proofs.Resolutions.{IsDominated-left}
 use Rattle.swoosh_resolver.specs.Tables.{Entry, block_at, blocks_in, without, values_of, view_of, Fits, IsMatchAt, Merges}
+use Rattle.swoosh_resolver.proofs.Unmerged.{unmerged_kept, unmerged_fresh}
 use Rattle.swoosh_resolver.proofs.Places.{without-push, block-closed, block-from_open, taken-from_set}
 
 module _ {R K : Type 0} (blocks : List (Option (Entry R K))) (closed : List ℕ) (opened : List (Entry R K)) where
@@ -77,21 +79,24 @@ module _ {R K : Type 0} (blocks : List (Option (Entry R K))) (closed : List ℕ)
       (All-append (λ (e : Entry R K). P e.value) (blocks_in (without blocks closed)) opened kept fresh)
 
   -- the value is merged with an open block
-  pub merges-kept : {match : R → R → Bool} {merge : R → R → R} (value block merged : R) (n : ℕ) → IsMatchAt match (without blocks closed) value n block → merged ≡ merge block value → Merges match merge blocks closed opened value (closed ++ n ∷ []) opened merged
-  merges-kept {match} value block merged n m is = record {
+  pub merges-kept : {match : R → R → Bool} {merge : R → R → R} (join : JoinLaws merge) (laws : MatchLaws match merge) (value block merged : R) (n : ℕ) → IsMatchAt match (without blocks closed) value n block → merged ≡ merge block value → Merges match merge blocks closed opened value (closed ++ n ∷ []) opened merged
+  merges-kept {match} {merge} join laws value block merged n m is = record {
     by = m.by.value;
     taken = taken-kept n m.by m.stands;
     matches = subst (λ b. IsTrue (match value b)) m.is m.matches;
     is = rw (← m.is) is;
+    others = unmerged_kept blocks closed opened n m.by merged (block-from_open closed blocks n m.by m.stands)
+        (subst (IsDominated match merge m.by.value) (sym (rw m.is at is)) (IsDominated-left join laws m.by.value value));
   }
 
   -- the value is merged with an opened value
-  pub merges-fresh : {match : R → R → Bool} {merge : R → R → R} (value merged : R) (i : ℕ) (e : Entry R K) → i < length opened → e ≡ get_or opened i e → IsTrue (match value e.value) → merged ≡ merge e.value value → Merges match merge blocks closed opened value closed (swap_remove opened i e) merged
-  merges-fresh value merged i e il at matches is = record {
+  pub merges-fresh : {match : R → R → Bool} {merge : R → R → R} (join : JoinLaws merge) (laws : MatchLaws match merge) (value merged : R) (i : ℕ) (e : Entry R K) → i < length opened → e ≡ get_or opened i e → IsTrue (match value e.value) → merged ≡ merge e.value value → Merges match merge blocks closed opened value closed (swap_remove opened i e) merged
+  merges-fresh {match} {merge} join laws value merged i e il at matches is = record {
     by = e.value;
     taken = taken-fresh i e il at;
     matches = matches;
     is = is;
+    others = unmerged_fresh blocks closed opened i e merged il at (subst (IsDominated match merge e.value) (sym is) (IsDominated-left join laws e.value value));
   }
 
   -- one value more is opened

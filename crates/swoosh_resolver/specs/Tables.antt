@@ -1,9 +1,9 @@
 -- Blocks under numbers, and changes of them on their way.
-use Rattle.std.specs.Prelude.{◌≡◌, ◌≢◌, ℕ, ◌+◌, ◌-◌, ◌<◌, ◌≤◌, ◌↔◌, ◌++◌, ◌∷◌, nat_lt, if◌then◌else◌, Bool, false, true, IsTrue, List, [], Option, None, Some, IsSome, length, map, slice_set, slice_index, slice_index_or, count_by, Contains, AllPairs}
+use Rattle.std.specs.Prelude.{◌≡◌, ◌≢◌, ℕ, ◌+◌, ◌-◌, ◌<◌, ◌≤◌, ◌↔◌, ◌⊎◌, ◌++◌, ◌∷◌, nat_lt, if◌then◌else◌, Bool, false, IsTrue, List, [], Option, None, Some, IsSome, length, map, slice_set, slice_index, slice_index_or, count_by, Contains, AllPairs}
 use Rattle.std.specs.List.{fold, filter_map, flat_map}
 use Rattle.std.specs.List.Sorted.{IsPermutation}
 use Rattle.feature_index.specs.Postings.{Posting, numbers_of, spare_of}
-use Rattle.merge_laws.specs.Resolution.{AreApart}
+use Rattle.merge_laws.specs.Resolution.{AreApart, IsDominated}
 
 -- a value and its index keys
 pub record Entry (R K : Type 0) : Type 0 where
@@ -84,9 +84,9 @@ pub record AreNumbers (closed : List ℕ) (first opened : ℕ) (numbers : List �
   pub each : (i : ℕ) → i < opened → slice_index numbers i ≡ number_at closed first i
 
 -- each opened value stands under its number, and under all other numbers stands what stood there
-pub record AreOpened {X : Type 0} (blocks : List (Option X)) (closed : List ℕ) (opened : List X) (blocks' : List (Option X)) : Type 0 where
-  pub stand : (i : ℕ) (x : X) → i < length opened → slice_index_or opened i x ≡ x → block_at blocks' (number_at closed (length blocks) i) ≡ Some x
-  pub others : (n : ℕ) → ((i : ℕ) → i < length opened → n ≢ number_at closed (length blocks) i) → block_at blocks' n ≡ block_at blocks n
+pub record AreOpened {X : Type 0} (blocks : List (Option X)) (closed : List ℕ) (first : ℕ) (opened : List X) (blocks' : List (Option X)) : Type 0 where
+  pub stand : (i : ℕ) (x : X) → i < length opened → slice_index_or opened i x ≡ x → block_at blocks' (number_at closed first i) ≡ Some x
+  pub others : (n : ℕ) → ((i : ℕ) → i < length opened → n ≢ number_at closed first i) → block_at blocks' n ≡ block_at blocks n
 
 -- under the number stands a block with this value, which the other value matches
 pub record IsMatchAt {R K : Type 0} (match : R → R → Bool) (blocks : List (Option (Entry R K))) (value : R) (number : ℕ) (block : R) : Type 0 where
@@ -95,9 +95,26 @@ pub record IsMatchAt {R K : Type 0} (match : R → R → Bool) (blocks : List (O
   pub is : block ≡ by.value
   pub matches : IsTrue (match value block)
 
+-- what is closed now was closed before, or is a block that was merged into the value; what was opened before is opened now, or
+-- was merged into it; and nothing else changed
+pub record KeepsUnmerged {R K : Type 0} (match : R → R → Bool) (merge : R → R → R) (blocks : List (Option (Entry R K))) (closed : List ℕ) (opened : List (Entry R K)) (closed' : List ℕ) (opened' : List (Entry R K)) (merged : R) : Type 0 where
+  pub closes : (n : ℕ) → Contains closed' n → Contains closed n ⊎ ((e : Entry R K) × (block_at blocks n ≡ Some e) × IsDominated match merge e.value merged)
+  pub stays_closed : (n : ℕ) → Contains closed n → Contains closed' n
+  pub takes_back : (e : Entry R K) → Contains opened e → Contains opened' e ⊎ IsDominated match merge e.value merged
+  pub stays_opened : (e : Entry R K) → Contains opened' e → Contains opened e
+
 -- a member of the view that the value matches is taken out of the change, and merged with the value
 pub record Merges {R K : Type 0} (match : R → R → Bool) (merge : R → R → R) (blocks : List (Option (Entry R K))) (closed : List ℕ) (opened : List (Entry R K)) (value : R) (closed' : List ℕ) (opened' : List (Entry R K)) (merged : R) : Type 0 where
   pub by : R
   pub taken : IsPermutation (view_of blocks closed opened) (by ∷ view_of blocks closed' opened')
   pub matches : IsTrue (match value by)
   pub is : merged ≡ merge by value
+  pub others : KeepsUnmerged match merge blocks closed opened closed' opened' merged
+
+-- the value, with all that was merged into it, is opened last, and nothing else changed
+pub record Inserts {R K : Type 0} (match : R → R → Bool) (merge : R → R → R) (blocks : List (Option (Entry R K))) (closed : List ℕ) (opened : List (Entry R K)) (value : R) (closed' : List ℕ) (opened' : List (Entry R K)) : Type 0 where
+  pub by : Entry R K
+  pub before : List (Entry R K)
+  pub last : opened' ≡ before ++ by ∷ []
+  pub dominates : IsDominated match merge value by.value
+  pub others : KeepsUnmerged match merge blocks closed opened closed' before by.value

@@ -3,7 +3,7 @@ ghost use Rattle.std.specs.Prelude.{◌≡◌, ◌+◌, ◌<◌, ◌≤◌, ◌�
 ghost use Rattle.merge_laws.specs.Resolution.{IsResolution, IsDominated};
 ghost use Rattle.merge_laws.specs.Reach.{near, reach};
 ghost use Rattle.feature_index.specs.Postings.{Ascends};
-ghost use Rattle.swoosh_resolver.specs.Tables.{Entry, block_at, blocks_in, without, passes, view_of, Fits, IsMatchAt, Merges};
+ghost use Rattle.swoosh_resolver.specs.Tables.{Entry, block_at, blocks_in, without, passes, view_of, Fits, IsMatchAt, Merges, Inserts};
 
 use crate::blocks::Blocks;
 use crate::change::Change;
@@ -143,6 +143,7 @@ impl<R: Resolvable> Blocks<R> {
         ensures fits { IfOk result (λ new. Fits R.meets self.now.blocks new.closed.items new.opened.items) }
         ensures resolved { IfOk result (λ new. IsResolution R.meets R.join
             (view_of self.now.blocks change.closed.items change.opened.items ++ value ∷ []) (view_of self.now.blocks new.closed.items new.opened.items)) }
+        ensures inserts { IfOk result (λ new. Inserts R.meets R.join self.now.blocks change.closed.items change.opened.items value new.closed.items new.opened.items) }
         ensures cost { (all : List R) (x : R) → IsResolution R.meets R.join (view_of self.now.blocks change.closed.items change.opened.items ++ value ∷ []) all
             → Contains all x → IsDominated R.meets R.join value x
             → steps.new ≤ steps.old + reach R.meets R.shares (view_of self.now.blocks change.closed.items change.opened.items) x }

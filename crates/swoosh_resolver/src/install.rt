@@ -100,7 +100,7 @@ fn open_all<R: Resolvable>(
     requires places { length opened.items + length blocks.old.items ≤ length closed.now + vec_capacity blocks.old }
     requires room { (k : R.Key) → count_by (R.Key.eq k) (keys_in opened.items) ≤ spare_of R.Key.eq postings.old k }
     requires posted { ArePosted R.Key.eq R.has_key blocks.old.items postings.old }
-    ensures opened { AreOpened blocks.old.items closed.now opened.items blocks.new.items }
+    ensures opened { AreOpened blocks.old.items closed.now (length blocks.old.items) opened.items blocks.new.items }
     ensures view { IsPermutation (blocks_in blocks.old.items ++ opened.items) (blocks_in blocks.new.items) }
     ensures posted { ArePosted R.Key.eq R.has_key blocks.new.items postings.new }
 {
@@ -183,7 +183,8 @@ impl<R: Resolvable> Blocks<R> {
     pub fn install(&mut self, change: Change<R>)
         requires fits { Fits R.meets self.old.blocks change.closed.items change.opened.items }
         requires room { HasRoom R.Key.eq self.old change.closed.items change.opened.items }
-        ensures opened { AreOpened (without self.old.blocks change.closed.items) change.closed.items change.opened.items self.new.blocks }
+        ensures kept { (n : ℕ) (e : Entry R R.Key) → block_at self.old.blocks n ≡ Some e → (Contains change.closed.items n → ⊥) → block_at self.new.blocks n ≡ Some e }
+        ensures opened { AreOpened (without self.old.blocks change.closed.items) change.closed.items (length self.old.blocks) change.opened.items self.new.blocks }
         ensures view { IsPermutation (view_of self.old.blocks change.closed.items change.opened.items) (values_of (blocks_in self.new.blocks)) }
     {
         let Change { closed, opened } = change;

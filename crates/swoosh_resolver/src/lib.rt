@@ -12,3 +12,5 @@ mod insert;
 mod install;
 pub mod keyed;
 mod posting;
+#[cfg(test)]
+mod tests;

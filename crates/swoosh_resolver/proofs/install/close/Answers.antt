@@ -1,7 +1,6 @@
-use Rattle.std.proofs.Common.{◌≡◌, ◌<◌, None, Some, length, get_or, sym, ◌∙◌, subst}
-use Rattle.std.specs.Prelude.{slice_set}
+use Rattle.std.proofs.Common.{◌≡◌, ◌<◌, None, Some, length, sym, ◌∙◌}
 use Rattle.std.proofs.lemmas.List.{get_or_default}
-use Rattle.swoosh_resolver.specs.Tables.{ArePosted, block_at}
+use Rattle.swoosh_resolver.specs.Tables.{block_at}
 use Rattle.swoosh_resolver.proofs.Opening.{within-from_some, posted-block, posted-closed}
 use Rattle.swoosh_resolver.proofs.install.close.Goals as goal
 

@@ -1,7 +1,6 @@
-use Rattle.std.proofs.Common.{◌≡◌, ◌<◌, ◌+◌, ◌++◌, ◌∷◌, [], None, take, get_or, length, sym, ◌∙◌, ap, subst, arith}
-use Rattle.std.specs.Prelude.{Contains, IsSome, slice_set}
+use Rattle.std.proofs.Common.{◌≡◌, ◌+◌, ◌++◌, ◌∷◌, [], None, take, get_or, sym, ◌∙◌, ap, arith}
+use Rattle.std.specs.Prelude.{slice_set}
 use Rattle.std.proofs.lemmas.List.{take_more, get_or_default}
-use Rattle.swoosh_resolver.specs.Tables.{block_at, without}
 use Rattle.swoosh_resolver.proofs.Places.{without-push, block-kept, not-before}
 use Rattle.swoosh_resolver.proofs.install.close_all.Goals as goal
 

@@ -1,4 +1,3 @@
-use Rattle.std.proofs.Common.{◌≡◌}
 use Rattle.swoosh_resolver.specs.Tables.{AreNumbers}
 use Rattle.swoosh_resolver.proofs.install.numbers_of_opened.Given as goal
 

@@ -1,6 +1,5 @@
-use Rattle.std.proofs.Common.{◌≡◌, ◌<◌, ◌≤◌, ◌+◌, ◌++◌, ◌∷◌, [], Some, true, is_ok, sym, ◌∙◌, subst, arith}
-use Rattle.std.specs.Prelude.{slice_set}
-use Rattle.swoosh_resolver.specs.Tables.{ArePosted, put}
+use Rattle.std.proofs.Common.{◌≡◌, ◌++◌, ◌∷◌, [], Some, true, is_ok, subst, arith}
+use Rattle.swoosh_resolver.specs.Tables.{ArePosted}
 use Rattle.swoosh_resolver.proofs.Opening.{unposted-free, posted-put, put-within, put-past}
 use Rattle.swoosh_resolver.proofs.install.open.Goals as goal
 

@@ -1,8 +1,7 @@
-use Rattle.std.proofs.Common.{◌≡◌, ◌<◌, ◌≤◌, ◌+◌, ◌++◌, ◌∷◌, [], None, length, length-append, append_assoc, append-nil, sym, ◌∙◌, ap, subst, arith}
-use Rattle.std.specs.Prelude.{count_by, vec_capacity}
-use Rattle.feature_index.specs.Postings.{spare_of}
-use Rattle.swoosh_resolver.specs.Tables.{Entry, AreOpened, block_at, keys_in, number_at}
-use Rattle.swoosh_resolver.proofs.Opening.{IsOpening, next-free, next-within, next-below, opening_more, count-keys}
+use Rattle.std.proofs.Common.{◌≡◌, ◌<◌, ◌++◌, ◌∷◌, [], length, length-append, append_assoc, ◌∙◌, ap, arith}
+use Rattle.std.specs.Prelude.{vec_capacity}
+use Rattle.swoosh_resolver.specs.Tables.{number_at}
+use Rattle.swoosh_resolver.proofs.Opening.{next-free, next-within, next-below, opening_more, count-keys}
 use Rattle.swoosh_resolver.proofs.install.open_all.Goals as goal
 
 pub open-requires-clause-free : goal.open-requires-clause-free

@@ -1,5 +1,5 @@
 -- the number was put under the keys so far
-use Rattle.std.proofs.Common.{◌≡◌, ℕ, take}
+use Rattle.std.proofs.Common.{take}
 use Rattle.swoosh_resolver.proofs.Numbering.{IsPosted}
 use Rattle.swoosh_resolver.proofs.posting.post.Given as goal
 

@@ -1,6 +1,5 @@
 -- the number was taken from under the keys so far
-use Rattle.std.proofs.Common.{◌≡◌, ℕ, take}
-use Rattle.feature_index.specs.Postings.{spare_of}
+use Rattle.std.proofs.Common.{take}
 use Rattle.swoosh_resolver.proofs.Numbering.{IsUnposted}
 use Rattle.swoosh_resolver.proofs.posting.unpost.Given as goal
 

@@ -1,12 +1,10 @@
-use Rattle.std.proofs.Common.{◌≡◌, ◌<◌, ◌≤◌, ◌+◌, ◌↔◌, ℕ, Some, [], ◌∷◌, ◌++◌, eqb, take, get_or, length, sym, ◌∙◌, ap, subst, arith}
-use Rattle.std.specs.Prelude.{Contains}
+use Rattle.std.proofs.Common.{◌≡◌, ◌+◌, [], ◌∷◌, ◌++◌, eqb, take, sym, ◌∙◌, ap, subst, arith}
 use Rattle.std.specs.List.{dedup}
 use Rattle.std.proofs.lemmas.List.{take_more, take_all}
 use Rattle.std.proofs.lemmas.List.Filters.{dedup_is}
 use Rattle.std.proofs.lemmas.Map.Keys.{IsStrictlyIncreasing-dedup}
 use Rattle.feature_index.specs.Postings.{Ascends, numbers_of}
 use Rattle.feature_index.proofs.Ascending.{ascends-from_next}
-use Rattle.swoosh_resolver.specs.Tables.{Entry, block_at}
 use Rattle.swoosh_resolver.proofs.Keys.{AreGathered, gathered_none, gathered_more, gathered_sorted}
 use Rattle.swoosh_resolver.proofs.blocks.Blocks.candidates.Goals as goal
 

@@ -1,4 +1,4 @@
-use Rattle.std.proofs.Common.{◌≡◌, ◌<◌, ◌≤◌, ◌+◌, ap, subst, arith}
+use Rattle.std.proofs.Common.{◌≡◌, ◌+◌, ap, subst, arith}
 use Rattle.swoosh_resolver.specs.Tables.{Entry, AreKeys}
 use Rattle.swoosh_resolver.proofs.Looking.{IsLook, paid-next, paid-all, none-next, none-matches}
 use Rattle.swoosh_resolver.proofs.blocks.Blocks.first_kept.Goals as goal

@@ -1,12 +1,12 @@
-use Rattle.std.proofs.Common.{◌≡◌, ◌<◌, ◌≤◌, ◌+◌, ◌++◌, None, length, sym, ◌∙◌, ap, subst, arith}
-use Rattle.std.specs.Prelude.{Contains, IsSome, vec_capacity}
+use Rattle.std.proofs.Common.{◌≡◌, ◌++◌, length, ◌∙◌, ap, arith}
+use Rattle.std.specs.Prelude.{Contains}
 use Rattle.std.specs.List.Sorted.{IsPermutation}
 use Rattle.std.proofs.lemmas.List.Sorted.{IsPermutation-map}
-use Rattle.merge_laws.specs.Resolution.{AreApart, DoNotMatch}
+use Rattle.merge_laws.specs.Resolution.{DoNotMatch}
 use Rattle.merge_laws.proofs.Places.{AllPairs-permutation}
-use Rattle.swoosh_resolver.specs.Tables.{Entry, AreBlocks, Fits, HasRoom, block_at, blocks_in, values_of, view_of, without}
+use Rattle.swoosh_resolver.specs.Tables.{Entry, AreOpened, Fits, blocks_in, values_of, view_of, without}
 use Rattle.swoosh_resolver.proofs.Places.{block-closed, length-without}
-use Rattle.swoosh_resolver.proofs.Opening.{within-from_some}
+use Rattle.swoosh_resolver.proofs.Opening.{within-from_some, kept-number}
 use Rattle.swoosh_resolver.proofs.blocks.Blocks.install.Goals as goal
 
 pub open_all-requires-clause-free : goal.open_all-requires-clause-free
@@ -57,3 +57,25 @@ returns-clause-view g c =
     IsPermutation-map (λ (e : Entry g.row.R.Denot g.row.R-Key.Denot). e.value) (blocks_in (without blocks closed) ++ opened) (blocks_in c.open_all.new.blocks.items)
     (rw left at c.open_all.ensures.view) in
     rw (← c.self.view_is) view
+
+pub returns-clause-opened : goal.returns-clause-opened
+returns-clause-opened g c =
+    let blocks = c.self.inside.blocks.items in
+    let closed = c.args.change.closed.items in
+    let left : c.close_all.new.blocks.items ≡ without blocks closed = c.close_all.ensures.blocks ∙ ap (without blocks) c.as_slice.ensures.value in
+    let same : length c.close_all.new.blocks.items ≡ length blocks = ap length left ∙ length-without closed blocks in
+    let one = rw same at c.open_all.ensures.opened in
+    let two = rw left at one in
+    let are : AreOpened (without blocks closed) closed (length blocks) c.args.change.opened.items c.open_all.new.blocks.items = rw c.as_slice-2.ensures.value at two in
+    rw (← c.self.view_is) are
+
+pub returns-clause-kept : goal.returns-clause-kept
+returns-clause-kept g c =
+    let blocks = c.self.inside.blocks.items in
+    let closed = c.args.change.closed.items in
+    let left : c.close_all.new.blocks.items ≡ without blocks closed = c.close_all.ensures.blocks ∙ ap (without blocks) c.as_slice.ensures.value in
+    let same : length c.close_all.new.blocks.items ≡ length blocks = ap length left ∙ length-without closed blocks in
+    let one = rw same at c.open_all.ensures.opened in
+    let two = rw left at one in
+    let are : AreOpened (without blocks closed) closed (length blocks) c.args.change.opened.items c.open_all.new.blocks.items = rw c.as_slice-2.ensures.value at two in
+    rw (← c.self.view_is) (kept-number blocks closed c.args.change.opened.items c.open_all.new.blocks.items are)

@@ -1,7 +1,7 @@
-use Rattle.std.proofs.Common.{◌≡◌, ◌≤◌, ◌+◌, true, false, None, Some, sym, ◌∙◌, ap, is_some, if◌then◌else◌, arith}
-use Rattle.std.specs.Prelude.{option_copied, option_map}
-use Rattle.swoosh_resolver.specs.Tables.{Entry, block_at, without, passes, IsMatchAt}
-use Rattle.swoosh_resolver.proofs.Places.{IsOpenBlock, open_block, no_block, block-closed, closed-from_found, IfNone-always}
+use Rattle.std.proofs.Common.{◌≡◌, false, None, sym, ◌∙◌, ap, arith}
+use Rattle.std.specs.Prelude.{option_copied}
+use Rattle.swoosh_resolver.specs.Tables.{block_at, without, passes}
+use Rattle.swoosh_resolver.proofs.Places.{open_block, no_block, block-closed, closed-from_found, IfNone-always}
 use Rattle.swoosh_resolver.proofs.blocks.Blocks.kept_match.Goals as goal
 
 -- a closed block is none

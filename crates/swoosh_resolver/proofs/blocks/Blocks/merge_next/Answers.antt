@@ -1,6 +1,5 @@
-use Rattle.std.proofs.Common.{◌≡◌, ◌<◌, ◌≤◌, ◌+◌, false, IsTrue, Some, get_or, length, refl, sym, ◌∙◌, ap, subst, arith}
-use Rattle.std.specs.Prelude.{All}
-use Rattle.swoosh_resolver.specs.Tables.{Entry, IsMatchAt, without, blocks_in}
+use Rattle.std.proofs.Common.{◌≡◌, ◌<◌, false, IsTrue, get_or, length, refl, sym, ◌∙◌, ap, subst}
+use Rattle.swoosh_resolver.specs.Tables.{Entry, IsMatchAt, without}
 use Rattle.swoosh_resolver.proofs.Views.{merges-kept, merges-fresh, fits-kept, fits-fresh, All-view}
 use Rattle.swoosh_resolver.proofs.blocks.Blocks.merge_next.Goals as goal
 
@@ -11,7 +10,7 @@ returns-in-Some-clause-merged g c =
     let found : IsMatchAt g.R.Resolvable.meets (without blocks change.closed.items) c.args.value.now.value c.in-Some.number c.in-Some.block.now = rw (← c.as_slice.ensures.value) (rw c.in-Some.is at c.in_ok-number.ensures.found) in
     let value = ap (λ (e : Entry g.row.R.Denot g.row.R-Key.Denot). e.value) c.value.view_is in
     rw c.in_ok-push.ensures.items
-    (merges-kept blocks change.closed.items change.opened.items c.args.value.now.value c.in-Some.block.now c.in_ok-merged.merged c.in-Some.number found
+    (merges-kept blocks change.closed.items change.opened.items g.met.R.Join.join_laws g.met.R.Resolvable.match_laws c.args.value.now.value c.in-Some.block.now c.in_ok-merged.merged c.in-Some.number found
     (c.in_ok-merged.ensures ∙ ap (g.R.Join.join c.in-Some.block.now) value))
 
 pub returns-in-Some-clause-fits : goal.returns-in-Some-clause-fits
@@ -32,7 +31,7 @@ returns-in_ok-joined-in-Some-first_fresh-clause-merged g c =
     let value = ap (λ (e : Entry g.row.R.Denot g.row.R-Key.Denot). e.value) c.value.view_is in
     let its = ap (λ (e : Entry g.row.R.Denot g.row.R-Key.Denot). e.value) c.other.view_is in
     rw c.swap_remove-other.ensures.items
-    (merges-fresh c.args.self.now.blocks change.closed.items change.opened.items c.args.value.now.value c.in_ok-joined-in-Some-first_fresh.field-0 place other within c.swap_remove-other.ensures.value matches
+    (merges-fresh c.args.self.now.blocks change.closed.items change.opened.items g.met.R.Join.join_laws g.met.R.Resolvable.match_laws c.args.value.now.value c.in_ok-joined-in-Some-first_fresh.field-0 place other within c.swap_remove-other.ensures.value matches
     (c.in_ok-joined-in-Some-first_fresh.ensures ∙ ap (λ v. g.R.Join.join v c.value.inside.value) its ∙ ap (g.R.Join.join other.value) value))
 
 pub returns-in_ok-joined-in-Some-first_fresh-clause-fits : goal.returns-in_ok-joined-in-Some-first_fresh-clause-fits

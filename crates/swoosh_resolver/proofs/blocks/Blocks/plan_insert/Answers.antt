@@ -1,10 +1,11 @@
-use Rattle.std.proofs.Common.{◌≡◌, ◌≤◌, ◌+◌, false, suc, length, [], ◌∷◌, ◌++◌, sym, ◌∙◌, ap, subst, arith}
-use Rattle.std.specs.Prelude.{All}
+use Rattle.std.proofs.Common.{[], ◌∷◌, ◌++◌, refl, sym, subst, arith}
 use Rattle.std.proofs.lemmas.List.Sorted.{length_permutation}
-use Rattle.merge_laws.specs.Resolution.{IsResolution, AreApart}
-use Rattle.merge_laws.proofs.Inserting.{IsInserting, inserting_none, inserting_joined, inserting_bound}
+use Rattle.merge_laws.specs.Resolution.{IsDominated}
+use Rattle.merge_laws.proofs.Resolutions.{IsDominated-right}
+use Rattle.merge_laws.proofs.Inserting.{inserting_none, inserting_joined, inserting_bound}
 use Rattle.merge_laws.proofs.Resolving.{IsResolving, resolving_kept, IsResolution-from_resolving}
-use Rattle.swoosh_resolver.specs.Tables.{Entry, view_of, Fits, Merges}
+use Rattle.swoosh_resolver.specs.Tables.{view_of}
+use Rattle.swoosh_resolver.proofs.Unmerged.{unmerged_none, unmerged-then}
 use Rattle.swoosh_resolver.proofs.Views.{view-push, fits-push}
 use Rattle.swoosh_resolver.proofs.blocks.Blocks.plan_insert.Goals as goal
 
@@ -14,6 +15,7 @@ loop-value-init g c = record {
   inserting = rw c.in_ok-value.ensures
       (inserting_none g.met.R.Join.join_laws g.met.R.Resolvable.match_laws g.met.R.Resolvable.key_laws (view_of c.args.self.now.blocks c.args.change.closed.items c.args.change.opened.items)
       c.args.value c.args.steps.now c.requires.apart);
+  others = unmerged_none c.args.self.now.blocks c.args.change.closed.items c.args.change.opened.items c.in_ok-value.value.value;
 }
 
 pub loop-value-smaller : goal.loop-value-smaller
@@ -31,7 +33,23 @@ loop-value-preserved g c =
           (inserting_joined g.met.R.Join.join_laws g.met.R.Resolvable.match_laws g.met.R.Resolvable.key_laws (view_of c.args.self.now.blocks c.args.change.closed.items c.args.change.opened.items)
           c.args.value c.args.steps.now c.loop-value.steps c.loop-value.value.value (view_of c.args.self.now.blocks c.loop-value.change.closed.items c.loop-value.change.opened.items) c.merge_next.new.steps merges.by
           (view_of c.args.self.now.blocks c.merge_next.new.change.closed.items c.merge_next.new.change.opened.items) c.loop-value.invariant.inserting c.merge_next.ensures.cost merges.taken merges.matches);
+      others = rw c.in_ok-value-2.ensures
+          (unmerged-then c.args.self.now.blocks c.args.change.closed.items c.args.change.opened.items g.met.R.Join.join_laws g.met.R.Resolvable.match_laws
+          c.loop-value.change.closed.items c.loop-value.change.opened.items c.loop-value.value.value c.merge_next.new.change.closed.items c.merge_next.new.change.opened.items c.in-Some.merged
+          c.loop-value.invariant.others (subst (IsDominated g.R.Resolvable.meets g.R.Join.join c.loop-value.value.value) (sym merges.is) (IsDominated-right g.met.R.Join.join_laws g.met.R.Resolvable.match_laws merges.by c.loop-value.value.value)) merges.others);
     }
+
+pub returns-clause-inserts : goal.returns-clause-inserts
+returns-clause-inserts g c =
+    let none = rw c.in_default.is at c.in_ok-merged.ensures.none in
+    rw (c.in_ok-push.ensures.items, none.0, none.1)
+    (record {
+      by = c.loop-value.value;
+      before = c.loop-value.change.opened.items;
+      last = refl;
+      dominates = c.loop-value.invariant.inserting.above;
+      others = c.loop-value.invariant.others;
+    })
 
 pub returns-clause-fits : goal.returns-clause-fits
 returns-clause-fits g c =

@@ -1,4 +1,4 @@
-use Rattle.std.proofs.Common.{◌≡◌, ◌<◌, ℕ, false, List, length, slice_index_or, subst, ap, arith}
+use Rattle.std.proofs.Common.{◌≡◌, ◌<◌, ℕ, false, length, slice_index_or, subst, ap, arith}
 use Rattle.std.specs.List.{list_any}
 use Rattle.swoosh_resolver.proofs.Keys.{absent-from_missed, shares_none}
 use Rattle.swoosh_resolver.proofs.keyed.Keyed.shares_key.Goals as goal
