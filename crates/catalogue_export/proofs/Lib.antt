@@ -15,3 +15,4 @@ pub mod KeyLetters
 pub mod KeyUtf8
 mod WritingLaws
 mod WalkLaws
+mod WorkWalk

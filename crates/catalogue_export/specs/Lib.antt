@@ -4,3 +4,4 @@ pub mod Exported
 pub mod ExportedLaws
 pub mod Editions
 pub mod Writing
+pub mod WorkLists

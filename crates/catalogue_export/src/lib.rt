@@ -18,3 +18,4 @@ pub mod laws;
 mod pending;
 #[cfg(test)]
 mod tests;
+pub mod works_text;

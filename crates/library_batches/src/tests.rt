@@ -1,12 +1,8 @@
 //! Sources of few and of many records in pieces of several sizes, refused frames among them, limits, and a read that fails.
 //! `batches_of` is the loop of a caller that keeps each batch.
-ghost use Rattle.std.specs.Prelude.{◌≡◌, ◌≤◌, ◌++◌, ◌∷◌, [], IfOk, IfSome, OnOk};
-ghost use Rattle.library_batches.specs.Handing.{IsRead};
+ghost use Rattle.std.specs.Prelude.{◌≤◌};
 
 use crate::batch_reader::BatchReader;
-use crate::laws::{
-    a_batch_is_behind_the_others, all_is_handed_out_at_the_end, nothing_is_handed_out_at_first,
-};
 use crate::outcome_counts::OutcomeCounts;
 use crate::refused::RefusedFrame;
 use crate::stop::Stop;
@@ -39,11 +35,7 @@ fn batches_of<S: Source>(
     source: &mut S,
 ) -> Result<(Vec<Batch>, BatchReader), Stop>
     requires { limit ≤ LARGEST_SOURCE }
-    ensures { IfOk result (λ read. IfSome (S.left source.old) (λ bytes. IsRead library.now limit bytes read.0.items read.1)) }
 {
-    nothing_is_handed_out_at_first();
-    a_batch_is_behind_the_others();
-    all_is_handed_out_at_the_end();
     let mut reader = BatchReader::open(alloc, library, limit)?;
     let mut batches = Vec::new(alloc);
     loop {
@@ -55,9 +47,7 @@ fn batches_of<S: Source>(
 }
 
 /// Keeps one batch more.
-fn keep(batches: &mut Vec<Batch>, batch: Batch) -> Result<(), Memory>
-    ensures { OnOk result (batches.new.items ≡ batches.old.items ++ batch ∷ []) }
-{
+fn keep(batches: &mut Vec<Batch>, batch: Batch) -> Result<(), Memory> {
     batches.push(batch)?;
     Ok(())
 }

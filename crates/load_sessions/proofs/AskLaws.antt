@@ -32,7 +32,7 @@ pub Leads-more : (known : ℕ) (questions : List Query) (told : List (ℕ × Ans
 Leads-more known questions told now later seen seen' question left reply leads follows above is floor says = record {
   on = λ history more goes_on replied.
       let whole : take reply.0 history ≡ seen' =
-          ap (λ n. take n history) is ∙ ap (take (length seen')) (sym goes_on.1) ∙ take-append_seam seen' goes_on.0 in
+      ap (λ n. take n history) is ∙ ap (take (length seen')) (sym goes_on.1) ∙ take-append_seam seen' goes_on.0 in
       let within : reply.0 ≤ length history = omega (arith, is, ap length goes_on.1, length-append seen' goes_on.0) in
       subst (Replied history known questions) (sym (append_assoc told (reply ∷ []) more))
       (leads.on history (reply ∷ more) (IsPrefix-more seen seen' history follows goes_on)

@@ -37,7 +37,7 @@ found_from-none : (all : MapOf Edition) (number : ℕ) (xs : List (ℕ × Batch)
 found_from-none all number [] none = refl
 found_from-none all number (x ∷ xs) none =
     elim (x.0 == number) as (λ b. length (map (λ (e : ℕ × Batch). e.1) (cond b (x ∷ filter (λ (e : ℕ × Batch). e.0 == number) xs) (filter (λ (e : ℕ × Batch). e.0 == number) xs))) ≡ 0
-        → cond b (outcomes x.1.library all x.1.ops) [] ++ found_from (after_batch all x.1) number xs ≡ [])
+    → cond b (outcomes x.1.library all x.1.ops) [] ++ found_from (after_batch all x.1) number xs ≡ [])
     [ true ↦ λ h. absurd (omega arith) | false ↦ λ h. found_from-none (after_batch all x.1) number xs h ] none
 
 changes_of-append : (number : ℕ) (xs ys : List (ℕ × Batch)) → changes_of number (xs ++ ys) ≡ changes_of number xs ++ changes_of number ys
@@ -60,17 +60,17 @@ found-turn number seen before later own more batch brought had has gained follow
     let rest = follows.0 in
     let whole : later ≡ seen ++ (rest ++ (number, batch) ∷ []) = ends ∙ ap (λ xs. xs ++ (number, batch) ∷ []) (sym follows.1) ∙ append_assoc seen rest _ in
     let split : more ≡ own ++ (changes_of number rest ++ batch ∷ []) =
-        sym has ∙ ap (changes_of number) whole ∙ changes_of-append number seen (rest ++ (number, batch) ∷ [])
-        ∙ ap (λ xs. xs ++ changes_of number (rest ++ (number, batch) ∷ [])) had
-        ∙ ap (λ xs. own ++ xs) (changes_of-append number rest ((number, batch) ∷ []) ∙ ap (λ xs. changes_of number rest ++ xs) (changes_of-one number batch)) in
+    sym has ∙ ap (changes_of number) whole ∙ changes_of-append number seen (rest ++ (number, batch) ∷ [])
+    ∙ ap (λ xs. xs ++ changes_of number (rest ++ (number, batch) ∷ [])) had
+    ∙ ap (λ xs. own ++ xs) (changes_of-append number rest ((number, batch) ∷ []) ∙ ap (λ xs. changes_of number rest ++ xs) (changes_of-one number batch)) in
     let none : length (changes_of number rest) ≡ 0 =
-        omega (arith, ap length split, ap length gained, length-append own (changes_of number rest ++ batch ∷ []), length-append (changes_of number rest) (batch ∷ []), length-append own (batch ∷ [])) in
+    omega (arith, ap length split, ap length gained, length-append own (changes_of number rest ++ batch ∷ []), length-append (changes_of number rest) (batch ∷ []), length-append own (batch ∷ [])) in
     let now : found later number ≡ found_from [] number before ++ outcomes batch.library (after_entries [] before) batch.ops =
-        ap (found_from [] number) ends ∙ found_from-append [] number before ((number, batch) ∷ [])
-        ∙ ap (λ xs. found_from [] number before ++ xs) (found_from-one (after_entries [] before) number batch) in
+    ap (found_from [] number) ends ∙ found_from-append [] number before ((number, batch) ∷ [])
+    ∙ ap (λ xs. found_from [] number before ++ xs) (found_from-one (after_entries [] before) number batch) in
     let then : found_from [] number before ≡ found seen number =
-        ap (found_from [] number) (sym follows.1) ∙ found_from-append [] number seen rest
-        ∙ ap (λ xs. found seen number ++ xs) (found_from-none (after_entries [] seen) number rest none) ∙ append-nil (found seen number) in
+    ap (found_from [] number) (sym follows.1) ∙ found_from-append [] number seen rest
+    ∙ ap (λ xs. found seen number ++ xs) (found_from-none (after_entries [] seen) number rest none) ∙ append-nil (found seen number) in
     now ∙ ap (λ xs. xs ++ outcomes batch.library (after_entries [] before) batch.ops) then
     ∙ ap (λ xs. found seen number ++ xs) (sym (brings ∙ ap (λ all. outcomes batch.library all batch.ops) (after_entries-history [] before)))
 

@@ -14,7 +14,9 @@ pub mod asker;
 mod asking;
 pub mod end;
 pub mod report;
+pub mod running;
 pub mod served;
 pub mod session;
-pub mod running;
+#[cfg(test)]
+mod tests;
 mod turning;

@@ -25,6 +25,17 @@ pub struct Served {
     pub ghost few: { length catalogue < 2 ^ 63 },
 }
 
+impl Served {
+    /// A catalogue without history, to open a desk with. Answers `Memory` where memory ran out.
+    pub fn empty(alloc: Global) -> Result<Served, Memory>
+        ensures { IfOk result (λ served. served.catalogue ≡ []) }
+    {
+        Ok(Served {
+            catalogue: Catalogue::empty(alloc)?,
+        })
+    }
+}
+
 /// Applies a batch, with the match tests counted in a ledger of their own.
 fn apply_by<L: Ledger>(
     alloc: Global,

@@ -1,8 +1,13 @@
 //! The loading of one library.
+ghost use Rattle.std.specs.Prelude.{◌≡◌};
+ghost use Rattle.catalogue_lock.specs.Tokens.{view};
+ghost use Rattle.load_sessions.specs.Sessions.{IsBlank};
+
 use crate::end::End;
 use crate::report::Report;
 use crate::served::Served;
 use catalogue_lock::pass::Pass;
+use std::alloc::Global;
 use union_base::library_code::LibraryCode;
 
 /// The loading of one library: its source, of which so many bytes are read, and the pass that makes its turns. The report and
@@ -16,4 +21,33 @@ pub struct Session<S> {
     pub pass: Pass<Served>,
     pub report: Report,
     pub end: End,
+}
+
+impl<S> Session<S> {
+    /// A session that was not run, under the number of its pass. Takes no memory.
+    pub fn new(
+        alloc: Global,
+        library: LibraryCode,
+        source: S,
+        limit: u64,
+        pass: Pass<Served>,
+    ) -> Session<S>
+        ensures number { result.number ≡ (view pass).number }
+        ensures library { result.library ≡ library }
+        ensures source { result.source ≡ source }
+        ensures limit { result.limit ≡ limit }
+        ensures pass { result.pass ≡ pass }
+        ensures report { IsBlank result.report }
+        ensures end { result.end ≡ End.NotRun }
+    {
+        Session {
+            number: pass.number(),
+            library,
+            source,
+            limit,
+            pass,
+            report: Report::blank(alloc),
+            end: End::NotRun,
+        }
+    }
 }

@@ -2,4 +2,4 @@
 use Rattle.catalogue_core.proofs.catalogue_tests.one_record_over_its_life.Given as goal
 
 abbrev pub ghosts-load_correct_withdraw : goal.ghosts-load_correct_withdraw
-ghosts-load_correct_withdraw a = record { name = a.blank.name; parts = a.blank.parts }
+ghosts-load_correct_withdraw a b = record { name = b.blank.name; parts = b.blank.parts }

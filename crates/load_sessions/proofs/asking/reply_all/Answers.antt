@@ -30,8 +30,8 @@ loop-question-preserved g c =
     let question = c.question-item.result in
     let inside : place < length questions = c.loop-question-test.true in
     let first : drop place questions ≡ question ∷ drop (place + 1) questions =
-        drop-cons questions place question inside ∙ ap (λ q. q ∷ drop (suc place) questions) (sym c.question-item.is)
-        ∙ ap (λ n. question ∷ drop n questions) (sym (add-one place)) in
+    drop-cons questions place question inside ∙ ap (λ q. q ∷ drop (suc place) questions) (sym c.question-item.is)
+    ∙ ap (λ n. question ∷ drop n questions) (sym (add-one place)) in
     record {
       desk = c.ask.ensures.desk;
       same = (c.ask.ensures.same.0 ∙ before.same.0, c.ask.ensures.same.1 ∙ before.same.1);

@@ -23,7 +23,7 @@ loop-batch-init g c =
     let pass = view session.pass in
     let room = ap (λ (reader : Batching). most_ahead reader.stream) c.requires.reader in
     record {
-      keeps = record { number = refl; library = refl; limit = refl; source = refl; desk_is = c.requires.desk; pass = (refl, refl); };
+      keeps = record { number = refl; library = refl; limit = refl; source = refl; desk_is = c.requires.desk; pass = (refl, refl) };
       calm = refl;
       handed = subst (λ own. HandsOut session.library session.limit left own c.args.reader.now left) (sym c.requires.own)
           (subst (λ reader. HandsOut session.library session.limit left [] reader left) (sym c.requires.reader) (HandsOut-none session.library session.limit left));
@@ -53,7 +53,7 @@ returns-in_err-batch g c =
       pass = before.keeps.pass;
     }) before.handed
     (λ is. HandsOut-long start.library start.limit left told later (view c.loop-batch.session.pass).own c.loop-batch.reader c.next.new.self before.handed
-        (subst (λ why. Answers (Err why) c.loop-batch.reader told c.next.new.self later) is c.in_err-batch.ensures.answers))
+    (subst (λ why. Answers (Err why) c.loop-batch.reader told c.next.new.self later) is c.in_err-batch.ensures.answers))
     (λ is. subst (λ count. Rose count (g.S.Source.faults c.next.new.source)) before.calm (c.in_err-batch.ensures.failed (ap Err is)))
     (λ other. c.in_err-batch.ensures.calm (λ is. other (cc)) ∙ before.calm)
 

@@ -1,0 +1,98 @@
+//! The list of a catalogue's works.
+ghost use Rattle.std.specs.Prelude.{◌≡◌, ◌++◌, OnOk, List};
+ghost use Rattle.std.specs.List.{flat_map};
+ghost use Rattle.catalogue_core.specs.Histories.{AreEditionsOf};
+ghost use Rattle.catalogue_core.specs.declared.edition.Edition.{Edition as EditionModel};
+ghost use Rattle.catalogue_export.specs.WorkLists.{edition_line, work_text, works_text_of};
+ghost use Rattle.catalogue_export.specs.Writing.{HasMoved, HasWritten};
+
+use crate::export_fail::ExportFail;
+use crate::pending::{hand_on, hand_on_rest};
+use catalogue_core::catalogue::Catalogue;
+use std::alloc::Global;
+use union_base::memory::Memory;
+use union_base::record_id::RecordId;
+use union_io::sink::Sink;
+use workset_keys::work_key::own_name;
+
+/// Writes the works of a catalogue's editions, in order of their keys: each by its key, with a line for each of its editions in
+/// order of the least contributors. The text is handed on in pieces, so that memory grows with the largest work alone.
+///
+/// Answers `WriteFault` only where a write of `out` failed, and `Memory` where memory ran out. A front of the text was written
+/// then.
+pub fn works_text<O: Sink>(
+    alloc: Global,
+    catalogue: &Catalogue,
+    out: &mut O,
+) -> Result<(), ExportFail>
+    ensures { (all : List EditionModel) × AreEditionsOf catalogue.now all
+        × HasWritten (works_text_of all)
+        (record { old = O.written out.old; new = O.written out.new; before = O.faults out.old; after = O.faults out.new }) result }
+{
+    let works = catalogue.works();
+    let mut pending = Vec::new(alloc);
+    let mut next = works.after(None);
+    for _ in 0..works.count() {
+        if let Some(key) = next {
+            let text = key.bytes();
+            let editions = works.editions_of(text);
+            match write_work(alloc, text, editions, &mut pending, out) {
+                Ok(()) => next = works.after(Some(key)),
+                Err(fail) => return Err(fail),
+            }
+        }
+    }
+    hand_on_rest(pending.as_slice(), out)
+}
+
+/// Writes a work behind what is pending.
+fn write_work<O: Sink>(
+    alloc: Global,
+    key: &[u8],
+    editions: &[RecordId],
+    pending: &mut Vec<u8>,
+    out: &mut O,
+) -> Result<(), ExportFail>
+    ensures { HasMoved (pending.old.items ++ work_text (key.now, editions.now)) pending.new.items
+        (record { old = O.written out.old; new = O.written out.new; before = O.faults out.old; after = O.faults out.new }) result }
+{
+    add_work(alloc, key, editions, pending)?;
+    hand_on(pending, out)
+}
+
+/// Adds a work: its key, and its editions.
+fn add_work(
+    alloc: Global,
+    key: &[u8],
+    editions: &[RecordId],
+    text: &mut Vec<u8>,
+) -> Result<(), Memory>
+    ensures { OnOk result (text.new.items ≡ text.old.items ++ work_text (key.now, editions.now)) }
+{
+    text.extend_from_slice(b"work ")?;
+    text.extend_from_slice(key)?;
+    text.push(b'\n')?;
+    add_editions(alloc, editions, text)?;
+    Ok(())
+}
+
+/// Adds a line for each edition.
+fn add_editions(alloc: Global, editions: &[RecordId], text: &mut Vec<u8>) -> Result<(), Memory>
+    ensures { OnOk result (text.new.items ≡ text.old.items ++ flat_map edition_line editions.now) }
+{
+    for id in editions {
+        add_edition(alloc, id, text)?;
+    }
+    Ok(())
+}
+
+/// Adds ` LIB.CTL`.
+fn add_edition(alloc: Global, id: &RecordId, text: &mut Vec<u8>) -> Result<(), Memory>
+    ensures { OnOk result (text.new.items ≡ text.old.items ++ edition_line id.now) }
+{
+    let name = own_name(alloc, id)?;
+    text.push(b' ')?;
+    text.extend_from_slice(name.bytes())?;
+    text.push(b'\n')?;
+    Ok(())
+}
