@@ -17,5 +17,7 @@ pub mod run;
 mod saying;
 mod script_file;
 mod stops;
+#[cfg(test)]
+mod tests;
 mod union;
 mod whole;
