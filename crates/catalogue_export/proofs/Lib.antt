@@ -14,5 +14,5 @@ pub mod ExportedProof
 pub mod KeyLetters
 pub mod KeyUtf8
 mod WritingLaws
-mod WalkLaws
+mod AroundLaws
 mod WorkWalk

@@ -6,7 +6,8 @@ use Rattle.std.proofs.lemmas.List.{take_all}
 use Rattle.catalogue_core.proofs.SameEditions.{same_editions_of}
 use Rattle.catalogue_export.specs.Editions.{edition_text, export_text, left_of_one, left_of}
 use Rattle.catalogue_export.specs.Writing.{IsWrittenTo}
-use Rattle.catalogue_export.proofs.WalkLaws.{first-at, next-after, told-more, told-around, some-within}
+use Rattle.catalogue_core.proofs.WalkLaws.{first-at, next-after, told-more, some-within}
+use Rattle.catalogue_export.proofs.AroundLaws.{told-around}
 use Rattle.catalogue_export.proofs.WritingLaws.{written-none, moved-more, stopped-written, rest-written, on-ok}
 use Rattle.catalogue_export.proofs.export.export.Goals as goal
 use Rattle.catalogue_export.proofs.export.export.Goals.{in-Some+in-Ok, in_default}

@@ -8,7 +8,8 @@ use Rattle.work_clusters.specs.Works.{key_cmp, keys_of, ids_under}
 use Rattle.work_clusters.specs.WorksLaws.{is_ascending-keys_in, keys_of-works_of}
 use Rattle.catalogue_export.specs.WorkLists.{work_text, works_text_of}
 use Rattle.catalogue_export.specs.Writing.{IsWrittenTo}
-use Rattle.catalogue_export.proofs.WalkLaws.{told-more, told-around, some-within}
+use Rattle.catalogue_core.proofs.WalkLaws.{told-more, some-within}
+use Rattle.catalogue_export.proofs.AroundLaws.{told-around}
 use Rattle.catalogue_export.proofs.WorkWalk.{first-key, next-key, work-at, keys-many}
 use Rattle.catalogue_export.proofs.WritingLaws.{written-none, moved-more, stopped-written, rest-written}
 use Rattle.catalogue_export.proofs.works_text.works_text.Goals as goal
