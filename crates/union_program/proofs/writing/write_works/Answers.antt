@@ -10,7 +10,7 @@ returns-in-Ok g c =
       all,
       c.in-Ok.ensures.1,
       shown-whole (works_text_of all) (c.args.loaded.reports.items ++ []) (end_by c.args.loaded.refused) _ _ c.write_reports.result
-      c.in-Ok.ensures.2.written c.write_reports.ensures,
+          c.in-Ok.ensures.2.written c.write_reports.ensures,
     )
 
 pub returns-in-Err-WriteFault : goal.returns-in-Err-WriteFault
@@ -19,7 +19,7 @@ returns-in-Err-WriteFault g c =
       all,
       c.in-Err-WriteFault.ensures.1,
       shown-failed (works_text_of all) (c.args.loaded.reports.items ++ []) (end_by c.args.loaded.refused) _ _
-      c.in-Err-WriteFault.ensures.2.written (c.in-Err-WriteFault.ensures.2.failed (ap Err c.in-Err-WriteFault.field-0-is)) refl,
+          c.in-Err-WriteFault.ensures.2.written (c.in-Err-WriteFault.ensures.2.failed (ap Err c.in-Err-WriteFault.field-0-is)) refl,
     )
 
 pub returns : goal.returns
@@ -28,5 +28,5 @@ returns g c =
       all,
       c.in-Err-Memory.ensures.1,
       shown-memory (works_text_of all) (c.args.loaded.reports.items ++ []) (end_by c.args.loaded.refused) _ _
-      c.in-Err-Memory.ensures.2.written c.put_early.ensures,
+          c.in-Err-Memory.ensures.2.written c.put_early.ensures,
     )
