@@ -138,12 +138,12 @@ interleaving-more streams history n batches is_last before =
           under-append m history (map (entry_of n) batches)
           ∙ elim (found-pushed (λ (x : List Batch). Unit {0}) streams batches m found at) [
             | inl here ↦
-              let low = within streams m found here in
-              ap (λ bs. batches_under m history ++ bs) (under-other m n batches (λ same. absurd (omega (arith, same, low, is_last))))
-              ∙ (append-nil (batches_under m history) ∙ before.each m found here)
+                let low = within streams m found here in
+                ap (λ bs. batches_under m history ++ bs) (under-other m n batches (λ same. absurd (omega (arith, same, low, is_last))))
+                ∙ (append-nil (batches_under m history) ∙ before.each m found here)
             | inr last ↦
-              ap (λ bs. bs ++ batches_under m (map (entry_of n) batches)) (under-none m (length streams) history (omega (arith, last.0)) before.numbers)
-              ∙ (ap (λ at. batches_under m (map (entry_of at) batches)) (is_last ∙ sym last.0) ∙ (under-own m batches ∙ sym last.1))
+                ap (λ bs. bs ++ batches_under m (map (entry_of n) batches)) (under-none m (length streams) history (omega (arith, last.0)) before.numbers)
+                ∙ (ap (λ at. batches_under m (map (entry_of at) batches)) (is_last ∙ sym last.0) ∙ (under-own m batches ∙ sym last.1))
           ];
     }
 

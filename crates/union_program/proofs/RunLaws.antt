@@ -162,7 +162,7 @@ loaded_run showing loaded status libraries shelf out notes calm united shows =
       resolved = shows.1;
     } in
     let end : (contents : List ℕ → List ℕ) → HasUnited (deliveries contents libraries) loaded → end_by loaded.refused ≡ end_of_all (deliveries contents libraries)
-        = λ contents u. ap end_by u.refused in
+    = λ contents u. ap end_by u.refused in
     record {
       open_fault = λ i is. absurd (other-end loaded.refused status (OpenFault i) written.kinds refl (λ e. cc) (λ e. cc) is);
       read_fault = λ i is. absurd (other-end loaded.refused status (ReadFault i) written.kinds refl (λ e. cc) (λ e. cc) is);
@@ -171,17 +171,33 @@ loaded_run showing loaded status libraries shelf out notes calm united shows =
       other = λ is. other-end loaded.refused status Usage written.kinds refl (λ e. cc) (λ e. cc) is;
       too_long = λ i is. absurd (other-end loaded.refused status (TooLong i) written.kinds refl (λ e. cc) (λ e. cc) is);
       done = λ done. on_told shelf.files
-          (λ contents holds. (holds.0, done-end loaded.refused status written.kinds done ∙ end contents holds.1,
-              (holds.1.union.streams, editions, whole contents holds.1, (written.done done).0,
-              subst (λ reports. Appends notes.old notes.new (reports ++ showing.noted editions)) holds.1.union.reports (written.done done).1)))
+          (λ contents holds. (
+            holds.0,
+            done-end loaded.refused status written.kinds done ∙ end contents holds.1,
+            (
+              holds.1.union.streams,
+              editions,
+              whole contents holds.1,
+              (written.done done).0,
+              subst (λ reports. Appends notes.old notes.new (reports ++ showing.noted editions)) holds.1.union.reports (written.done done).1,
+            ),
+          ))
           united;
       untouched = λ early other. absurd (other (early-memory loaded.refused status written.kinds early));
       memory = λ is. inr (on_told shelf.files
           (λ contents holds. (holds.0, (holds.1.union.streams, editions, whole contents holds.1, (written.memory is).0)))
           united);
       part = λ is. on_told shelf.files
-          (λ contents holds. (holds.0, (holds.1.union.streams, editions, whole contents holds.1, (written.part is).0,
-              subst (λ reports. AppendsFront notes.old notes.new (reports ++ showing.noted editions)) holds.1.union.reports (written.part is).1)))
+          (λ contents holds. (
+            holds.0,
+            (
+              holds.1.union.streams,
+              editions,
+              whole contents holds.1,
+              (written.part is).0,
+              subst (λ reports. AppendsFront notes.old notes.new (reports ++ showing.noted editions)) holds.1.union.reports (written.part is).1,
+            ),
+          ))
           united;
       too_long_where = λ contents i is found none. absurd (within_none contents libraries i (told (λ contents. AreWithin contents libraries × HasUnited (deliveries contents libraries) loaded) shelf.files contents is united).0 found);
       complete = λ contents is within none sound_out sound_notes.

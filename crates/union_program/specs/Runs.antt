@@ -5,6 +5,7 @@ use Rattle.std.specs.Io.KnownBytes.{Appends, Keeps}
 use Rattle.catalogue_core.specs.Histories.{AreEditionsOf}
 use Rattle.catalogue_core.specs.declared.edition.Edition.{Edition}
 use Rattle.catalogue_export.specs.Editions.{export_text}
+use Rattle.catalogue_export.specs.WorkLists.{works_text_of}
 use Rattle.iso2709_frame.specs.Frames.{frames}
 use Rattle.union_io.specs.Writing.{AppendsFront}
 use Rattle.library_batches.specs.Refused.{refused}
@@ -24,6 +25,8 @@ use Rattle.union_program.specs.Inputs.{inputs_of, AreWithin, IsTooLongAt, delive
 use Rattle.union_program.specs.Readings.{IsOverfull}
 use Rattle.union_program.specs.Unions.{IsUnion}
 use Rattle.union_program.specs.declared.loaded.Loaded.{Loaded}
+use Rattle.union_program.specs.declared.shown.Shown.{Shown}
+use Rattle.union_program.specs.declared.shown.Shown.TheVariants.{Export, Works}
 
 -- how a run ends that came to its end
 abbrev pub end_with : List RefusedFrame → Status
@@ -63,6 +66,14 @@ pub record Showing : Type 0 where
 -- the export, and lines on what was left out of it
 abbrev pub exported : Showing
 exported = record { shown = export_text; noted = left_lines }
+
+-- the list of the works
+abbrev pub listed : Showing
+listed = record { shown = works_text_of; noted = λ editions. [] }
+
+abbrev pub showing_of : Shown → Showing
+showing_of Export = exported
+showing_of Works = listed
 
 -- all was written: what is shown of the union of these deliveries, their reports, and what is noted
 abbrev pub IsShown : Showing → List Delivery → Outflow → Outflow → Type 0

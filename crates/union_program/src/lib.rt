@@ -11,6 +11,7 @@ pub mod opening;
 pub mod reading;
 pub mod run;
 pub mod shelved;
+pub mod shown;
 pub mod stop_status;
 pub mod tally;
 #[cfg(test)]

@@ -11,12 +11,13 @@ ghost use Rattle.union_words.specs.Texts.{early_text};
 ghost use Rattle.union_words.specs.Words;
 ghost use Rattle.union_words.specs.Flows.{IsNoted};
 ghost use Rattle.union_words.specs.Statuses.{is_early};
-ghost use Rattle.union_program.specs.Runs.{exported, IsCheck, IsUnionRun, IsTold};
+ghost use Rattle.union_program.specs.Runs.{exported, listed, showing_of, IsCheck, IsUnionRun, IsTold};
 
 use crate::notes::put_early;
 use crate::reading::load_libraries;
 use crate::shelved::check_file;
-use crate::writing::write_export;
+use crate::shown::Shown;
+use crate::writing::write_shown;
 use std::alloc::Global;
 use union_base::bytes::Bytes;
 use union_base::memory::Memory;
@@ -91,15 +92,16 @@ fn run_check<F: Shelf, O: Sink>(
     }
 }
 
-/// Exports the files of libraries.
-fn run_export<F: Shelf, O: Sink, N: Sink>(
+/// Fills a catalogue with the files of libraries, and shows it.
+fn run_union<F: Shelf, O: Sink, N: Sink>(
     alloc: Global,
+    shown: Shown,
     libraries: &Libraries<'_>,
     shelf: &mut F,
     out: &mut O,
     notes: &mut N,
 ) -> Status
-    ensures run { IsUnionRun exported (libraries_meaning libraries.now)
+    ensures run { IsUnionRun (showing_of shown) (libraries_meaning libraries.now)
         (record { files = F.files shelf.old; before = F.faults shelf.old; after = F.faults shelf.new })
         (record { old = O.written out.old; new = O.written out.new; before = O.faults out.old; after = O.faults out.new })
         (record { old = N.written notes.old; new = N.written notes.new; before = N.faults notes.old; after = N.faults notes.new })
@@ -109,7 +111,7 @@ fn run_export<F: Shelf, O: Sink, N: Sink>(
         (early_text result) }
 {
     match load_libraries(alloc, libraries, shelf) {
-        Ok(loaded) => write_export(alloc, loaded, out, notes),
+        Ok(loaded) => write_shown(alloc, shown, loaded, out, notes),
         Err(status) => end(notes, status),
     }
 }
@@ -117,8 +119,8 @@ fn run_export<F: Shelf, O: Sink, N: Sink>(
 /// Does what the words behind the program's name say.
 ///
 /// `check LIB=PATH` tells which frames of a library's file are refused; `export LIB=PATH ..` exports the union catalogue of
-/// the libraries' current records on `out` and reports on `notes`; `--help` and `--version` write a text of the program's own
-/// on `out`. The runtime and the gate are not used yet.
+/// the libraries' current records on `out` and reports on `notes`, and `works LIB=PATH ..` lists its works in place of the
+/// export; `--help` and `--version` write a text of the program's own on `out`. The runtime and the gate are not used yet.
 pub fn union_run<R, F: Shelf, O: Sink, N: Sink, G: Gate>(
     _rt: &R,
     alloc: Global,
@@ -145,6 +147,12 @@ pub fn union_run<R, F: Shelf, O: Sink, N: Sink, G: Gate>(
         (record { old = O.written out.old; new = O.written out.new; before = O.faults out.old; after = O.faults out.new })
         (record { old = N.written notes.old; new = N.written notes.new; before = N.faults notes.old; after = N.faults notes.new })
         result }
+    ensures works { (libraries : List Words.LibraryFile) → Words.job_of MOST_LIBRARIES words.now ≡ Some (Words.Works libraries)
+        → IsUnionRun listed libraries
+        (record { files = F.files shelf.old; before = F.faults shelf.old; after = F.faults shelf.new })
+        (record { old = O.written out.old; new = O.written out.new; before = O.faults out.old; after = O.faults out.new })
+        (record { old = N.written notes.old; new = N.written notes.new; before = N.faults notes.old; after = N.faults notes.new })
+        result }
     ensures help { Words.job_of MOST_LIBRARIES words.now ≡ Some Words.Help → IsTold HELP.now
         (record { old = O.written out.old; new = O.written out.new; before = O.faults out.old; after = O.faults out.new }) result }
     ensures version { Words.job_of MOST_LIBRARIES words.now ≡ Some Words.Version → IsTold VERSION.now
@@ -154,11 +162,13 @@ pub fn union_run<R, F: Shelf, O: Sink, N: Sink, G: Gate>(
     ensures noted { IsTrue (is_early result)
         → IsNoted (record { old = N.written notes.old; new = N.written notes.new; before = N.faults notes.old; after = N.faults notes.new })
         (early_text result) }
-    ensures quiet { is_early result ≡ false → ((libraries : List Words.LibraryFile)
-        → Words.job_of MOST_LIBRARIES words.now ≢ Some (Words.Export libraries)) → Keeps (N.written notes.old) (N.written notes.new) }
+    ensures quiet { is_early result ≡ false
+        → ((libraries : List Words.LibraryFile) → Words.job_of MOST_LIBRARIES words.now ≢ Some (Words.Export libraries))
+        → ((libraries : List Words.LibraryFile) → Words.job_of MOST_LIBRARIES words.now ≢ Some (Words.Works libraries))
+        → Keeps (N.written notes.old) (N.written notes.new) }
 
     // A run of words in no form writes nothing else, and of files only one that the words name can be at fault: of an
-    // export its own clauses say which.
+    // export, of works and of a script their own clauses say which.
     ensures unused { Words.job_of MOST_LIBRARIES words.now ≡ None → Keeps (O.written out.old) (O.written out.new) }
     ensures check_others { (file : Words.LibraryFile) → Words.job_of MOST_LIBRARIES words.now ≡ Some (Words.Check file)
         → SameElsewhere (F.faults shelf.old) (F.faults shelf.new) file.path }
@@ -169,8 +179,18 @@ pub fn union_run<R, F: Shelf, O: Sink, N: Sink, G: Gate>(
             let status = run_check(alloc, &file, shelf, out);
             end(notes, status)
         }
-        Some(Job::Export(libraries)) => run_export(alloc, &libraries, shelf, out, notes),
-        Some(Job::Works(_) | Job::Script(_)) => end(notes, Status::Memory),
+        Some(Job::Export(libraries)) => {
+            run_union(alloc, Shown::Export, &libraries, shelf, out, notes)
+        }
+        Some(Job::Works(libraries)) => run_union(
+            alloc,
+            Shown::Works,
+            &libraries,
+            shelf,
+            out,
+            notes,
+        ),
+        Some(Job::Script(_)) => end(notes, Status::Memory),
         Some(Job::Help) => tell(out, help_text()),
         Some(Job::Version) => tell(out, version_text()),
     }

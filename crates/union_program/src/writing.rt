@@ -3,12 +3,14 @@ ghost use Rattle.std.specs.Prelude.{◌≡◌, ◌++◌, IfOk, IsTrue};
 ghost use Rattle.std.specs.List.{flat_map};
 ghost use Rattle.union_reports.specs.Reports.{left_line};
 ghost use Rattle.union_words.specs.Statuses.{end_by, is_done};
-ghost use Rattle.union_program.specs.Runs.{exported, IsReported, Shows};
+ghost use Rattle.union_program.specs.Runs.{exported, listed, showing_of, IsReported, Shows};
 
 use crate::loaded::Loaded;
 use crate::notes::put_early;
+use crate::shown::Shown;
 use catalogue_export::export::export;
 use catalogue_export::export_fail::ExportFail;
+use catalogue_export::works_text::works_text;
 use std::alloc::Global;
 use union_base::memory::Memory;
 use union_base::record_id::RecordId;
@@ -67,7 +69,7 @@ fn write_reports<N: Sink>(
 }
 
 /// Writes the export, the reports, and what was left out.
-pub fn write_export<O: Sink, N: Sink>(
+fn write_export<O: Sink, N: Sink>(
     alloc: Global,
     loaded: Loaded,
     out: &mut O,
@@ -86,5 +88,46 @@ pub fn write_export<O: Sink, N: Sink>(
             put_early(notes, &Status::Memory);
             Status::Memory
         }
+    }
+}
+
+/// Writes the list of works, and the reports.
+fn write_works<O: Sink, N: Sink>(
+    alloc: Global,
+    loaded: Loaded,
+    out: &mut O,
+    notes: &mut N,
+) -> Status
+    ensures { Shows listed loaded
+        (record { old = O.written out.old; new = O.written out.new; before = O.faults out.old; after = O.faults out.new })
+        (record { old = N.written notes.old; new = N.written notes.new; before = N.faults notes.old; after = N.faults notes.new })
+        result }
+{
+    match works_text(alloc, &loaded.catalogue, out) {
+        Ok(()) => write_reports(alloc, loaded, &[], notes),
+        Err(ExportFail::WriteFault) => Status::WriteFault,
+        Err(ExportFail::Memory) => {
+            put_early(notes, &Status::Memory);
+            Status::Memory
+        }
+    }
+}
+
+/// Writes what is to be shown of the catalogue, and the reports.
+pub fn write_shown<O: Sink, N: Sink>(
+    alloc: Global,
+    shown: Shown,
+    loaded: Loaded,
+    out: &mut O,
+    notes: &mut N,
+) -> Status
+    ensures { Shows (showing_of shown) loaded
+        (record { old = O.written out.old; new = O.written out.new; before = O.faults out.old; after = O.faults out.new })
+        (record { old = N.written notes.old; new = N.written notes.new; before = N.faults notes.old; after = N.faults notes.new })
+        result }
+{
+    match shown {
+        Shown::Export => write_export(alloc, loaded, out, notes),
+        Shown::Works => write_works(alloc, loaded, out, notes),
     }
 }

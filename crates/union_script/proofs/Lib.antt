@@ -4,4 +4,4 @@ mod BatchLaws
 mod TextLaws
 mod LineLaws
 mod StopLaws
-mod ScriptLaws
+pub mod ScriptLaws

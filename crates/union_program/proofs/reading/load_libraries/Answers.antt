@@ -18,8 +18,8 @@ returns g c =
     let rest = c.in_ok-read_rest.ensures.gathers in
     let same = c.in_ok-opened.ensures.opened in
     let distinct : have_distinct_codes words ≡ true =
-        (both_true (list_all is_library_word words) (have_distinct_codes words)
-        (both_true (nat_le 1 (length words)) (list_all is_library_word words && have_distinct_codes words) c.args.libraries.now.words_are_libraries).1).1 in
+    (both_true (list_all is_library_word words) (have_distinct_codes words)
+    (both_true (nat_le 1 (length words)) (list_all is_library_word words && have_distinct_codes words) c.args.libraries.now.words_are_libraries).1).1 in
     record {
       gathers = (
         λ name. rest.0 name ∙ c.in_ok-opened.ensures.calm name,

@@ -15,7 +15,7 @@ returns-in-Ok g c =
       all,
       c.in-Ok.ensures.1,
       shown-whole (export_text all) (c.args.loaded.reports.items ++ left_lines all) (end_by c.args.loaded.refused) _ _ c.write_reports.result
-      c.in-Ok.ensures.2.written (rw noted at c.write_reports.ensures),
+          c.in-Ok.ensures.2.written (rw noted at c.write_reports.ensures),
     )
 
 pub returns-in-Err-WriteFault : goal.returns-in-Err-WriteFault
@@ -24,7 +24,7 @@ returns-in-Err-WriteFault g c =
       all,
       c.in-Err-WriteFault.ensures.1,
       shown-failed (export_text all) (c.args.loaded.reports.items ++ left_lines all) (end_by c.args.loaded.refused) _ _
-      c.in-Err-WriteFault.ensures.2.written (c.in-Err-WriteFault.ensures.2.failed (ap Err c.in-Err-WriteFault.field-0-is)) refl,
+          c.in-Err-WriteFault.ensures.2.written (c.in-Err-WriteFault.ensures.2.failed (ap Err c.in-Err-WriteFault.field-0-is)) refl,
     )
 
 pub returns : goal.returns
@@ -33,5 +33,5 @@ returns g c =
       all,
       c.in-Err-Memory.ensures.1,
       shown-memory (export_text all) (c.args.loaded.reports.items ++ left_lines all) (end_by c.args.loaded.refused) _ _
-      c.in-Err-Memory.ensures.2.written c.put_early.ensures,
+          c.in-Err-Memory.ensures.2.written c.put_early.ensures,
     )

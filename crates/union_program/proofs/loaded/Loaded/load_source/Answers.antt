@@ -18,8 +18,8 @@ returns-clause-reads g c =
                 loaded-more all c.args.library.now bytes applied old _ before read.1 c.in_ok-self.ensures
                 (c.either-self.ensures ∙ ap (λ b. old.refused || b) (c.has_some.ensures ∙ ap (λ xs. nat_lt 0 (length xs)) c.refused-refused.ensures))
                 (λ found counted. c.in_ok-add_report.ensures.told (frames bytes) found (c.frames.ensures ∙ read.1.read.frames_are)
-                    (c.refused-refused.ensures ∙ read.1.read.refused_are) counted
-                    ∙ ap (λ code. old.reports.items ++ report_text code (frames bytes) found) c.bytes.ensures.value),
+                (c.refused-refused.ensures ∙ read.1.read.refused_are) counted
+                ∙ ap (λ code. old.reports.items ++ report_text code (frames bytes) found) c.bytes.ensures.value),
           ))
           c.in_ok-applied.ensures.reads.1,
     )
