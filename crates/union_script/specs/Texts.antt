@@ -13,6 +13,7 @@ use Rattle.catalogue_core.specs.declared.batch.Batch.{Batch}
 use Rattle.catalogue_core.specs.declared.edition.Edition.{Edition}
 use Rattle.catalogue_core.specs.declared.history_entry.HistoryEntry.{HistoryEntry}
 use Rattle.catalogue_export.specs.Editions.{export_text}
+use Rattle.catalogue_export.specs.WorkLists.{works_text_of}
 use Rattle.library_batches.specs.Streams.{Frame}
 use Rattle.library_batches.specs.Refused.{refused}
 use Rattle.library_batches.specs.Batches.{AreBatches}
@@ -51,6 +52,12 @@ pub record IsExport (history : List HistoryEntry) (text : List ℕ) : Type 0 whe
   pub resolved : AreEditionsOf history editions
   pub export : text ≡ export_text editions
 
+-- the text is the list of the works of the catalogue of that history
+pub record IsWorkList (history : List HistoryEntry) (text : List ℕ) : Type 0 where
+  pub editions : List Edition
+  pub resolved : AreEditionsOf history editions
+  pub works : text ≡ works_text_of editions
+
 -- the texts of lines that are refused
 abbrev pub refused_word : List ℕ
 refused_word = codes "refused word" ++ line_feed ∷ []
@@ -79,7 +86,7 @@ IsReply (Err QueryMemory) history text = ⊥
 abbrev pub Writes : Contents → ScriptLine → List HistoryEntry → List ℕ → List HistoryEntry → Type 0
 Writes contents (Load file) history text now = Loads file.library (frames (contents file.path)) history text now
 Writes contents Export history text now = IsExport history text × (now ≡ history)
-Writes contents Works history text now = (text ≡ refused_unknown) × (now ≡ history)
+Writes contents Works history text now = IsWorkList history text × (now ≡ history)
 Writes contents (Ask line) history text now = IsReply (query_of line) history text × (now ≡ history)
 Writes contents Word history text now = (text ≡ refused_word) × (now ≡ history)
 
@@ -98,7 +105,7 @@ has_refused all = nat_lt 0 (length (refused all))
 abbrev pub is_refused : Contents → ScriptLine → Bool
 is_refused contents (Load file) = has_refused (frames (contents file.path))
 is_refused contents Export = false
-is_refused contents Works = true
+is_refused contents Works = false
 is_refused contents (Ask line) = is_err (query_of line)
 is_refused contents Word = true
 

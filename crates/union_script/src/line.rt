@@ -3,15 +3,16 @@ ghost use Rattle.std.specs.Prelude.{◌≡◌, ◌∷◌, [], ℕ, List, false};
 ghost use Rattle.union_words.specs.Meanings.{file_meaning};
 ghost use Rattle.union_words.specs.ScriptLines.{Load as LoadLine, script_line};
 ghost use Rattle.union_script.specs.Lines.{LinesRun, Says};
-ghost use Rattle.union_script.specs.Texts.{asked_by, IsExport};
+ghost use Rattle.union_script.specs.Texts.{asked_by, IsExport, IsWorkList};
 
 use crate::asking::run_ask;
 use crate::loading::load_file;
-use crate::saying::{REFUSED_UNKNOWN, REFUSED_WORD, say};
+use crate::saying::{REFUSED_WORD, say};
 use crate::union::Union;
 use catalogue_core::catalogue::Catalogue;
 use catalogue_export::export::export;
 use catalogue_export::export_fail::ExportFail;
+use catalogue_export::works_text::works_text;
 use std::alloc::Global;
 use std::sync::ledger::Ledger;
 use union_io::shelf::Shelf;
@@ -53,6 +54,18 @@ fn run_export<O: Sink>(alloc: Global, catalogue: &Catalogue, out: &mut O) -> Res
     }
 }
 
+/// Writes the list of the works.
+fn run_works<O: Sink>(alloc: Global, catalogue: &Catalogue, out: &mut O) -> Result<bool, Status>
+    ensures { (text : List ℕ) × IsWorkList catalogue.now text × Says result text false
+        (record { old = O.written out.old; new = O.written out.new; before = O.faults out.old; after = O.faults out.new }) }
+{
+    match works_text(alloc, catalogue, out) {
+        Ok(()) => Ok(false),
+        Err(ExportFail::WriteFault) => Err(Status::WriteFault),
+        Err(ExportFail::Memory) => Err(Status::Memory),
+    }
+}
+
 /// Runs a line that is not skipped.
 fn run_line<L: Ledger, F: Shelf, O: Sink>(
     alloc: Global,
@@ -69,7 +82,7 @@ fn run_line<L: Ledger, F: Shelf, O: Sink>(
     match ScriptLine::read(line) {
         ScriptLine::Load(file) => run_load(alloc, &file, union, shelf, out),
         ScriptLine::Export => run_export(alloc, &union.catalogue, out),
-        ScriptLine::Works => say(REFUSED_UNKNOWN, true, out),
+        ScriptLine::Works => run_works(alloc, &union.catalogue, out),
         ScriptLine::Ask(line) => run_ask(alloc, line, &union.catalogue, out),
         ScriptLine::Word => say(REFUSED_WORD, true, out),
     }

@@ -22,10 +22,11 @@ const BRIDGE: [&[u8]; 3] = [
 const WITHDRAWAL: &[u8; 41] = b"00041dam a2200037 a 4500001000300000\x1Eb1\x1E\x1D";
 
 /// Loads the three and withdraws the second, and asks before and after.
-const BRIDGE_GOES: &[u8] = b"load LIBA abc\ncount\nload LIBA d\ncount\nwork hill, ann/red ships\n";
+const BRIDGE_GOES: &[u8] =
+    b"load LIBA abc\ncount\nload LIBA d\ncount\nwork hill, ann/red ships\nworks\n";
 
 const BRIDGE_WENT: &[u8] =
-    b"LIBA frames 3 added 3 replaced 0 removed 0 absent 0 refused 0\neditions 1 works 1 records 3\nLIBA frames 1 added 0 replaced 0 removed 1 absent 0 refused 0\neditions 2 works 1 records 2\nedition LIBA.a1\nedition LIBA.c1\n";
+    b"LIBA frames 3 added 3 replaced 0 removed 0 absent 0 refused 0\neditions 1 works 1 records 3\nLIBA frames 1 added 0 replaced 0 removed 1 absent 0 refused 0\neditions 2 works 1 records 2\nedition LIBA.a1\nedition LIBA.c1\nwork hill, ann/red ships\n LIBA.a1\n LIBA.c1\n";
 
 /// Which reads of the file `d` fail, and how many bytes the output takes.
 #[derive(Clone, Copy)]

@@ -1,7 +1,7 @@
 use Rattle.std.proofs.Common.{◌∷◌, [], true, false, refl, subst}
 use Rattle.union_words.specs.ScriptLines.{Export, Works, Word}
 use Rattle.union_script.specs.Lines.{LinesRun}
-use Rattle.union_script.specs.Texts.{refused_word, refused_unknown}
+use Rattle.union_script.specs.Texts.{refused_word}
 use Rattle.union_script.proofs.LineLaws.{says_line}
 use Rattle.union_script.proofs.FileLaws.{flow}
 use Rattle.union_script.proofs.StopLaws.{outflow}
@@ -23,10 +23,10 @@ returns-in-Works-clause-run g c =
     let files = g.F.Shelf.files c.args.shelf.now in
     let faults = g.F.Shelf.faults c.args.shelf.now in
     let history = c.args.union.now.catalogue in
-    let out = outflow (g.O.Sink.written c.args.out.now) (g.O.Sink.written c.say.new.out) (g.O.Sink.faults c.args.out.now) (g.O.Sink.faults c.say.new.out) in
-    subst (λ line. LinesRun c.say.result (line ∷ []) history history (flow files faults faults) out) c.in-Works.ensures
-    (says_line c.say.result Works history history refused_unknown true files faults faults out (λ name. refl)
-    (on_all files (λ contents. record { within = refl; writes = (refl, refl); refused = refl })) c.say.ensures)
+    let out = outflow (g.O.Sink.written c.args.out.now) (g.O.Sink.written c.run_works.new.out) (g.O.Sink.faults c.args.out.now) (g.O.Sink.faults c.run_works.new.out) in
+    subst (λ line. LinesRun c.run_works.result (line ∷ []) history history (flow files faults faults) out) c.in-Works.ensures
+    (says_line c.run_works.result Works history history c.run_works.ensures.0 false files faults faults out (λ name. refl)
+    (on_all files (λ contents. record { within = refl; writes = (c.run_works.ensures.1, refl); refused = refl })) c.run_works.ensures.2)
 
 pub returns-in-Ask-clause-run : goal.returns-in-Ask-clause-run
 returns-in-Ask-clause-run g c =
@@ -42,7 +42,7 @@ returns-in-Word-clause-run g c =
     let files = g.F.Shelf.files c.args.shelf.now in
     let faults = g.F.Shelf.faults c.args.shelf.now in
     let history = c.args.union.now.catalogue in
-    let out = outflow (g.O.Sink.written c.args.out.now) (g.O.Sink.written c.say-in-Word.new.out) (g.O.Sink.faults c.args.out.now) (g.O.Sink.faults c.say-in-Word.new.out) in
-    subst (λ line. LinesRun c.say-in-Word.result (line ∷ []) history history (flow files faults faults) out) c.in-Word.ensures
-    (says_line c.say-in-Word.result Word history history refused_word true files faults faults out (λ name. refl)
-    (on_all files (λ contents. record { within = refl; writes = (refl, refl); refused = refl })) c.say-in-Word.ensures)
+    let out = outflow (g.O.Sink.written c.args.out.now) (g.O.Sink.written c.say.new.out) (g.O.Sink.faults c.args.out.now) (g.O.Sink.faults c.say.new.out) in
+    subst (λ line. LinesRun c.say.result (line ∷ []) history history (flow files faults faults) out) c.in-Word.ensures
+    (says_line c.say.result Word history history refused_word true files faults faults out (λ name. refl)
+    (on_all files (λ contents. record { within = refl; writes = (refl, refl); refused = refl })) c.say.ensures)
