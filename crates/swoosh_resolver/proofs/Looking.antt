@@ -8,7 +8,9 @@ use Rattle.std.proofs.lemmas.List.Sums.{sum_by-take-le}
 use Rattle.merge_laws.specs.Resolution.{KeyLaws}
 use Rattle.merge_laws.proofs.Places.{All-from_members}
 use Rattle.feature_index.specs.Postings.{Ascends}
-use Rattle.swoosh_resolver.specs.Tables.{Entry, AreKeys, block_at, blocks_in, without, passes}
+use Rattle.swoosh_resolver.specs.Tables.{Entry, AreKeys, block_at, blocks_in}
+use Rattle.swoosh_resolver.specs.Changes.{without}
+use Rattle.swoosh_resolver.specs.Insertions.{passes}
 use Rattle.swoosh_resolver.proofs.Places.{block-from_open, number-from_block, passing-le, counted-more}
 
 -- the numbers are those of the blocks that have one of the value's keys

@@ -10,7 +10,8 @@ use Rattle.std.proofs.lemmas.List.Sums.{sum_by-append}
 use Rattle.std.proofs.lemmas.List.Elements.{Contains-get_or, filter_map-append}
 use Rattle.std.proofs.lemmas.List.Sorted.{IsPermutation-refl, IsPermutation-sym, IsPermutation-cons, IsPermutation-trans, IsPermutation-middle, IsPermutation-to_front}
 use Rattle.feature_index.specs.Postings.{Posting, numbers_of}
-use Rattle.swoosh_resolver.specs.Tables.{Entry, AreNumbers, AreOpened, ArePosted, block_at, blocks_in, keys_in, number_at, put, without}
+use Rattle.swoosh_resolver.specs.Tables.{Entry, ArePosted, block_at, blocks_in, put}
+use Rattle.swoosh_resolver.specs.Changes.{AreNumbers, AreOpened, keys_in, number_at, without}
 use Rattle.swoosh_resolver.proofs.Places.{block-kept}
 
 module _ {X : Type 0} where

@@ -11,7 +11,9 @@ use Rattle.std.proofs.lemmas.List.Sorted.{IsPermutation-refl, IsPermutation-cons
 use Rattle.std.proofs.lemmas.List.Sums.{fold_push, sum_by-cons, sum_by_more, sum_by-take-le}
 use Rattle.merge_laws.proofs.Places.{Contains-head, Contains-tail, Contains-cases, AllPairs-rest, AllPairs-first}
 use Rattle.feature_index.specs.Postings.{Ascends}
-use Rattle.swoosh_resolver.specs.Tables.{Entry, block_at, blocks_in, without, passes}
+use Rattle.swoosh_resolver.specs.Tables.{Entry, block_at, blocks_in}
+use Rattle.swoosh_resolver.specs.Changes.{without}
+use Rattle.swoosh_resolver.specs.Insertions.{passes}
 use Rattle.swoosh_resolver.proofs.Keys.{there-from_found, absent-from_missed}
 
 module _ {X : Type 0} where

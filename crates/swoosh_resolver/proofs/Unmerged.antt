@@ -7,7 +7,8 @@ use Rattle.std.proofs.lemmas.List.Sorted.{IsPermutation-sym, IsPermutation-swap_
 use Rattle.merge_laws.specs.Resolution.{JoinLaws, MatchLaws, IsDominated}
 use Rattle.merge_laws.proofs.Places.{Contains-tail, Contains-cases}
 use Rattle.merge_laws.proofs.Resolutions.{IsDominated-trans}
-use Rattle.swoosh_resolver.specs.Tables.{Entry, block_at, KeepsUnmerged}
+use Rattle.swoosh_resolver.specs.Tables.{Entry, block_at}
+use Rattle.swoosh_resolver.specs.Insertions.{KeepsUnmerged}
 
 module _ {R K : Type 0} {match : R → R → Bool} {merge : R → R → R} (blocks : List (Option (Entry R K))) (closed : List ℕ) (opened : List (Entry R K)) where
   -- nothing is merged

@@ -11,7 +11,9 @@ use Rattle.merge_laws.specs.Resolution.{JoinLaws, MatchLaws, IsDominated, AreApa
 use Rattle.merge_laws.specs.Reach.{near}
 use Rattle.merge_laws.proofs.Places.{AllPairs-permutation, AllPairs-rest}
 use Rattle.merge_laws.proofs.Resolutions.{IsDominated-left}
-use Rattle.swoosh_resolver.specs.Tables.{Entry, block_at, blocks_in, without, values_of, view_of, Fits, IsMatchAt, Merges}
+use Rattle.swoosh_resolver.specs.Tables.{Entry, block_at, blocks_in, values_of}
+use Rattle.swoosh_resolver.specs.Changes.{without, view_of, Fits}
+use Rattle.swoosh_resolver.specs.Insertions.{IsMatchAt, Merges}
 use Rattle.swoosh_resolver.proofs.Unmerged.{unmerged_kept, unmerged_fresh}
 use Rattle.swoosh_resolver.proofs.Places.{without-push, block-closed, block-from_open, taken-from_set}
 

@@ -1,6 +1,7 @@
 //! Blocks under numbers.
 ghost use Rattle.std.specs.Prelude.{◌≡◌, [], IfSome, option_copied, option_map};
-ghost use Rattle.swoosh_resolver.specs.Tables.{Fits, block_at};
+ghost use Rattle.swoosh_resolver.specs.Tables.{block_at};
+ghost use Rattle.swoosh_resolver.specs.Changes.{Fits};
 
 use crate::change::Change;
 use crate::keyed::Keyed;

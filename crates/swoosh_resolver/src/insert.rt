@@ -3,7 +3,9 @@ ghost use Rattle.std.specs.Prelude.{◌≡◌, ◌+◌, ◌<◌, ◌≤◌, ◌�
 ghost use Rattle.merge_laws.specs.Resolution.{IsResolution, IsDominated};
 ghost use Rattle.merge_laws.specs.Reach.{near, reach};
 ghost use Rattle.feature_index.specs.Postings.{Ascends};
-ghost use Rattle.swoosh_resolver.specs.Tables.{Entry, block_at, blocks_in, without, passes, view_of, Fits, IsMatchAt, Merges, Inserts};
+ghost use Rattle.swoosh_resolver.specs.Tables.{Entry, block_at, blocks_in};
+ghost use Rattle.swoosh_resolver.specs.Changes.{without, view_of, Fits};
+ghost use Rattle.swoosh_resolver.specs.Insertions.{passes, IsMatchAt, Merges, Inserts};
 
 use crate::blocks::Blocks;
 use crate::change::Change;

@@ -2,7 +2,8 @@
 ghost use Rattle.std.specs.Prelude.{◌≡◌, ◌≢◌, ◌+◌, ◌-◌, ◌^◌, ◌<◌, ◌≤◌, ◌↔◌, ◌⊎◌, ◌++◌, ◌∷◌, [], ℕ, Some, None, IsSome, IfOk, OnOk, AllPairs, Contains, length, slice_index, slice_index_or, slice_set, vec_capacity, vec_len, if◌then◌else◌, nat_lt, count_by};
 ghost use Rattle.std.specs.List.Sorted.{IsPermutation};
 ghost use Rattle.feature_index.specs.Postings.{numbers_of, spare_of};
-ghost use Rattle.swoosh_resolver.specs.Tables.{Entry, AreNumbers, AreOpened, ArePosted, Fits, HasRoom, block_at, blocks_in, keys_in, number_at, put, values_of, view_of, without};
+ghost use Rattle.swoosh_resolver.specs.Tables.{Entry, ArePosted, block_at, blocks_in, put, values_of};
+ghost use Rattle.swoosh_resolver.specs.Changes.{AreNumbers, AreOpened, Fits, HasRoom, keys_in, number_at, view_of, without};
 
 use crate::blocks::Blocks;
 use crate::change::Change;

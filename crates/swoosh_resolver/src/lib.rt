@@ -3,7 +3,7 @@
 //! Guarantee: a plan's view is the resolution of the view before it and the inserted value, and what is installed is the view
 //! that was planned. A plan changes nothing; room is made for it, and then it is installed without taking memory, so that it
 //! cannot stop half way. Cost: an insertion tests only values that share a key with the value at hand, at most the reach of
-//! the insertion in all (specs/Reach.antt of merge_laws), whatever the number of blocks. The definitions are in specs/Tables.antt.
+//! the insertion in all (specs/Reach.antt of merge_laws), whatever the number of blocks. The definitions are in specs/.
 #![tactic(auto)]
 
 pub mod blocks;

@@ -2,7 +2,8 @@
 use Rattle.std.proofs.Common.{◌≡◌, take}
 use Rattle.std.specs.Prelude.{vec_capacity}
 use Rattle.feature_index.specs.Postings.{spare_of}
-use Rattle.swoosh_resolver.specs.Tables.{ArePosted, without}
+use Rattle.swoosh_resolver.specs.Tables.{ArePosted}
+use Rattle.swoosh_resolver.specs.Changes.{without}
 use Rattle.swoosh_resolver.proofs.install.close_all.Given as goal
 
 abbrev pub invariant-loop-number : goal.invariant-loop-number

@@ -1,5 +1,5 @@
 use Rattle.std.proofs.Common.{◌≡◌, take}
-use Rattle.swoosh_resolver.specs.Tables.{keys_in}
+use Rattle.swoosh_resolver.specs.Changes.{keys_in}
 use Rattle.swoosh_resolver.proofs.install.copies_of_keys.Given as goal
 
 abbrev pub invariant-loop-keyed : goal.invariant-loop-keyed

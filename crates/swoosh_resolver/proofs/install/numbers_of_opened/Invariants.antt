@@ -1,4 +1,4 @@
-use Rattle.swoosh_resolver.specs.Tables.{AreNumbers}
+use Rattle.swoosh_resolver.specs.Changes.{AreNumbers}
 use Rattle.swoosh_resolver.proofs.install.numbers_of_opened.Given as goal
 
 abbrev pub invariant-loop-place : goal.invariant-loop-place

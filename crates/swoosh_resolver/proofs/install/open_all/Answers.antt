@@ -1,6 +1,6 @@
 use Rattle.std.proofs.Common.{◌≡◌, ◌<◌, ◌++◌, ◌∷◌, [], length, length-append, append_assoc, ◌∙◌, ap, arith}
 use Rattle.std.specs.Prelude.{vec_capacity}
-use Rattle.swoosh_resolver.specs.Tables.{number_at}
+use Rattle.swoosh_resolver.specs.Changes.{number_at}
 use Rattle.swoosh_resolver.proofs.Opening.{next-free, next-within, next-below, opening_more, count-keys}
 use Rattle.swoosh_resolver.proofs.install.open_all.Goals as goal
 

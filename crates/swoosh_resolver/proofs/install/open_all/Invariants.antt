@@ -2,7 +2,8 @@
 use Rattle.std.proofs.Common.{◌≡◌, ◌≤◌, ◌+◌, ◌++◌, length}
 use Rattle.std.specs.Prelude.{count_by, vec_capacity}
 use Rattle.feature_index.specs.Postings.{spare_of}
-use Rattle.swoosh_resolver.specs.Tables.{ArePosted, keys_in}
+use Rattle.swoosh_resolver.specs.Tables.{ArePosted}
+use Rattle.swoosh_resolver.specs.Changes.{keys_in}
 use Rattle.swoosh_resolver.proofs.Opening.{IsOpening}
 use Rattle.swoosh_resolver.proofs.install.open_all.Given as goal
 

@@ -1,6 +1,6 @@
 -- the change so far fits
 use Rattle.merge_laws.specs.SmallSets.{meet}
-use Rattle.swoosh_resolver.specs.Tables.{Fits}
+use Rattle.swoosh_resolver.specs.Changes.{Fits}
 use Rattle.swoosh_resolver.proofs.tests.inserted_together.Given as goal
 
 abbrev pub invariant-loop-mask : goal.invariant-loop-mask

@@ -2,7 +2,9 @@
 use Rattle.std.proofs.Common.{◌≡◌, ◌+◌, ◌≤◌, false, take}
 use Rattle.std.specs.Prelude.{count_by}
 use Rattle.std.specs.List.{AllWithin}
-use Rattle.swoosh_resolver.specs.Tables.{block_at, without, passes}
+use Rattle.swoosh_resolver.specs.Tables.{block_at}
+use Rattle.swoosh_resolver.specs.Changes.{without}
+use Rattle.swoosh_resolver.specs.Insertions.{passes}
 use Rattle.swoosh_resolver.proofs.blocks.Blocks.first_kept.Given as goal
 
 abbrev pub invariant-loop-number : goal.invariant-loop-number

@@ -4,7 +4,8 @@ use Rattle.std.specs.List.Sorted.{IsPermutation}
 use Rattle.std.proofs.lemmas.List.Sorted.{IsPermutation-map}
 use Rattle.merge_laws.specs.Resolution.{DoNotMatch}
 use Rattle.merge_laws.proofs.Places.{AllPairs-permutation}
-use Rattle.swoosh_resolver.specs.Tables.{Entry, AreOpened, Fits, blocks_in, values_of, view_of, without}
+use Rattle.swoosh_resolver.specs.Tables.{Entry, blocks_in, values_of}
+use Rattle.swoosh_resolver.specs.Changes.{AreOpened, Fits, view_of, without}
 use Rattle.swoosh_resolver.proofs.Places.{block-closed, length-without}
 use Rattle.swoosh_resolver.proofs.Opening.{within-from_some, kept-number}
 use Rattle.swoosh_resolver.proofs.blocks.Blocks.install.Goals as goal

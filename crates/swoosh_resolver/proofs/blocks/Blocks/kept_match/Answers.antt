@@ -1,6 +1,8 @@
 use Rattle.std.proofs.Common.{◌≡◌, false, None, sym, ◌∙◌, ap, arith}
 use Rattle.std.specs.Prelude.{option_copied}
-use Rattle.swoosh_resolver.specs.Tables.{block_at, without, passes}
+use Rattle.swoosh_resolver.specs.Tables.{block_at}
+use Rattle.swoosh_resolver.specs.Changes.{without}
+use Rattle.swoosh_resolver.specs.Insertions.{passes}
 use Rattle.swoosh_resolver.proofs.Places.{open_block, no_block, block-closed, closed-from_found, IfNone-always}
 use Rattle.swoosh_resolver.proofs.blocks.Blocks.kept_match.Goals as goal
 

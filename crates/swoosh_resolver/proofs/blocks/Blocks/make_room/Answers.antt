@@ -1,6 +1,7 @@
 use Rattle.std.proofs.Common.{Vec, Global, ◌≡◌, ◌≢◌, ◌<◌, ℕ, None, length, arith}
 use Rattle.std.specs.Prelude.{◌⊎◌, AllPairs, Contains}
-use Rattle.swoosh_resolver.specs.Tables.{AreNumbers, Fits, block_at}
+use Rattle.swoosh_resolver.specs.Tables.{block_at}
+use Rattle.swoosh_resolver.specs.Changes.{AreNumbers, Fits}
 use Rattle.swoosh_resolver.proofs.Opening.{reposted, numbers-distinct, numbers-free, within-from_some, IfOk-then}
 use Rattle.swoosh_resolver.proofs.blocks.Blocks.make_room.Goals as goal
 

@@ -1,5 +1,7 @@
 use Rattle.std.proofs.Common.{◌≡◌, ◌<◌, false, IsTrue, get_or, length, refl, sym, ◌∙◌, ap, subst}
-use Rattle.swoosh_resolver.specs.Tables.{Entry, IsMatchAt, without}
+use Rattle.swoosh_resolver.specs.Tables.{Entry}
+use Rattle.swoosh_resolver.specs.Changes.{without}
+use Rattle.swoosh_resolver.specs.Insertions.{IsMatchAt}
 use Rattle.swoosh_resolver.proofs.Views.{merges-kept, merges-fresh, fits-kept, fits-fresh, All-view}
 use Rattle.swoosh_resolver.proofs.blocks.Blocks.merge_next.Goals as goal
 

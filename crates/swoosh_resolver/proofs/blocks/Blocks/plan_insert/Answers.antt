@@ -4,7 +4,7 @@ use Rattle.merge_laws.specs.Resolution.{IsDominated}
 use Rattle.merge_laws.proofs.Resolutions.{IsDominated-right}
 use Rattle.merge_laws.proofs.Inserting.{inserting_none, inserting_joined, inserting_bound}
 use Rattle.merge_laws.proofs.Resolving.{IsResolving, resolving_kept, IsResolution-from_resolving}
-use Rattle.swoosh_resolver.specs.Tables.{view_of}
+use Rattle.swoosh_resolver.specs.Changes.{view_of}
 use Rattle.swoosh_resolver.proofs.Unmerged.{unmerged_none, unmerged-then}
 use Rattle.swoosh_resolver.proofs.Views.{view-push, fits-push}
 use Rattle.swoosh_resolver.proofs.blocks.Blocks.plan_insert.Goals as goal

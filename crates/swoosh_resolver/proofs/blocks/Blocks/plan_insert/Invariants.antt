@@ -1,7 +1,8 @@
 -- the value at hand and the view of the change so far, against the view at first
 use Rattle.std.proofs.Common.{length}
 use Rattle.merge_laws.proofs.Inserting.{IsInserting}
-use Rattle.swoosh_resolver.specs.Tables.{view_of, Fits, KeepsUnmerged}
+use Rattle.swoosh_resolver.specs.Changes.{view_of, Fits}
+use Rattle.swoosh_resolver.specs.Insertions.{KeepsUnmerged}
 use Rattle.swoosh_resolver.proofs.blocks.Blocks.plan_insert.Given as goal
 
 abbrev pub invariant-loop-value : goal.invariant-loop-value
