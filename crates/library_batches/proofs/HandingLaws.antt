@@ -1,6 +1,6 @@
 -- How what was handed out goes on.
-use Rattle.std.proofs.Common.{◌≡◌, ℕ, ◌+◌, ◌≤◌, ◌<◌, false, true, List, [], ◌∷◌, ◌++◌, length, take, append_assoc, append-nil, refl, sym, ap, subst, ◌∙◌, arith}
-use Rattle.std.specs.Prelude.{Option, Some, None, Result, Ok, Err, IfSome, nat_lt}
+use Rattle.std.proofs.Common.{◌≡◌, ℕ, ◌≤◌, ◌<◌, List, [], ◌∷◌, ◌++◌, length, take, append_assoc, append-nil, refl, sym, ap, subst, ◌∙◌, arith}
+use Rattle.std.specs.Prelude.{Option, Some, None, Ok, Err, IfSome}
 use Rattle.std.proofs.lemmas.Bool.{ltb-false, ltb-true}
 use Rattle.std.proofs.lemmas.List.{take_all}
 use Rattle.std.proofs.lemmas.List.Sums.{fold-append}
@@ -9,9 +9,9 @@ use Rattle.catalogue_core.specs.Histories.{MapOf, after_batch, outcomes}
 use Rattle.catalogue_core.specs.declared.batch.Batch.{Batch}
 use Rattle.catalogue_core.specs.declared.edition.Edition.{Edition}
 use Rattle.library_batches.specs.Streams.{Frame}
-use Rattle.library_batches.specs.Refused.{refused, refused_from}
+use Rattle.library_batches.specs.Refused.{refused}
 use Rattle.library_batches.specs.Batches.{AreBatches, AreFirstBatches}
-use Rattle.library_batches.specs.Handing.{HandedOut, HandsOut, IsRead}
+use Rattle.library_batches.specs.Handing.{HandsOut, IsRead}
 use Rattle.library_batches.specs.Outcomes.{found_in, after_batches}
 use Rattle.library_batches.specs.Reading.{Answers, Batching, begun, ahead, KeepsFrames}
 use Rattle.library_batches.specs.declared.stop.Stop.TheVariants.{TooLong}

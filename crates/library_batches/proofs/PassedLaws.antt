@@ -1,12 +1,11 @@
 -- What a reader that passed blocks without a batch answers next.
-use Rattle.std.proofs.Common.{◌≡◌, ℕ, suc, ◌+◌, ◌≤◌, ◌<◌, Bool, true, false, List, [], ◌∷◌, ◌++◌, length, append_assoc, append-nil, ◌⊎◌, inl, inr, refl, sym, ap, subst, ◌∙◌, arith, length-append}
-use Rattle.std.specs.Prelude.{Option, Some, None, Result, Ok, Err, ⊤, IsTrue, map, filter}
+use Rattle.std.proofs.Common.{◌≡◌, ℕ, ◌+◌, ◌≤◌, ◌<◌, Bool, true, false, List, [], ◌∷◌, ◌++◌, length, append_assoc, inl, inr, refl, sym, ap, subst, ◌∙◌, arith, length-append}
+use Rattle.std.specs.Prelude.{Option, Some, None, Ok, Err, ⊤, IsTrue, filter}
 use Rattle.std.proofs.lemmas.Bool.{le-leb}
 use Rattle.std.proofs.lemmas.List.{length-map}
 use Rattle.std.proofs.lemmas.List.Sums.{length-filter, count_by-le-length}
 use Rattle.std.proofs.lemmas.Slice.Zip.{AllZip-long}
-use Rattle.library_stream.specs.Streaming.{Streaming, frames_on, passes, is_too_long, stopped}
-use Rattle.library_stream.specs.Answering.{Takes}
+use Rattle.library_stream.specs.Streaming.{frames_on, passes, is_too_long, stopped}
 use Rattle.catalogue_core.specs.declared.batch.Batch.{Batch}
 use Rattle.catalogue_core.specs.Batches.{is_batch}
 use Rattle.catalogue_core.specs.declared.op.Op.{Op}
@@ -14,7 +13,7 @@ use Rattle.catalogue_core.specs.declared.op.TheConstants.{LARGEST_BATCH}
 use Rattle.library_batches.specs.Streams.{Frame, is_accepted, accepted}
 use Rattle.library_batches.specs.Refused.{refused_from}
 use Rattle.library_batches.specs.Batches.{AreBatches, AreFirstBatches, IsBatchOf, IsOpOf}
-use Rattle.library_batches.specs.Reading.{Batching, Answers, AnswersTold, KeepsFrames, TakesBatch, ahead}
+use Rattle.library_batches.specs.Reading.{Batching, Answers, KeepsFrames, ahead}
 use Rattle.library_batches.specs.Blocks.{IsBlock, IsChecked, IsFull, StopsBehind, BlockAnswers}
 use Rattle.library_batches.specs.declared.block.Block.{Block}
 use Rattle.library_batches.specs.declared.refused.RefusedFrame.{RefusedFrame}

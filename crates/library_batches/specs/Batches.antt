@@ -1,5 +1,5 @@
 -- The batches of a stream: the operations of its accepted frames, block by block.
-use Rattle.std.specs.Prelude.{◌≡◌, ℕ, zero, suc, Bool, not, List, [], ◌∷◌, length, take, drop, filter, Some}
+use Rattle.std.specs.Prelude.{◌≡◌, ℕ, zero, suc, Bool, List, [], ◌∷◌, length, take, drop, filter, Some}
 use Rattle.std.specs.List.{AllZip, list_any}
 use Rattle.marc_fields.specs.Spelling.{Spells}
 use Rattle.marc_fields.specs.declared.marc_record.Record.{Record}

@@ -1,5 +1,5 @@
 -- How many frames a reader of batches can come to.
-use Rattle.std.specs.Prelude.{ℕ, ◌+◌, ◌≤◌}
+use Rattle.std.specs.Prelude.{◌+◌, ◌≤◌}
 use Rattle.library_stream.specs.Streaming.{most_ahead}
 use Rattle.library_stream.specs.declared.frame_reader.TheConstants.{LARGEST_SOURCE}
 use Rattle.library_batches.specs.declared.batch_reader.BatchReader.TheInside.{Inside}

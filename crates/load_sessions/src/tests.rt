@@ -80,7 +80,9 @@ fn are_loaded<R: Threads + Wait + Sync>(
         workers,
         &OpenGate,
     );
-    let asked = asker.end == End::Done && asker.replies.len() == 1;
+    // One worker asks last, so behind the one turn of each session.
+    let over = asker.replies.first().map(|reply| reply.0);
+    let asked = asker.end == End::Done && (workers > 1 || over == Some(2));
     Ok(asked && sessions.iter().all(is_done))
 }
 

@@ -1,4 +1,3 @@
-use Rattle.std.proofs.Common.{◌∷◌, [], sym, ap, ◌∙◌}
 use Rattle.library_batches.proofs.CheckedLaws.{IsChecked-accepted, IsChecked-refused}
 use Rattle.library_batches.proofs.checking.check_next.Goals as goal
 

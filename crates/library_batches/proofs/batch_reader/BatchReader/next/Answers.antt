@@ -1,13 +1,8 @@
-use Rattle.std.proofs.Common.{◌≡◌, ◌<◌, ◌≤◌, length, sym, ap, ◌∙◌, arith, subst, false, true}
-use Rattle.std.specs.Prelude.{IsTrue}
+use Rattle.std.proofs.Common.{◌≡◌, ◌<◌, length, sym, ap, ◌∙◌, arith}
 use Rattle.std.proofs.lemmas.Bool.Decides.{nat_tests}
-use Rattle.catalogue_core.specs.Batches.{is_batch}
-use Rattle.catalogue_core.specs.declared.op.TheConstants.{LARGEST_BATCH}
-use Rattle.library_stream.specs.Streaming.{most_ahead}
-use Rattle.library_batches.specs.Blocks.{IsFull}
 use Rattle.library_batches.specs.Reading.{Batching}
 use Rattle.library_batches.proofs.BlockLaws.{some_in-more, some_in-none}
-use Rattle.library_batches.proofs.PassedLaws.{Passes-block, Answers-batch, Answers-end, Answers-stopped, is_batch-block}
+use Rattle.library_batches.proofs.PassedLaws.{Passes-block, Answers-batch, Answers-end, is_batch-block}
 use Rattle.library_batches.proofs.batch_reader.BatchReader.next.Goals as goal
 
 pub invariant_of-result : goal.invariant_of-result

@@ -1,7 +1,6 @@
-use Rattle.std.proofs.Common.{rules, ◌≡◌, ◌+◌, ◌++◌, ◌∷◌, ◌≤◌, [], List, length, ℕ, ◌<◌, sym, ap, ◌∙◌, subst, append_assoc, append-nil, arith, take}
+use Rattle.std.proofs.Common.{◌++◌, sym, ap, ◌∙◌, subst, append_assoc, arith, take}
 use Rattle.std.proofs.lemmas.List.{take_more, take_all}
-use Rattle.catalogue_core.specs.declared.outcome.Outcome.{Outcome as OutcomeModel}
-use Rattle.library_batches.specs.Outcomes.{AreCounted, counted}
+use Rattle.library_batches.specs.Outcomes.{AreCounted}
 use Rattle.library_batches.proofs.outcome_counts.OutcomeCounts.count.Goals as goal
 
 -- src/outcome_counts.rt:51:9
