@@ -1,18 +1,16 @@
 -- How the turns of a session end.
-use Rattle.std.proofs.Common.{◌≡◌, ◌≢◌, ◌<◌, ℕ, List, length, sym, ap, subst, ◌∙◌}
-use Rattle.std.specs.Prelude.{Option, Result, Ok, Err, IfSome, OnOk}
+use Rattle.std.proofs.Common.{◌≡◌, ◌≢◌, ◌<◌, ℕ, List, length, ap, ◌∙◌}
+use Rattle.std.specs.Prelude.{Option, Result, Err, IfSome}
 use Rattle.union_io.specs.Causes.{Rose}
 use Rattle.catalogue_lock.specs.Tokens.{view}
 use Rattle.atomic_table.specs.Seated.{TableId}
-use Rattle.library_batches.specs.Handing.{HandsOut, IsRead}
-use Rattle.library_batches.specs.Outcomes.{AreCounted}
+use Rattle.library_batches.specs.Handing.{HandsOut}
 use Rattle.library_batches.specs.Reading.{Batching}
 use Rattle.library_batches.specs.declared.outcome_counts.OutcomeCounts.{OutcomeCounts}
 use Rattle.library_batches.specs.declared.stop.Stop.{Stop}
 use Rattle.library_batches.specs.declared.stop.Stop.TheVariants.{TooLong, Failed}
 use Rattle.library_batches.proofs.HandingLaws.{HandsOut-first}
 use Rattle.load_sessions.specs.Sessions.{IsSameSession}
-use Rattle.load_sessions.specs.Tallies.{found}
 use Rattle.load_sessions.specs.Turning.{Turns}
 use Rattle.load_sessions.specs.declared.session.Session.{Session}
 

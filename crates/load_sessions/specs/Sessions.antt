@@ -1,5 +1,5 @@
 -- What is asked of a session, and what it did.
-use Rattle.std.specs.Prelude.{◌≡◌, ◌≢◌, ℕ, ◌<◌, ◌≤◌, List, [], length, take, Option, Some, IfSome, slice_index_or}
+use Rattle.std.specs.Prelude.{◌≡◌, ◌≢◌, ℕ, ◌<◌, ◌≤◌, List, [], length, take, Option, IfSome, slice_index_or}
 use Rattle.iso2709_frame.specs.Frames.{frames}
 use Rattle.library_stream.specs.declared.frame_reader.TheConstants.{LARGEST_SOURCE}
 use Rattle.union_io.specs.Causes.{Rose}
@@ -10,7 +10,6 @@ use Rattle.library_batches.specs.Outcomes.{AreCounted}
 use Rattle.library_batches.specs.declared.outcome_counts.OutcomeCounts.{OutcomeCounts}
 use Rattle.catalogue_core.specs.declared.batch.Batch.{Batch}
 use Rattle.load_sessions.specs.Tallies.{found}
-use Rattle.load_sessions.specs.declared.end.End.{End}
 use Rattle.load_sessions.specs.declared.end.End.TheVariants.{NotRun, Done, ReadFault, TooLong}
 use Rattle.load_sessions.specs.declared.report.Report.{Report}
 use Rattle.load_sessions.specs.declared.session.Session.{Session}

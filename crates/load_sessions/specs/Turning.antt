@@ -1,5 +1,5 @@
 -- What the turns of a session come to.
-use Rattle.std.specs.Prelude.{◌≡◌, ◌≢◌, ℕ, ◌<◌, List, [], length, take, Option, Result, Ok, Err, IfSome, OnOk}
+use Rattle.std.specs.Prelude.{◌≡◌, ◌≢◌, ℕ, ◌<◌, List, length, take, Option, Result, Ok, Err, IfSome, OnOk}
 use Rattle.iso2709_frame.specs.Frames.{frames}
 use Rattle.union_io.specs.Causes.{Rose}
 use Rattle.catalogue_lock.specs.Tokens.{view}

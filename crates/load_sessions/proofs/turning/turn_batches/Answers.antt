@@ -1,5 +1,5 @@
-use Rattle.std.proofs.Common.{◌≡◌, ◌≢◌, ◌≤◌, ◌<◌, ◌+◌, ◌*◌, ◌++◌, ◌∷◌, [], length, refl, sym, ap, subst, ◌∙◌, arith}
-use Rattle.std.specs.Prelude.{Err, IfSome}
+use Rattle.std.proofs.Common.{◌++◌, [], length, refl, sym, ap, subst, ◌∙◌, arith}
+use Rattle.std.specs.Prelude.{Err}
 use Rattle.std.proofs.lemmas.Result.{err_from_is_err_and}
 use Rattle.union_io.specs.Causes.{Rose}
 use Rattle.catalogue_lock.specs.Tokens.{view}
@@ -7,11 +7,9 @@ use Rattle.library_stream.specs.Streaming.{most_ahead}
 use Rattle.library_batches.specs.Handing.{HandsOut}
 use Rattle.library_batches.specs.Outcomes.{AreCounted}
 use Rattle.library_batches.specs.Reading.{Batching, Answers}
-use Rattle.library_batches.specs.declared.stop.Stop.TheVariants.{TooLong, Memory as StopMemory}
+use Rattle.library_batches.specs.declared.stop.Stop.TheVariants.{Memory as StopMemory}
 use Rattle.library_batches.proofs.HandingLaws.{HandsOut-none, HandsOut-batch, HandsOut-long}
-use Rattle.load_sessions.specs.Sessions.{IsSameSession}
 use Rattle.load_sessions.specs.Tallies.{found}
-use Rattle.load_sessions.specs.Turning.{Turns}
 use Rattle.load_sessions.proofs.TallyLaws.{found-none}
 use Rattle.load_sessions.proofs.TurnLaws.{Turns-stopped}
 use Rattle.load_sessions.proofs.turning.turn_batches.Goals as goal
