@@ -63,7 +63,8 @@ impl<K: Eq + Hash + Drop> Postings<K> {
     fn make_room_once(&mut self, alloc: Global, key: K) -> Result<(), Memory>
         ensures numbers { (k : K) → numbers_of K.eq self.new k ≡ numbers_of K.eq self.old k }
         ensures kept { (k : K) → spare_of K.eq self.old k ≤ spare_of K.eq self.new k }
-        ensures room { OnOk result ((k : K) → spare_of K.eq self.old k + (if K.eq k key then 1 else 0) ≤ spare_of K.eq self.new k) }
+        ensures room { OnOk result ((k : K) → spare_of K.eq self.old k + (if K.eq k key then 1 else 0)
+            ≤ spare_of K.eq self.new k) }
     {
         match self.rows.get_mut(&key) {
             Some(row) => row.make_room(),

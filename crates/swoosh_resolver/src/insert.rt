@@ -1,5 +1,6 @@
 //! The insertion of a value.
-ghost use Rattle.std.specs.Prelude.{◌≡◌, ◌+◌, ◌<◌, ◌≤◌, ◌↔◌, ◌++◌, ℕ, [], ◌∷◌, Some, false, IsTrue, is_some, if◌then◌else◌, IfOk, IfSome, IfNone, OnOk, All, List, Contains, length, slice_index_or, count_by};
+ghost use Rattle.std.specs.Prelude.{◌≡◌, ◌+◌, ◌<◌, ◌≤◌, ◌↔◌, ◌++◌, ℕ, [], ◌∷◌, Some, false, IsTrue, is_some, if◌then◌else◌};
+ghost use Rattle.std.specs.Prelude.{IfOk, IfSome, IfNone, OnOk, All, List, Contains, length, slice_index_or, count_by};
 ghost use Rattle.merge_laws.specs.Resolution.{IsResolution, IsDominated};
 ghost use Rattle.merge_laws.specs.Reach.{near, reach};
 ghost use Rattle.feature_index.specs.Postings.{Ascends};
@@ -23,7 +24,8 @@ fn first_fresh<R: Resolvable, L: Ledger>(
     steps: &mut Steps<L>,
 ) -> Option<usize>
     ensures within { IfSome result (λ i. i < length opened.now) }
-    ensures found { IfSome result (λ i. (d : Entry R R.Key) → IsTrue (R.meets value.now.value (slice_index_or opened.now i d).value)) }
+    ensures found { IfSome result (λ i. (d : Entry R R.Key) → IsTrue (R.meets value.now.value
+        (slice_index_or opened.now i d).value)) }
     ensures none { IfNone result (All (λ e. R.meets value.now.value e.value ≡ false) opened.now) }
     ensures cost { steps.new ≤ steps.old + count_by (λ e. R.shares e.value value.now.value) opened.now }
 {
@@ -40,7 +42,8 @@ impl<R: Resolvable> Blocks<R> {
     fn candidates(&self, alloc: Global, keys: &[R::Key]) -> Result<Vec<u64>, Memory>
         ensures ascending { IfOk result (λ numbers. Ascends numbers.items) }
         ensures members { IfOk result (λ numbers. (n : ℕ) → Contains numbers.items n
-            ↔ ((k : R.Key) × Contains keys.now k × ((e : Entry R R.Key) × (block_at self.now.blocks n ≡ Some e) × R.has_key e.value k))) }
+            ↔ ((k : R.Key) × Contains keys.now k × ((e : Entry R R.Key) × (block_at self.now.blocks n ≡ Some e)
+            × R.has_key e.value k))) }
     {
         let mut numbers = Vec::new(alloc);
         for key in keys.iter() {
@@ -60,7 +63,8 @@ impl<R: Resolvable> Blocks<R> {
         steps: &mut Steps<L>,
     ) -> Option<&R>
         ensures some { IfSome result (λ b. IsMatchAt R.meets (without self.now.blocks closed.now) value.now.value number b.now) }
-        ensures none { IfNone result (passes (λ e. R.meets value.now.value e.value) (block_at (without self.now.blocks closed.now) number) ≡ false) }
+        ensures none { IfNone result (passes (λ e. R.meets value.now.value e.value) (block_at
+            (without self.now.blocks closed.now) number) ≡ false) }
         ensures cost { steps.new ≤ steps.old + (if is_some (block_at (without self.now.blocks closed.now) number) then 1 else 0) }
     {
         if closed.contains(&number) {
@@ -82,9 +86,12 @@ impl<R: Resolvable> Blocks<R> {
         value: &Keyed<R>,
         steps: &mut Steps<L>,
     ) -> Result<Option<(u64, &R)>, Memory>
-        ensures found { IfOk result (λ o. IfSome o (λ p. IsMatchAt R.meets (without self.now.blocks closed.now) value.now.value p.0 p.1.now)) }
-        ensures none { IfOk result (λ o. IfNone o (All (λ e. R.meets value.now.value e.value ≡ false) (blocks_in (without self.now.blocks closed.now)))) }
-        ensures cost { steps.new ≤ steps.old + count_by (λ e. R.shares e.value value.now.value) (blocks_in (without self.now.blocks closed.now)) }
+        ensures found { IfOk result (λ o. IfSome o (λ p. IsMatchAt R.meets
+            (without self.now.blocks closed.now) value.now.value p.0 p.1.now)) }
+        ensures none { IfOk result (λ o. IfNone o (All (λ e. R.meets value.now.value e.value ≡ false) (blocks_in
+            (without self.now.blocks closed.now)))) }
+        ensures cost { steps.new ≤ steps.old + count_by (λ e. R.shares e.value value.now.value) (blocks_in
+            (without self.now.blocks closed.now)) }
     {
         let numbers = self.candidates(alloc, value.keys.as_slice())?;
         for number in numbers.iter() {
@@ -108,9 +115,12 @@ impl<R: Resolvable> Blocks<R> {
         ensures merged { IfOk result (λ o. IfSome o (λ merged. Merges R.meets R.join self.now.blocks change.old.closed.items
             change.old.opened.items value.now.value change.new.closed.items change.new.opened.items merged)) }
         ensures fits { OnOk result (Fits R.meets self.now.blocks change.new.closed.items change.new.opened.items) }
-        ensures none { IfOk result (λ o. IfNone o ((change.new.closed.items ≡ change.old.closed.items) × (change.new.opened.items ≡ change.old.opened.items)
-            × All (λ w. R.meets value.now.value w ≡ false) (view_of self.now.blocks change.old.closed.items change.old.opened.items))) }
-        ensures cost { steps.new ≤ steps.old + near R.shares (view_of self.now.blocks change.old.closed.items change.old.opened.items) value.now.value }
+        ensures none { IfOk result (λ o. IfNone o ((change.new.closed.items ≡ change.old.closed.items) ×
+            (change.new.opened.items ≡ change.old.opened.items)
+            × All (λ w. R.meets value.now.value w ≡ false)
+            (view_of self.now.blocks change.old.closed.items change.old.opened.items))) }
+        ensures cost { steps.new ≤ steps.old + near R.shares
+            (view_of self.now.blocks change.old.closed.items change.old.opened.items) value.now.value }
     {
         if let Some((number, block)) = self.first_kept(
             alloc,
@@ -144,9 +154,12 @@ impl<R: Resolvable> Blocks<R> {
         requires { Fits R.meets self.now.blocks change.closed.items change.opened.items }
         ensures fits { IfOk result (λ new. Fits R.meets self.now.blocks new.closed.items new.opened.items) }
         ensures resolved { IfOk result (λ new. IsResolution R.meets R.join
-            (view_of self.now.blocks change.closed.items change.opened.items ++ value ∷ []) (view_of self.now.blocks new.closed.items new.opened.items)) }
-        ensures inserts { IfOk result (λ new. Inserts R.meets R.join self.now.blocks change.closed.items change.opened.items value new.closed.items new.opened.items) }
-        ensures cost { (all : List R) (x : R) → IsResolution R.meets R.join (view_of self.now.blocks change.closed.items change.opened.items ++ value ∷ []) all
+            (view_of self.now.blocks change.closed.items change.opened.items ++ value ∷ [])
+            (view_of self.now.blocks new.closed.items new.opened.items)) }
+        ensures inserts { IfOk result
+            (λ new. Inserts R.meets R.join self.now.blocks change.closed.items change.opened.items value new.closed.items new.opened.items) }
+        ensures cost { (all : List R) (x : R) → IsResolution R.meets R.join
+            (view_of self.now.blocks change.closed.items change.opened.items ++ value ∷ []) all
             → Contains all x → IsDominated R.meets R.join value x
             → steps.new ≤ steps.old + reach R.meets R.shares (view_of self.now.blocks change.closed.items change.opened.items) x }
     {

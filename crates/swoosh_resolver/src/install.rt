@@ -1,5 +1,7 @@
 //! Changes take effect.
-ghost use Rattle.std.specs.Prelude.{◌≡◌, ◌≢◌, ◌+◌, ◌-◌, ◌^◌, ◌<◌, ◌≤◌, ◌↔◌, ◌⊎◌, ◌++◌, ◌∷◌, [], ℕ, Some, None, IsSome, IfOk, OnOk, AllPairs, Contains, length, slice_index, slice_index_or, slice_set, vec_capacity, vec_len, if◌then◌else◌, nat_lt, count_by};
+ghost use Rattle.std.specs.Prelude.{◌≡◌, ◌≢◌, ◌+◌, ◌-◌, ◌^◌, ◌<◌, ◌≤◌, ◌↔◌, ◌⊎◌, ◌++◌, ◌∷◌, [], ℕ, Some, None, IsSome, IfOk};
+ghost use Rattle.std.specs.Prelude.{OnOk, AllPairs, Contains, length, slice_index, slice_index_or, slice_set, vec_capacity};
+ghost use Rattle.std.specs.Prelude.{vec_len, if◌then◌else◌, nat_lt, count_by};
 ghost use Rattle.std.specs.List.Sorted.{IsPermutation};
 ghost use Rattle.feature_index.specs.Postings.{numbers_of, spare_of};
 ghost use Rattle.swoosh_resolver.specs.Tables.{Entry, ArePosted, block_at, blocks_in, put, values_of};
@@ -58,7 +60,8 @@ fn open<R: Resolvable>(
     requires posted { ArePosted R.Key.eq R.has_key blocks.old.items postings.old }
     ensures blocks { blocks.new.items ≡ put blocks.old.items number keyed }
     ensures posted { ArePosted R.Key.eq R.has_key blocks.new.items postings.new }
-    ensures spares { (k : R.Key) → spare_of R.Key.eq postings.old k ≤ spare_of R.Key.eq postings.new k + count_by (R.Key.eq k) keyed.keys }
+    ensures spares { (k : R.Key) → spare_of R.Key.eq postings.old k ≤ spare_of R.Key.eq postings.new k + count_by
+        (R.Key.eq k) keyed.keys }
     ensures capacity { vec_capacity blocks.old ≤ vec_capacity blocks.new }
 {
     post(postings, &keyed, number);
@@ -163,9 +166,11 @@ impl<R: Resolvable> Blocks<R> {
         requires { Fits R.meets self.old.blocks change.now.closed.items change.now.opened.items }
         ensures blocks { self.new.blocks ≡ self.old.blocks }
         ensures room { OnOk result (HasRoom R.Key.eq self.new change.now.closed.items change.now.opened.items) }
-        ensures numbers { IfOk result (λ numbers. AreNumbers change.now.closed.items (length self.old.blocks) (length change.now.opened.items) numbers.items) }
+        ensures numbers { IfOk result (λ numbers. AreNumbers change.now.closed.items (length self.old.blocks)
+            (length change.now.opened.items) numbers.items) }
         ensures distinct { IfOk result (λ numbers. AllPairs (λ m n. m ≢ n) numbers.items) }
-        ensures free { IfOk result (λ numbers. (n : ℕ) → Contains numbers.items n → Contains change.now.closed.items n ⊎ (block_at self.old.blocks n ≡ None)) }
+        ensures free { IfOk result (λ numbers. (n : ℕ) → Contains numbers.items n → Contains change.now.closed.items n ⊎
+            (block_at self.old.blocks n ≡ None)) }
     {
         let keys = copies_of_keys(alloc, change.opened.as_slice())?;
         self.postings.make_room(alloc, keys)?;
@@ -184,9 +189,12 @@ impl<R: Resolvable> Blocks<R> {
     pub fn install(&mut self, change: Change<R>)
         requires fits { Fits R.meets self.old.blocks change.closed.items change.opened.items }
         requires room { HasRoom R.Key.eq self.old change.closed.items change.opened.items }
-        ensures kept { (n : ℕ) (e : Entry R R.Key) → block_at self.old.blocks n ≡ Some e → (Contains change.closed.items n → ⊥) → block_at self.new.blocks n ≡ Some e }
-        ensures opened { AreOpened (without self.old.blocks change.closed.items) change.closed.items (length self.old.blocks) change.opened.items self.new.blocks }
-        ensures view { IsPermutation (view_of self.old.blocks change.closed.items change.opened.items) (values_of (blocks_in self.new.blocks)) }
+        ensures kept { (n : ℕ) (e : Entry R R.Key) → block_at self.old.blocks n ≡ Some e → (Contains change.closed.items n
+            → ⊥) → block_at self.new.blocks n ≡ Some e }
+        ensures opened { AreOpened (without self.old.blocks change.closed.items) change.closed.items
+            (length self.old.blocks) change.opened.items self.new.blocks }
+        ensures view { IsPermutation (view_of self.old.blocks change.closed.items change.opened.items) (values_of
+            (blocks_in self.new.blocks)) }
     {
         let Change { closed, opened } = change;
         close_all(&mut self.blocks, &mut self.postings, closed.as_slice());

@@ -12,7 +12,8 @@ pub(crate) fn post<R: Resolvable>(postings: &mut Postings<R::Key>, keyed: &Keyed
     requires absent { (k : R.Key) → R.has_key keyed.now.value k → Contains (numbers_of R.Key.eq postings.old k) number → ⊥ }
     ensures numbers { (k : R.Key) (n : ℕ) → Contains (numbers_of R.Key.eq postings.new k) n
         ↔ (Contains (numbers_of R.Key.eq postings.old k) n ⊎ (R.has_key keyed.now.value k × (n ≡ number))) }
-    ensures spares { (k : R.Key) → spare_of R.Key.eq postings.old k ≤ spare_of R.Key.eq postings.new k + count_by (R.Key.eq k) keyed.now.keys }
+    ensures spares { (k : R.Key) → spare_of R.Key.eq postings.old k ≤ spare_of R.Key.eq postings.new k + count_by
+        (R.Key.eq k) keyed.now.keys }
 {
     for key in keyed.keys.iter() {
         postings.add(key, number);
