@@ -424,7 +424,7 @@ fn other_words_are_refused(rt: HostRuntime) -> Result<(), Fail> {
             ONE,
             &CALM,
             Status::Done,
-            (b"union 0.2.0\n", b"")
+            (b"union 0.3.0\n", b"")
         )?
     );
     Ok(())

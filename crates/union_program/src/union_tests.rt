@@ -484,6 +484,26 @@ fn a_withdrawn_record_is_not_exported(rt: HostRuntime) -> Result<(), Fail> {
     Ok(())
 }
 
+#[test]
+fn works_are_listed(rt: HostRuntime) -> Result<(), Fail> {
+    let alloc = rt.alloc();
+    let [one, two, three] = BRIDGE;
+    let all = joined(alloc, &[one, two, three, WITHDRAWAL])?;
+    assert!(rt;
+        ends(
+            &rt,
+            b"works LIBA=a LIBB=b",
+            &calm(all.as_slice(), ONE, b""),
+            Status::Done,
+            (
+                b"work cat///LIBB.id\n LIBB.id\nwork hill, ann/red ships\n LIBA.a1\n LIBA.c1\n",
+                b"LIBA frames 4 added 3 replaced 0 removed 1 absent 0 refused 0\nLIBB frames 1 added 1 replaced 0 removed 0 absent 0 refused 0\n"
+            )
+        )?
+    );
+    Ok(())
+}
+
 /// Words in no form.
 const NO_FORMS: [&[u8]; 8] = [
     b"",
