@@ -54,6 +54,6 @@ one-holder history all id are =
     let apart : AllPairs (DoNotMatch match) all = apart-from_resolution edition_join_laws edition_match_laws (bases history) all are.resolved in
     one-left (has_contributor id) all
     (λ i j d ij jl x y.
-      let one = get_or all i d in
-      let other = get_or all j d in
-      (apart i j d ij jl).0 (match-from_contributor one other id (stands id one x) (stands id other y)))
+    let one = get_or all i d in
+    let other = get_or all j d in
+    (apart i j d ij jl).0 (match-from_contributor one other id (stands id one x) (stands id other y)))

@@ -2,7 +2,7 @@
 //!
 //! It does all that the program does, over whatever shelf of files and outputs it is handed. Each answer other than
 //! `Done` and `DoneWithRefusals` has its cause in a clause, and those two have the whole result.
-ghost use Rattle.std.specs.Prelude.{◌≡◌, ◌≢◌, ◌↔◌, List, IsTrue, Some, None, false};
+ghost use Rattle.std.specs.Prelude.{◌≡◌, ◌≢◌, ◌↔◌, ℕ, List, IsTrue, Some, None, false};
 ghost use Rattle.std.specs.Io.KnownBytes.{Keeps};
 ghost use Rattle.union_io.specs.Counts.{SameElsewhere};
 ghost use Rattle.union_io.specs.Files.{told_of};
@@ -11,6 +11,7 @@ ghost use Rattle.union_words.specs.Texts.{early_text};
 ghost use Rattle.union_words.specs.Words;
 ghost use Rattle.union_words.specs.Flows.{IsNoted};
 ghost use Rattle.union_words.specs.Statuses.{is_early};
+ghost use Rattle.union_script.specs.Runs.{IsScript};
 ghost use Rattle.union_program.specs.Runs.{exported, listed, showing_of, IsCheck, IsUnionRun, IsTold};
 
 use crate::notes::put_early;
@@ -25,6 +26,7 @@ use union_io::failed::Failed;
 use union_io::gate::Gate;
 use union_io::shelf::Shelf;
 use union_io::sink::{Sink, put_all};
+use union_script::run::script_run;
 use union_words::job::{Job, MOST_LIBRARIES};
 use union_words::libraries::Libraries;
 use union_words::library_file::LibraryFile;
@@ -92,6 +94,19 @@ fn run_check<F: Shelf, O: Sink>(
     }
 }
 
+/// Runs the script of that name.
+fn run_script<F: Shelf, O: Sink>(alloc: Global, path: &[u8], shelf: &mut F, out: &mut O) -> Status
+    ensures { IsScript path.now
+        (record { files = F.files shelf.old; before = F.faults shelf.old; after = F.faults shelf.new })
+        (record { old = O.written out.old; new = O.written out.new; before = O.faults out.old; after = O.faults out.new })
+        result }
+{
+    match Bytes::of(alloc, path) {
+        Ok(path) => script_run(alloc, &path, shelf, out),
+        Err(Memory) => Status::Memory,
+    }
+}
+
 /// Fills a catalogue with the files of libraries, and shows it.
 fn run_union<F: Shelf, O: Sink, N: Sink>(
     alloc: Global,
@@ -120,7 +135,7 @@ fn run_union<F: Shelf, O: Sink, N: Sink>(
 ///
 /// `check LIB=PATH` tells which frames of a library's file are refused; `export LIB=PATH ..` exports the union catalogue of
 /// the libraries' current records on `out` and reports on `notes`, and `works LIB=PATH ..` lists its works in place of the
-/// export; `--help` and `--version` write a text of the program's own on `out`. The runtime and the gate are not used yet.
+/// export; `script PATH` runs the lines of a script and writes on `out` alone; `--help` and `--version` write a text of the program's own on `out`. The runtime and the gate are not used yet.
 pub fn union_run<R, F: Shelf, O: Sink, N: Sink, G: Gate>(
     _rt: &R,
     alloc: Global,
@@ -152,6 +167,10 @@ pub fn union_run<R, F: Shelf, O: Sink, N: Sink, G: Gate>(
         (record { files = F.files shelf.old; before = F.faults shelf.old; after = F.faults shelf.new })
         (record { old = O.written out.old; new = O.written out.new; before = O.faults out.old; after = O.faults out.new })
         (record { old = N.written notes.old; new = N.written notes.new; before = N.faults notes.old; after = N.faults notes.new })
+        result }
+    ensures script { (path : List ℕ) → Words.job_of MOST_LIBRARIES words.now ≡ Some (Words.Script path) → IsScript path
+        (record { files = F.files shelf.old; before = F.faults shelf.old; after = F.faults shelf.new })
+        (record { old = O.written out.old; new = O.written out.new; before = O.faults out.old; after = O.faults out.new })
         result }
     ensures help { Words.job_of MOST_LIBRARIES words.now ≡ Some Words.Help → IsTold HELP.now
         (record { old = O.written out.old; new = O.written out.new; before = O.faults out.old; after = O.faults out.new }) result }
@@ -190,7 +209,10 @@ pub fn union_run<R, F: Shelf, O: Sink, N: Sink, G: Gate>(
             out,
             notes,
         ),
-        Some(Job::Script(_)) => end(notes, Status::Memory),
+        Some(Job::Script(path)) => {
+            let status = run_script(alloc, path, shelf, out);
+            end(notes, status)
+        }
         Some(Job::Help) => tell(out, help_text()),
         Some(Job::Version) => tell(out, version_text()),
     }
