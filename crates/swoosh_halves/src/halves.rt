@@ -1,0 +1,84 @@
+//! Resolving by halves.
+//!
+//! Guarantee: the answer is a resolution of the list. Cost: see the head of the crate.
+ghost use Rattle.std.specs.Prelude.{◌≡◌, ◌<◌, ◌≤◌, ◌++◌, IfOk};
+ghost use Rattle.std.specs.Thread.{IsSync, IsSend};
+ghost use Rattle.merge_laws.specs.Resolution.{AreApart, IsResolution};
+
+use merge_laws::laws::{resolution_goes_on, resolution_is_apart};
+use merge_laws::resolvable::Resolvable;
+use merge_laws::steps::Steps;
+use merge_laws::swoosh::resolve_onto;
+use std::marker::Brand;
+use std::sync::ledger::{Blank, Ledger};
+use std::thread::{Threads, join};
+use union_base::memory::Memory;
+
+/// The resolution of values of which no two match, and of more values, with the match tests counted in a ledger of their own.
+fn resolved_by<L: Ledger, R: Resolvable>(
+    apart: Vec<R>,
+    more: Vec<R>,
+    blank: Blank,
+) -> Result<Vec<R>, Memory>
+    requires name { blank.name ≡ L.name }
+    requires parts { blank.parts ≡ L.parts }
+    requires some { 0 < L.parts }
+    requires apart { AreApart R.meets apart.items }
+    ensures { IfOk result (λ all. IsResolution R.meets R.join (apart.items ++ more.items) all.items) }
+{
+    let mut steps: Steps<L> = Steps::open(blank);
+    resolve_onto(apart, more, &mut steps)
+}
+
+/// The resolution of values of which no two match, and of more values.
+fn resolved_onto<R: Resolvable>(apart: Vec<R>, more: Vec<R>) -> Result<Vec<R>, Memory>
+    requires { AreApart R.meets apart.items }
+    ensures { IfOk result (λ all. IsResolution R.meets R.join (apart.items ++ more.items) all.items) }
+{
+    resolved_by::<Brand, R>(apart, more, Blank::new(1))
+}
+
+/// The resolution of the list.
+fn resolved<R: Resolvable>(list: Vec<R>) -> Result<Vec<R>, Memory>
+    ensures { IfOk result (λ all. IsResolution R.meets R.join list.items all.items) }
+{
+    let none = Vec::new(*list.allocator());
+    resolved_onto(none, list)
+}
+
+/// The resolution of the list by 1 to 64 workers, in an order that is not fixed. Each half of the list is resolved by half of
+/// the workers, in a thread of its own where one can be made; one worker resolves as `merge_laws::swoosh::resolve_plain`
+/// does. Its contract does not bound the match tests. Memory where it runs out.
+// Another thread may use a bound only where its type is Send, so the keys are Send too, though no key is made here.
+#[cycle(halves)]
+pub fn resolve_halves<Rt: Threads + Sync, R: Resolvable + Send>(
+    rt: &Rt,
+    list: Vec<R>,
+    workers: u32,
+) -> Result<Vec<R>, Memory>
+where
+    R::Key: Send,
+    requires some { 1 ≤ workers }
+    requires most { workers ≤ 64 }
+    ensures { IfOk result (λ all. IsResolution R.meets R.join list.items all.items) }
+{
+    if workers == 1 || list.len() < 2 {
+        return resolved(list);
+    }
+    resolution_is_apart::<R>();
+    resolution_goes_on::<R>();
+    let mut front = list;
+    let back = front.split_off(front.len() / 2)?;
+    let fewer = workers / 2;
+    let others = workers - fewer;
+    let resolve_front = move || -> Result<Vec<R>, Memory>
+        requires { IsSync Rt.row × IsSend R.row × IsSend R.Key.row × (1 ≤ fewer) × (fewer ≤ 64) }
+        ensures { IfOk result (λ all. IsResolution R.meets R.join front.items all.items) }
+    { resolve_halves(rt, front, fewer) };
+    let resolve_back = move || -> Result<Vec<R>, Memory>
+        requires { IsSync Rt.row × IsSend R.row × IsSend R.Key.row × (1 ≤ others) × (others ≤ 64) }
+        ensures { IfOk result (λ all. IsResolution R.meets R.join back.items all.items) }
+    { resolve_halves(rt, back, others) };
+    let (one, other) = join(rt, resolve_front, resolve_back);
+    resolved_onto(one?, other?)
+}
