@@ -49,23 +49,34 @@ fn joined(alloc: Global, parts: &[&[u8]]) -> Result<Vec<u8>, AllocError> {
     Ok(text)
 }
 
+/// Puts a file into the shelf, which gives 100 bytes a read.
+fn put(
+    alloc: Global,
+    shelf: &mut MemShelf,
+    name: &[u8],
+    content: &[u8],
+    failing: &[u64],
+) -> Result<(), Memory> {
+    let name = Bytes::of(alloc, name)?;
+    let content = Bytes::of(alloc, content)?;
+    let failing = failing.to_vec(alloc)?;
+    shelf.put(name, content, failing, 100)
+}
+
 /// The files `s`, a script, `abc` and `d`.
 fn shelf_of(alloc: Global, script: &[u8], faults: &Faults<'_>) -> Result<MemShelf, Memory> {
     let none: &[u64] = &[];
     let abc = joined(alloc, &BRIDGE)?;
     let mut shelf = MemShelf::new(alloc);
-    for (name, content, failing) in [
-        (b"s".as_slice(), script, none),
-        (b"abc", abc.as_slice(), none),
-        (b"d", WITHDRAWAL.as_slice(), faults.failing),
-    ] {
-        shelf.put(
-            Bytes::of(alloc, name)?,
-            Bytes::of(alloc, content)?,
-            failing.to_vec(alloc)?,
-            100,
-        )?;
-    }
+    put(alloc, &mut shelf, b"s", script, none)?;
+    put(alloc, &mut shelf, b"abc", abc.as_slice(), none)?;
+    put(
+        alloc,
+        &mut shelf,
+        b"d",
+        WITHDRAWAL.as_slice(),
+        faults.failing,
+    )?;
     Ok(shelf)
 }
 
