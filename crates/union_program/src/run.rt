@@ -135,7 +135,8 @@ fn run_union<F: Shelf, O: Sink, N: Sink>(
 ///
 /// `check LIB=PATH` tells which frames of a library's file are refused; `export LIB=PATH ..` exports the union catalogue of
 /// the libraries' current records on `out` and reports on `notes`, and `works LIB=PATH ..` lists its works in place of the
-/// export; `script PATH` runs the lines of a script and writes on `out` alone; `--help` and `--version` write a text of the program's own on `out`. The runtime and the gate are not used yet.
+/// export; `script PATH` runs the lines of a script and writes on `out` alone; `--help` and `--version` write a text of the
+/// program's own on `out`. The runtime and the gate are not used yet.
 pub fn union_run<R, F: Shelf, O: Sink, N: Sink, G: Gate>(
     _rt: &R,
     alloc: Global,
