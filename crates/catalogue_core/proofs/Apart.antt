@@ -70,7 +70,7 @@ least-stands e =
     first-stands e.content.contributors
     (both_true (nat_le 1 (length e.content.contributors)) (is_ascending id_cmp e.content.contributors && is_ascending field_cmp e.content.united) e.content.kept).0
 
-match-from_least : (x y : Edition) → least x ≡ least y → IsTrue (match x y)
+pub match-from_least : (x y : Edition) → least x ≡ least y → IsTrue (match x y)
 match-from_least x y same =
     match-from_contributor x y (least y) (subst (Contains x.content.contributors) same (least-stands x)) (least-stands y)
 

@@ -36,7 +36,7 @@ pub record IsGrown (before came next : List Edition) : Type 0 where
   pub only : (x : Edition) → Contains next x → Contains before x ⊎ Contains came x
 
 -- under a new id comes one edition
-grown-insert : (all : MapOf Edition) (id : RecordId) (e : Edition) → is_current all id ≡ false → IsGrown (values_of all) (e ∷ []) (values_of (insert_entry id_cmp all id e))
+pub grown-insert : (all : MapOf Edition) (id : RecordId) (e : Edition) → is_current all id ≡ false → IsGrown (values_of all) (e ∷ []) (values_of (insert_entry id_cmp all id e))
 grown-insert [] id e new = record {
   stays = λ x (k, kl, h). absurd (omega arith);
   comes = λ x c. c;
@@ -67,7 +67,7 @@ grown-insert (p ∷ all) id e new =
     ] new
 
 -- where nothing is under an id, nothing goes
-remove-none : (all : MapOf Edition) (test : RecordId → Bool) → is_some (lookup test all) ≡ false → remove_entry test all ≡ all
+pub remove-none : (all : MapOf Edition) (test : RecordId → Bool) → is_some (lookup test all) ≡ false → remove_entry test all ≡ all
 remove-none [] test none = refl
 remove-none (p ∷ all) test none =
     elim (test p.0) as (λ b. is_some (cond b (Some p.1) (lookup test all)) ≡ false → cond b all (p ∷ remove_entry test all) ≡ p ∷ all) [

@@ -23,7 +23,7 @@ use Rattle.catalogue_core.proofs.Apart.{match-from_contributor}
 
 module _ {A : Type 0} (p : A → Bool) where
   -- where none passes, none is left
-  none-left : (xs : List A) → ((x : A) → Contains xs x → p x ≡ true → ⊥) → filter p xs ≡ []
+  pub none-left : (xs : List A) → ((x : A) → Contains xs x → p x ≡ true → ⊥) → filter p xs ≡ []
   none-left [] none = refl
   none-left (x ∷ xs) none =
       elim (p x) as (λ b. p x ≡ b → cond b (x ∷ filter p xs) (filter p xs) ≡ []) [

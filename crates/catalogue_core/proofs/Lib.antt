@@ -1,10 +1,21 @@
 mod KeyTexts
 mod EditionTexts
+mod MapLaws
+mod HomeLaws
 mod Apart
 mod Placing
 mod Growing
 mod Looking
+mod Housing
+mod PlanLaws
+mod TurnLaws
+mod InstallLaws
+mod NamedLaws
+mod Strangers
 mod Runs
 pub mod SameEditions
 pub mod Holders
 pub mod WalkLaws
+pub mod PartsLaws
+pub mod LeavingLaws
+pub mod TouchLaws

@@ -35,7 +35,9 @@ use Rattle.catalogue_core.specs.JoinLaws.{edition_join_laws}
 use Rattle.catalogue_core.specs.Matching.{match}
 use Rattle.catalogue_core.specs.MatchLaws.{edition_match_laws}
 use Rattle.catalogue_core.specs.Histories.{MapOf, at_id, is_current, after_op, after_batch, current, bases, AreEditionsOf}
-use Rattle.catalogue_core.specs.Keeping.{batches, loaded_at, map_values, StandFor, IsKept}
+use Rattle.catalogue_core.specs.Keeping.{batches, loaded_at, map_values, StandFor}
+use Rattle.catalogue_core.specs.PlainKeeping.{IsKeptPlainly}
+use Rattle.catalogue_core.specs.Plans.{AreSingle}
 use Rattle.catalogue_core.specs.Resolutions.{IsOrderedResolution}
 use Rattle.catalogue_core.specs.Walks.{first_of, holder_of}
 use Rattle.catalogue_core.specs.declared.edition.Edition.{Edition}
@@ -125,7 +127,7 @@ first-first_of (x ∷ xs) = refl
 
 -- ---- some value passes
 
-any-from_member : {A : Type 0} (p : A → Bool) (xs : List A) (x : A) → Contains xs x → p x ≡ true → list_any p xs ≡ true
+pub any-from_member : {A : Type 0} (p : A → Bool) (xs : List A) (x : A) → Contains xs x → p x ≡ true → list_any p xs ≡ true
 any-from_member p [] x (k, kl, e) h = absurd (omega arith)
 any-from_member p (y ∷ ys) x c h =
     elim (Contains-cases y ys x c) [
@@ -134,7 +136,7 @@ any-from_member p (y ∷ ys) x c h =
           elim (p y) as (λ b. (b || list_any p ys) ≡ true) [ true ↦ refl | false ↦ rest ])
     ]
 
-member-from_any : {A : Type 0} (p : A → Bool) (xs : List A) → list_any p xs ≡ true → (x : A) × Contains xs x × (p x ≡ true)
+pub member-from_any : {A : Type 0} (p : A → Bool) (xs : List A) → list_any p xs ≡ true → (x : A) × Contains xs x × (p x ≡ true)
 member-from_any p [] h = absurd (let clash : false ≡ true = h in cc)
 member-from_any {A} p (y ∷ ys) h =
     elim (p y) as (λ b. p y ≡ b → (b || list_any p ys) ≡ true → (x : A) × Contains (y ∷ ys) x × (p x ≡ true)) [
@@ -145,20 +147,20 @@ member-from_any {A} p (y ∷ ys) h =
 -- ---- contributors
 
 -- whether the edition has that contributor
-abbrev bears : RecordId → Edition → Bool
+abbrev pub bears : RecordId → Edition → Bool
 bears id e = has id_cmp e.content.contributors id
 
-either : (a b : Bool) → IsTrue (a || b) ↔ (IsTrue a ⊎ IsTrue b)
+pub either : (a b : Bool) → IsTrue (a || b) ↔ (IsTrue a ⊎ IsTrue b)
 either true b = (λ h. inl refl, λ h. refl)
 either false b = (λ h. inr h, λ h. elim h [ inl l ↦ absurd (let clash : false ≡ true = l in cc) | inr r ↦ r ])
 
-tags : (x y : Edition) (id : RecordId) → IsTrue (bears id (join x y)) ↔ (IsTrue (bears id x) ⊎ IsTrue (bears id y))
+pub tags : (x y : Edition) (id : RecordId) → IsTrue (bears id (join x y)) ↔ (IsTrue (bears id x) ⊎ IsTrue (bears id y))
 tags x y id =
     subst (λ b. IsTrue b ↔ (IsTrue (bears id x) ⊎ IsTrue (bears id y))) (sym (has-union id_total x.content.contributors y.content.contributors id))
     (either (bears id x) (bears id y))
 
 -- a resolution has the contributors of its list
-bears-resolution : (list resolution : List Edition) → IsResolution match join list resolution → (id : RecordId) → list_any (bears id) resolution ≡ list_any (bears id) list
+pub bears-resolution : (list resolution : List Edition) → IsResolution match join list resolution → (id : RecordId) → list_any (bears id) resolution ≡ list_any (bears id) list
 bears-resolution list resolution r id =
     both_ways (list_any (bears id) resolution) (list_any (bears id) list)
     (λ h. let (e, c, b) = member-from_any (bears id) resolution h in
@@ -170,11 +172,7 @@ bears-resolution list resolution r id =
 
 -- ---- current records
 
--- under each id is the edition of that one record
-abbrev AreSingle : MapOf Edition → Type 0
-AreSingle all = AllByRecursion (λ pair. pair.1.content.contributors ≡ pair.0 ∷ []) all
-
-single-insert : (all : MapOf Edition) (id : RecordId) (e : Edition) → AreSingle all → e.content.contributors ≡ id ∷ [] → AreSingle (insert_entry id_cmp all id e)
+pub single-insert : (all : MapOf Edition) (id : RecordId) (e : Edition) → AreSingle all → e.content.contributors ≡ id ∷ [] → AreSingle (insert_entry id_cmp all id e)
 single-insert [] id e s one = (one, tt)
 single-insert (p ∷ all) id e s one =
     elim (id_cmp id p.0) as (λ r. id_cmp id p.0 ≡ r → AreSingle (match_ordering r ((id, e) ∷ p ∷ all) ((p.0, e) ∷ all) (p ∷ insert_entry id_cmp all id e))) [
@@ -183,7 +181,7 @@ single-insert (p ∷ all) id e s one =
       | Greater ↦ λ is. (s.0, single-insert all id e s.1 one)
     ] refl
 
-single-remove : (all : MapOf Edition) (test : RecordId → Bool) → AreSingle all → AreSingle (remove_entry test all)
+pub single-remove : (all : MapOf Edition) (test : RecordId → Bool) → AreSingle all → AreSingle (remove_entry test all)
 single-remove [] test s = tt
 single-remove (p ∷ all) test s =
     elim (test p.0) as (λ b. AreSingle (cond b all (p ∷ remove_entry test all))) [ true ↦ s.1 | false ↦ (s.0, single-remove all test s.1) ]
@@ -193,7 +191,7 @@ one-from_own library [] h = cc
 one-from_own library (id ∷ []) h = refl
 one-from_own library (id ∷ more ∷ rest) h = cc
 
-single-op : (library : List ℕ) (all : MapOf Edition) (op : Op) → AreSingle all → is_own_op library op ≡ true → AreSingle (after_op library all op)
+pub single-op : (library : List ℕ) (all : MapOf Edition) (op : Op) → AreSingle all → is_own_op library op ≡ true → AreSingle (after_op library all op)
 single-op library all (Load e) s own = single-insert all (least e) e s (one-from_own library e.content.contributors own)
 single-op library all (Withdraw number) s own = single-remove all (is_at (id_cmp (record { library = library; control = number }))) s
 
@@ -203,13 +201,13 @@ single-ops library all (op ∷ ops) s own =
     let parts = both_true (is_own_op library op) (list_all (is_own_op library) ops) own in
     single-ops library (after_op library all op) ops (single-op library all op s parts.0) parts.1
 
-single-turns : (all : MapOf Edition) (history : List HistoryEntry) → AreSingle all → AreSingle (fold (λ all entry. after_batch all entry.batch) all history)
+pub single-turns : (all : MapOf Edition) (history : List HistoryEntry) → AreSingle all → AreSingle (fold (λ all entry. after_batch all entry.batch) all history)
 single-turns all [] s = s
 single-turns all (turn ∷ history) s =
     single-turns (after_batch all turn.batch) history
     (single-ops turn.batch.library all turn.batch.ops s (both_true _ (list_all (is_own_op turn.batch.library) turn.batch.ops) turn.batch.fits).1)
 
-bears-current : (all : MapOf Edition) → AreSingle all → (id : RecordId) → list_any (bears id) (values_of all) ≡ is_current all id
+pub bears-current : (all : MapOf Edition) → AreSingle all → (id : RecordId) → list_any (bears id) (values_of all) ≡ is_current all id
 bears-current [] s id = refl
 bears-current (p ∷ all) s id =
     ap (λ ids. has id_cmp ids id || list_any (bears id) (values_of all)) s.0
@@ -226,7 +224,7 @@ holder-current history editions r id =
 
 -- ---- what a catalogue keeps
 
-pub kept-empty : IsKept [] [] [] []
+pub kept-empty : IsKeptPlainly [] [] [] []
 kept-empty = record {
   current = record { loads = refl };
   resolved = record {
@@ -240,7 +238,7 @@ pub kept-turn : (history : List HistoryEntry) (number : ℕ) (batch : Batch) (pl
     → StandFor (batches history ++ batch ∷ []) places (after_batch (current history) batch)
     → IsOrderedResolution (values_of (after_batch (current history) batch)) editions
     → works ≡ works_of (work_pairs editions)
-    → IsKept (history ++ record { pass = number; batch = batch } ∷ []) places editions works
+    → IsKeptPlainly (history ++ record { pass = number; batch = batch } ∷ []) places editions works
 kept-turn history number batch places editions works s r w =
     let turn : HistoryEntry = record { pass = number; batch = batch } in
     let now : current (history ++ turn ∷ []) ≡ after_batch (current history) batch = fold-append (λ all (entry : HistoryEntry). after_batch all entry.batch) [] history (turn ∷ []) in
@@ -252,11 +250,11 @@ kept-turn history number batch places editions works s r w =
     }
 
 -- the base under an id
-flat-then : {A B : Type 0} (f : A → Option B) (o : Option A) → option_flatten (option_map f o) ≡ option_and_then f o
+pub flat-then : {A B : Type 0} (f : A → Option B) (o : Option A) → option_flatten (option_map f o) ≡ option_and_then f o
 flat-then f None = refl
 flat-then f (Some x) = refl
 
-flat-some : {A : Type 0} (o : Option A) → option_flatten (option_map Some o) ≡ o
+pub flat-some : {A : Type 0} (o : Option A) → option_flatten (option_map Some o) ≡ o
 flat-some None = refl
 flat-some (Some x) = refl
 

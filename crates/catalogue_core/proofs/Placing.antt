@@ -100,7 +100,7 @@ stand-placed all places editions s library place (Withdraw number) at =
 -- ---- the operations of a turn
 
 -- the batch after those before it
-batch-last : (before : List Batch) (batch : Batch) → slice_get (before ++ batch ∷ []) (length before) ≡ Some batch
+pub batch-last : (before : List Batch) (batch : Batch) → slice_get (before ++ batch ∷ []) (length before) ≡ Some batch
 batch-last [] batch = refl
 batch-last (b ∷ before) batch = batch-last before batch
 

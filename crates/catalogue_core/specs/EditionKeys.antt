@@ -1,11 +1,13 @@
 -- The work key of an edition.
-use Rattle.std.specs.Prelude.{ℕ, Bool, ◌||◌, List, Option, codes, filter, map}
+use Rattle.std.specs.Prelude.{ℕ, Bool, ◌||◌, List, Option, codes, filter, filter_map, map}
 use Rattle.std.specs.Option.{option_map}
 use Rattle.union_base.specs.declared.field.Field.{Field}
 use Rattle.union_base.specs.declared.record_id.RecordId.{RecordId}
 use Rattle.marc_parts.specs.Parts.{has_tag}
 use Rattle.field_merge.specs.declared.slot.Slot.{Slot}
 use Rattle.workset_keys.specs.WorkKeys.{work_key}
+use Rattle.swoosh_resolver.specs.Tables.{block_at}
+use Rattle.catalogue_core.specs.Homes.{Block}
 use Rattle.catalogue_core.specs.Ids.{least}
 use Rattle.catalogue_core.specs.declared.edition.Edition.{Edition}
 
@@ -25,3 +27,7 @@ work_key_of e =
 -- the work keys of editions, each with the id by which its edition is named
 abbrev pub work_pairs : List Edition → List (List ℕ × RecordId)
 work_pairs editions = map (λ e. (work_key_of e, least e)) editions
+
+-- the same of the blocks under the numbers
+abbrev pub closed_pairs : List (Option Block) → List ℕ → List (List ℕ × RecordId)
+closed_pairs blocks closed = filter_map (λ n. option_map (λ e. (work_key_of e.value, least e.value)) (block_at blocks n)) closed

@@ -1,14 +1,12 @@
--- What a catalogue keeps beside its history: where each current record was loaded, and the editions.
+-- Where in a history the current records were loaded.
 use Rattle.std.specs.Prelude.{◌≡◌, ℕ, Bool, true, false, List, map, Option, Some, None, slice_get}
 use Rattle.std.specs.Option.{option_and_then}
 use Rattle.std.specs.BTreeMap.{is_at, insert_entry}
 use Rattle.std.specs.Map.{remove_entry}
 use Rattle.union_base.specs.declared.record_id.RecordId.{RecordId}
 use Rattle.field_merge.specs.Kept.{id_cmp}
-use Rattle.work_clusters.specs.Works.{works_of}
-use Rattle.catalogue_core.specs.EditionKeys.{work_pairs}
 use Rattle.catalogue_core.specs.Ids.{least}
-use Rattle.catalogue_core.specs.Histories.{MapOf, id_of, current as current_of, AreEditionsOf}
+use Rattle.catalogue_core.specs.Histories.{MapOf, id_of}
 use Rattle.catalogue_core.specs.declared.edition.Edition.{Edition}
 use Rattle.catalogue_core.specs.declared.op.Op.{Op}
 use Rattle.catalogue_core.specs.declared.op.Op.TheVariants.{Load, Withdraw}
@@ -50,10 +48,3 @@ takes_none Absent = true
 -- the places are those, in the batches, at which the editions were loaded, under the same ids
 pub record StandFor (all : List Batch) (places : MapOf Place) (editions : MapOf Edition) : Type 0 where
   pub loads : map_values (loaded_at all) places ≡ map_values Some editions
-
--- the places are those at which the current records of the history were loaded, the editions are those of the history, and
--- the works are those of the editions
-pub record IsKept (history : List HistoryEntry) (places : MapOf Place) (editions : List Edition) (works : List (List ℕ × List RecordId)) : Type 0 where
-  pub current : StandFor (batches history) places (current_of history)
-  pub resolved : AreEditionsOf history editions
-  pub clustered : works ≡ works_of (work_pairs editions)

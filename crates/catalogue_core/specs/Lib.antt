@@ -20,3 +20,11 @@ pub mod Ops
 pub mod Histories
 pub mod Walks
 pub mod Keeping
+pub mod Net
+pub mod PlainKeeping
+pub mod Homes
+pub mod Plans
+pub mod Reaches
+pub mod Kept
+pub mod PreparedReaches
+pub mod Touches

@@ -3,27 +3,40 @@
 //! A catalogue is its history: the batches that were applied, in order. Everything else that it answers is a function of that
 //! list (`specs/Histories.antt`): which records are current, and the editions that they come to, which are at every moment the
 //! resolution, from scratch, of the current records; and the works of those editions.
-ghost use Rattle.std.specs.Prelude.{◌≡◌, ◌<◌, ◌^◌, ◌++◌, ◌∷◌, [], List, length, not, is_none, IfOk, OnOk, OnErr, Some, slice_get};
+//!
+//! Beside the history it keeps the editions in blocks under numbers, with an index of their keys, and under the id of each
+//! current record its home: where in the history it was loaded, and the number of its block. A turn counts at most the reach of
+//! its batch (`specs/Reaches.antt`), whatever the size of the catalogue.
+ghost use Rattle.std.specs.Prelude.{◌≡◌, ◌≤◌, ◌+◌, ◌<◌, ◌^◌, ◌++◌, ◌∷◌, [], ℕ, List, length, not, is_none, IfOk, OnOk, OnErr, Some, slice_get};
 ghost use Rattle.std.specs.Option.{option_copied};
 ghost use Rattle.catalogue_core.specs.declared.edition.Edition.{Edition as EditionModel};
 ghost use Rattle.work_clusters.specs.Works.{works_of};
 ghost use Rattle.catalogue_core.specs.EditionKeys.{work_pairs};
 ghost use Rattle.catalogue_core.specs.Histories.{current, bases, at_id, is_current, outcomes, AreEditionsOf};
+ghost use Rattle.catalogue_core.specs.Net.{net};
+ghost use Rattle.catalogue_core.specs.PreparedReaches.{IsReachOfParts};
+ghost use Rattle.catalogue_core.specs.Reaches.{IsReachOf};
+ghost use Rattle.catalogue_core.specs.Resolutions.{IsOrderedResolution};
 ghost use Rattle.catalogue_core.specs.Walks.{first_of, first_behind, holder_of};
 
 use crate::batch::Batch;
 use crate::edition::Edition;
 use crate::history_entry::HistoryEntry;
-use crate::keeping::base_in;
+use crate::home::Home;
+use crate::installing::install;
+use crate::keeping::loaded_at;
 use crate::outcome::Outcome;
-use crate::place::Place;
+use crate::parts_turn::apply_parts;
+use crate::prepared::Prepared;
 use crate::turn::planned;
-use crate::walking::{first_behind, holder_in};
+use crate::walk::first_named;
 use merge_laws::steps::Steps;
 use std::alloc::Global;
 use std::collections::BTreeMap;
 use std::marker::Model;
+use std::ops::Bound;
 use std::sync::ledger::Ledger;
+use swoosh_resolver::blocks::Blocks;
 use union_base::memory::Memory;
 use union_base::record_id::RecordId;
 use work_clusters::works::Works;
@@ -32,8 +45,8 @@ use work_clusters::works::Works;
 #[derive(Drop)]
 pub struct Catalogue {
     history: Vec<HistoryEntry>,
-    places: BTreeMap<RecordId, Place>,
-    editions: Vec<Edition>,
+    homes: BTreeMap<RecordId, Home>,
+    blocks: Blocks<Edition>,
     works: Works,
 }
 
@@ -43,11 +56,11 @@ impl Model for Catalogue {
 
     ghost Value = { List HistoryEntry };
 
-    ghost use Rattle.catalogue_core.specs.Keeping.{IsKept};
+    ghost use Rattle.catalogue_core.specs.Kept.{IsKept};
 
     ghost view = { λ c. c.history.items };
 
-    ghost invariant = { λ c. IsKept c.history.items c.places.entries c.editions.items c.works.works };
+    ghost invariant = { λ c. IsKept c.history.items c.homes.entries c.blocks.blocks c.works.works };
 }
 
 impl Catalogue {
@@ -57,13 +70,14 @@ impl Catalogue {
     {
         Ok(Catalogue {
             history: Vec::new(alloc),
-            places: BTreeMap::new(alloc),
-            editions: Vec::new(alloc),
+            homes: BTreeMap::new(alloc),
+            blocks: Blocks::empty(alloc),
             works: Works::empty(alloc),
         })
     }
 
-    /// Applies a batch under that number, and answers what came of each of its operations. Counts the match tests.
+    /// Applies a batch under that number, and answers what came of each of its operations. Counts the match tests: at most the
+    /// reach of the batch, also where it answers `Memory`.
     ///
     /// Answers `Memory` where memory ran out; the catalogue is as before then.
     pub fn apply<L: Ledger>(
@@ -76,37 +90,78 @@ impl Catalogue {
         ensures appended { OnOk result (self.new ≡ self.old ++ record { pass = number; batch = batch } ∷ []) }
         ensures outcomes { IfOk result (λ found. found.items ≡ outcomes batch.library (current self.old) batch.ops) }
         ensures kept { OnErr result (self.new ≡ self.old) }
+        ensures reach { (number : ℕ) → IsReachOf batch.library (current self.old) batch.ops number
+            → steps.new ≤ steps.old + number }
     {
-        let turn = planned(
+        let (plan, found) = planned(
             alloc,
             &self.history,
-            &self.places,
-            &self.editions,
+            &self.homes,
+            &self.blocks,
             &batch,
             steps,
         )?;
-        self.history.push(HistoryEntry {
+        let entry = HistoryEntry {
             pass: number,
             batch,
-        })?;
-        self.places = turn.places;
-        self.editions = turn.editions;
-        self.works = turn.works;
-        Ok(turn.outcomes)
+        };
+        install(
+            alloc,
+            &mut self.history,
+            &mut self.homes,
+            &mut self.blocks,
+            &mut self.works,
+            entry,
+            plan,
+        )?;
+        Ok(found)
+    }
+
+    /// Applies a batch whose loads are resolved among themselves, under that number, and answers what came of each of its
+    /// operations, as `apply` does. The records that the batch names are withdrawn, and then what its loads come to is inserted.
+    /// Counts the match tests: at most the reach of the parts, also where it answers `Memory`.
+    ///
+    /// Answers `Memory` where memory ran out; the catalogue is as before then.
+    pub fn apply_prepared<L: Ledger>(
+        &mut self,
+        alloc: Global,
+        number: u32,
+        prepared: Prepared,
+        steps: &mut Steps<L>,
+    ) -> Result<Vec<Outcome>, Memory>
+        ensures appended { OnOk result (self.new ≡ self.old ++ record { pass = number; batch = prepared } ∷ []) }
+        ensures outcomes { IfOk result (λ found. found.items ≡ outcomes prepared.library (current self.old) prepared.ops) }
+        ensures kept { OnErr result (self.new ≡ self.old) }
+        ensures reach { (parts : List EditionModel) (reach : ℕ) → IsOrderedResolution (net prepared) parts
+            → IsReachOfParts prepared.library (current self.old) prepared.ops parts reach → steps.new ≤ steps.old + reach }
+    {
+        let (batch, parts) = prepared.into_parts();
+        apply_parts(
+            alloc,
+            &mut self.history,
+            &mut self.homes,
+            &mut self.blocks,
+            &mut self.works,
+            number,
+            batch,
+            parts,
+            steps,
+        )
     }
 
     /// The first edition in order of the least contributors: None exactly where there is none. Takes no memory.
     pub fn first(&self) -> Option<&Edition>
         ensures { (all : List EditionModel) × AreEditionsOf self.now all × (option_copied result ≡ first_of all) }
     {
-        self.editions.first()
+        first_named(&self.blocks, self.homes.range(..))
     }
 
     /// The first edition whose least contributor is behind that id: None exactly where there is none. Takes no memory.
     pub fn after(&self, id: &RecordId) -> Option<&Edition>
         ensures { (all : List EditionModel) × AreEditionsOf self.now all × (option_copied result ≡ first_behind all id.now) }
     {
-        first_behind(&self.editions, id)
+        let behind = self.homes.range((Bound::Excluded(id), Bound::Unbounded));
+        first_named(&self.blocks, behind)
     }
 
     /// The edition that the record of that id is a contributor of: None exactly where it is not current. Takes no memory.
@@ -114,28 +169,34 @@ impl Catalogue {
         ensures holder { (all : List EditionModel) × AreEditionsOf self.now all × (option_copied result ≡ holder_of all id.now) }
         ensures none { is_none result ≡ not (is_current (current self.now) id.now) }
     {
-        holder_in(&self.editions, id)
+        match self.homes.get(id) {
+            Some(home) => self.blocks.block(home.block),
+            None => None,
+        }
     }
 
     /// The current record of that id, as its edition: None exactly where it is not current. Takes no memory.
     pub fn base(&self, id: &RecordId) -> Option<&Edition>
         ensures { option_copied result ≡ at_id (current self.now) id.now }
     {
-        base_in(&self.history, &self.places, id)
+        match self.homes.get(id) {
+            Some(home) => loaded_at(&self.history, home.place),
+            None => None,
+        }
     }
 
     /// How many editions there are. Takes no memory.
     pub fn edition_count(&self) -> u64
         ensures { (all : List EditionModel) × AreEditionsOf self.now all × (result ≡ length all) }
     {
-        self.editions.len() as u64
+        self.blocks.count() as u64
     }
 
     /// How many records are current. Takes no memory.
     pub fn record_count(&self) -> u64
         ensures { result ≡ length (bases self.now) }
     {
-        self.places.len() as u64
+        self.homes.len() as u64
     }
 
     /// The works of the editions: under each work key, by their least contributors, the editions that have it. Takes no memory.

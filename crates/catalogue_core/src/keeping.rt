@@ -36,7 +36,7 @@ pub fn loaded(op: &Op) -> Option<&Edition>
 
 /// The edition that the operation at the place in the batches of the history loads: None exactly where there is none. Takes
 /// no memory.
-fn loaded_at(history: &[HistoryEntry], place: Place) -> Option<&Edition>
+pub fn loaded_at(history: &[HistoryEntry], place: Place) -> Option<&Edition>
     ensures { option_copied result ≡ loaded_at (batches history.now) place }
 {
     let turn = history.get(place.turn)?;
@@ -45,7 +45,11 @@ fn loaded_at(history: &[HistoryEntry], place: Place) -> Option<&Edition>
 }
 
 /// The same of a history and one more batch. Takes no memory.
-fn loaded_in<'a>(history: &'a [HistoryEntry], batch: &'a Batch, place: Place) -> Option<&'a Edition>
+pub fn loaded_in<'a>(
+    history: &'a [HistoryEntry],
+    batch: &'a Batch,
+    place: Place,
+) -> Option<&'a Edition>
     ensures { option_copied result ≡ loaded_at (batches history.now ++ batch.now ∷ []) place }
 {
     if place.turn == history.len() {

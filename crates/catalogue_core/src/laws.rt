@@ -1,5 +1,5 @@
 //! What holds of editions. Each function here does nothing when it runs: its contract is the law.
-ghost use Rattle.std.specs.Prelude.{◌≡◌, ◌≢◌, false, IsTrue, List, Contains};
+ghost use Rattle.std.specs.Prelude.{◌≡◌, ◌≢◌, ◌⊎◌, ℕ, false, IsTrue, List, [], ◌∷◌, Contains};
 ghost use Rattle.std.specs.List.{list_all};
 ghost use Rattle.std.specs.List.Sorted.{IsPermutation, IsSorted};
 ghost use Rattle.union_base.specs.declared.record_id.RecordId.{RecordId};
@@ -13,7 +13,8 @@ ghost use Rattle.catalogue_core.specs.declared.history_entry.HistoryEntry.{Histo
 ghost use Rattle.catalogue_core.specs.Histories.{AreEditionsOf};
 ghost use Rattle.catalogue_core.specs.Ids.{least, edition_cmp};
 ghost use Rattle.catalogue_core.specs.Joining.{join};
-ghost use Rattle.catalogue_core.specs.Matching.{match as edition_match};
+ghost use Rattle.catalogue_core.specs.Matching.{match as edition_match, share};
+ghost use Rattle.catalogue_core.specs.Reaches.{IsReachOfInsertion, IsReachOfWithdrawal};
 ghost use Rattle.catalogue_core.specs.Resolutions.{IsOrderedResolution};
 
 /// An accepted record that is no withdrawal is one that `records::edition_of` makes an edition of.
@@ -45,4 +46,13 @@ pub fn ordered_resolution_is_unique()
 pub fn editions_of_a_history_are_unique()
     ensures { (history : List HistoryEntry) (one other : List Edition) → AreEditionsOf history one → AreEditionsOf history other
         → one ≡ other }
+{}
+
+/// A record that shares no index key with any other costs no test where it comes, and at most one where it goes: by the clause
+/// of `catalogue::Catalogue::apply`, however many records there are.
+pub fn strangers_cost_one_test()
+    ensures comes { (list : List Edition) (e : Edition) (number : ℕ) → ((x : Edition) → Contains list x → share x e ≡ false)
+        → IsReachOfInsertion list e number → number ≡ 0 }
+    ensures goes { (list : List Edition) (e : Edition) (id : RecordId) (number : ℕ) → ((x : Edition) → Contains list x
+        → (x ≡ e) ⊎ (share x e ≡ false)) → e.content.contributors ≡ id ∷ [] → IsReachOfWithdrawal list id number → number ≡ 1 }
 {}

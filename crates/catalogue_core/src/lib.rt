@@ -8,8 +8,10 @@
 //!
 //! Guarantee: editions keep the laws of `Join`, so what a list of records resolves to does not depend on their order; and
 //! whatever was loaded, corrected and withdrawn, the editions of a catalogue are those to which its current records resolve.
-//! Cost: merging and matching walk sorted lists side by side. A turn makes the catalogue's parts anew: it copies them, and
-//! tests what comes against the editions that stand, or, where a record goes, all current records against one another.
+//! Cost: merging and matching walk sorted lists side by side. A turn tests, for a record that comes, the editions that share an
+//! index key with it, and for one that goes, the other records of its edition: at most the reach of its batch
+//! (specs/Reaches.antt), whatever the size of the catalogue. No edition that is not merged is copied. A walk passes each current
+//! record once.
 #![tactic(auto)]
 
 pub mod batch;
@@ -17,21 +19,35 @@ pub mod catalogue;
 #[cfg(test)]
 mod catalogue_tests;
 mod clustering;
+#[cfg(test)]
+mod comparing_tests;
 pub mod edition;
 pub mod history_entry;
+mod home;
+mod homes;
 pub mod ids;
+mod installing;
 pub mod joining;
 mod keeping;
 pub mod laws;
 pub mod making_batch;
 pub mod matching;
+pub mod net;
 pub mod op;
 pub mod ordering;
 pub mod outcome;
+mod parts_planning;
+mod parts_turn;
 mod place;
+pub mod plain_catalogue;
+mod plain_turn;
+mod plan;
+mod planning;
+pub mod prepared;
 pub mod records;
 #[cfg(test)]
 mod tests;
 mod turn;
+mod walk;
 mod walking;
 pub mod work_key;

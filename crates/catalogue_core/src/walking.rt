@@ -32,7 +32,7 @@ pub fn first_behind<'a>(editions: &'a [Edition], id: &RecordId) -> Option<&'a Ed
 }
 
 /// Whether the record of that id is a contributor. Takes no memory.
-fn has_contributor(edition: &Edition, id: &RecordId) -> bool
+pub fn has_contributor(edition: &Edition, id: &RecordId) -> bool
     ensures { result ≡ has id_cmp edition.now.content.contributors id.now }
 {
     let ids = edition.content.contributors.as_slice();

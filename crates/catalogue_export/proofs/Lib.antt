@@ -13,6 +13,6 @@ pub mod ExportedParts
 pub mod ExportedProof
 pub mod KeyLetters
 pub mod KeyUtf8
-mod WritingLaws
+pub mod WritingLaws
 mod AroundLaws
 mod WorkWalk

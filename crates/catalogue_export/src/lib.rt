@@ -15,7 +15,7 @@ pub mod export_fail;
 mod fields;
 mod fitting;
 pub mod laws;
-mod pending;
+pub mod pending;
 #[cfg(test)]
 mod tests;
 pub mod works_text;

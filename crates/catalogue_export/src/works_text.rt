@@ -35,7 +35,7 @@ pub fn works_text<O: Sink>(
     for _ in 0..works.count() {
         if let Some(key) = next {
             let text = key.bytes();
-            let editions = works.editions_of(text);
+            let editions = works.editions_of(key);
             match write_work(alloc, text, editions, &mut pending, out) {
                 Ok(()) => next = works.after(Some(key)),
                 Err(fail) => return Err(fail),

@@ -1,3 +1,4 @@
 pub mod CutLaws
 pub mod TellingLaws
 pub mod TitleLaws
+pub mod WorkLaws

@@ -23,11 +23,6 @@ next-of : {X : Type 0} (xs : List X) (place : ℕ) (x : X) → slice_get xs plac
 next-of xs place x at =
     take_more xs place x (slice_get_within xs place x at) ∙ ap (λ y. take place xs ++ y ∷ []) (get_or_from_slice_get xs place x x at)
 
--- what f makes of one more
-pub made-more : {X A : Type 0} (f : X → A) (xs : List X) (place : ℕ) (x : X) → slice_get xs place ≡ Some x
-    → map f (take (place + 1) xs) ≡ map f (take place xs) ++ f x ∷ []
-made-more f xs place x at = ap (map f) (next-of xs place x at) ∙ map-append f (take place xs) (x ∷ [])
-
 module _ {X A : Type 0} (p : X → Bool) (f : X → List A) where
   told-one : (x : X) → flat_map f (filter p (x ∷ [])) ≡ cond (p x) (f x) []
   told-one x =

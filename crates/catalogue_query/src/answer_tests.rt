@@ -158,6 +158,21 @@ fn contributors_and_works(rt: HostRuntime) -> Result<(), Fail> {
 }
 
 #[test]
+fn work_of_two_editions(rt: HostRuntime) -> Result<(), Fail> {
+    let records: [(&str, &[u8]); 2] = [("LIBB", BETWEEN), ("LIBA", RED)];
+    let table: [(&[u8], &[u8]); 3] = [
+        (
+            b"work hill, ann/red ships",
+            b"edition LIBA.a1\nedition LIBB.c1\n",
+        ),
+        (b"work hill, ann/red", b"none\n"),
+        (b"count", b"editions 2 works 1 records 2\n"),
+    ];
+    assert!(rt; all_answered(rt.alloc(), &records, &table)?);
+    Ok(())
+}
+
+#[test]
 fn holdings_of_contributors(rt: HostRuntime) -> Result<(), Fail> {
     let records: [(&str, &[u8]); 4] = [
         ("LIBB", ODD),

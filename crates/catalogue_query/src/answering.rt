@@ -1,26 +1,24 @@
 //! What a catalogue answers to a query.
 //!
-//! The edition that has a record is looked up. For any other query the walk over the editions looks at each, so such an
-//! answer takes time by their number.
-ghost use Rattle.std.specs.Prelude.{◌≡◌, List, [], ◌∷◌, ◌++◌, map, filter, flat_map, length, IfOk};
-ghost use Rattle.catalogue_core.specs.EditionKeys.{work_key_of};
+//! The edition that has a record is looked up, and so are the editions of a work; the counts are read. For an ISBN, a control
+//! pair or a title the walk over the editions looks at each, so such an answer takes time by their number.
+ghost use Rattle.std.specs.Prelude.{◌≡◌, List, map, filter, flat_map, IfOk};
 ghost use Rattle.catalogue_core.specs.Histories.{current, AreEditionsOf};
 ghost use Rattle.catalogue_core.specs.declared.edition.Edition.{Edition as EditionModel};
-ghost use Rattle.catalogue_query.specs.declared.query.Query.TheVariants.{Count};
-ghost use Rattle.catalogue_query.specs.Answers.{has_contributor, told, told_of, work_keys, lines_of, or_none, answer_lines};
+ghost use Rattle.catalogue_query.specs.declared.query.Query.TheVariants.{Work, Count};
+ghost use Rattle.catalogue_query.specs.Lines.{edition_line};
+ghost use Rattle.catalogue_query.specs.Answers.{has_contributor, told, told_of, lines_of, or_none, answer_lines};
 
 use crate::answer::Answer;
-use crate::lines::count_line;
+use crate::lines::{count_line, edition_line};
 use crate::query::Query;
 use crate::telling::{add_asked, add_told};
 use catalogue_core::catalogue::Catalogue;
-use catalogue_core::work_key::work_key_of;
 use std::alloc::Global;
 use union_base::bytes::Bytes;
 use union_base::memory::Memory;
 use union_base::record_id::RecordId;
 use union_base::sequence::Sequence;
-use union_base::sorted_list::SortedList;
 
 /// The catalogue's answer to a query (this project's own), from the editions of its current records, in order of their least
 /// contributors:
@@ -64,6 +62,7 @@ fn lines_of(alloc: Global, catalogue: &Catalogue, query: &Query) -> Result<Vec<B
     match query {
         Query::Id(id) => lines_of_holder(alloc, catalogue, query, id),
         Query::Holdings(id) => lines_of_holder(alloc, catalogue, query, id),
+        Query::Work(key) => lines_of_work(alloc, catalogue, key),
         Query::Count => count_lines(alloc, catalogue),
         _ => lines_of_asked(alloc, catalogue, query),
     }
@@ -82,6 +81,25 @@ fn lines_of_holder(
     let mut lines = Vec::new(alloc);
     if let Some(edition) = catalogue.holder(id) {
         add_told(alloc, &mut lines, catalogue, query, edition)?;
+    }
+    Ok(lines)
+}
+
+/// What is told of the editions of the work.
+fn lines_of_work(alloc: Global, catalogue: &Catalogue, key: &Bytes) -> Result<Vec<Bytes>, Memory>
+    ensures { IfOk result (λ lines. (all : List EditionModel) × AreEditionsOf catalogue.now all
+        × (lines.items ≡ told_of (Work key.now) (current catalogue.now) all)) }
+{
+    edition_lines(alloc, catalogue.works().editions_of(key))
+}
+
+/// The line of each edition, by its least contributor.
+fn edition_lines(alloc: Global, ids: &[RecordId]) -> Result<Vec<Bytes>, Memory>
+    ensures { IfOk result (λ lines. lines.items ≡ map edition_line ids.now) }
+{
+    let mut lines = Vec::with_capacity(alloc, ids.len())?;
+    for id in ids {
+        lines.push(edition_line(alloc, id)?)?;
     }
     Ok(lines)
 }
@@ -108,34 +126,9 @@ fn count_lines(alloc: Global, catalogue: &Catalogue) -> Result<Vec<Bytes>, Memor
         × (lines.items ≡ lines_of Count (current catalogue.now) all)) }
 {
     let editions = catalogue.edition_count();
-    let works = work_count(alloc, catalogue)?;
+    let works = catalogue.works().count();
     let records = catalogue.record_count();
     let mut lines = Vec::with_capacity(alloc, 1)?;
     lines.push(count_line(alloc, editions, works, records)?)?;
     Ok(lines)
-}
-
-/// How many works the editions are of.
-fn work_count(alloc: Global, catalogue: &Catalogue) -> Result<u64, Memory>
-    ensures { IfOk result (λ count. (all : List EditionModel) × AreEditionsOf catalogue.now all
-        × (count ≡ length (work_keys all))) }
-{
-    let keys = SortedList::of(keys_of_editions(alloc, catalogue)?)?;
-    Ok(keys.as_slice().len() as u64)
-}
-
-/// The work key of each edition.
-fn keys_of_editions(alloc: Global, catalogue: &Catalogue) -> Result<Vec<Bytes>, Memory>
-    ensures { IfOk result (λ keys. (all : List EditionModel) × AreEditionsOf catalogue.now all
-        × (keys.items ≡ map work_key_of all)) }
-{
-    let mut keys = Vec::new(alloc);
-    let mut next = catalogue.first();
-    for _ in 0..catalogue.edition_count() {
-        if let Some(edition) = next {
-            keys.push(work_key_of(alloc, edition)?)?;
-            next = catalogue.after(edition.least());
-        }
-    }
-    Ok(keys)
 }

@@ -38,8 +38,8 @@ fn reply_all<R: Wait>(
     Ok(())
 }
 
-/// Runs an asker: asks its questions in order.
-pub(crate) fn ask_all<R: Wait>(rt: &R, alloc: Global, desk: &Desk<Served>, asker: &mut Asker)
+/// Runs an asker: asks its questions in order, and keeps the replies. It waits. The end is Done where each has one, and else Memory.
+pub fn ask_all<R: Wait>(rt: &R, alloc: Global, desk: &Desk<Served>, asker: &mut Asker)
     requires { IsAsker desk.now.board.shared.table_id asker.old }
     ensures { Asks desk.now.board.shared.table_id asker.old asker.new }
 {

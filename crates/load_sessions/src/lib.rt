@@ -1,6 +1,8 @@
 //! The loading of libraries at a desk: sessions, which may run at once, and an asker beside them.
 //!
-//! A session reads the source of one library and makes one turn at the desk for each of its batches (`library_batches`).
+//! A session reads the source of one library and makes one turn at the desk for each of its batches (`library_batches`). Before it
+//! asks for the turn, it resolves the records of the batch among themselves (`preparing`), so that the turn inserts what they
+//! come to.
 //! `running::run_sessions` runs some sessions on some threads. Whatever their turns' order, each session's pass has gained
 //! the first batches of its source in their order, and all of them where its end is Done; its report then has the frames, the
 //! refused ones, and what came of its operations in the one history of the desk. The machine of the desk is
@@ -11,8 +13,9 @@
 #![tactic(auto)]
 
 pub mod asker;
-mod asking;
+pub mod asking;
 pub mod end;
+pub mod preparing;
 pub mod report;
 pub mod running;
 pub mod served;

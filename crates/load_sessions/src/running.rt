@@ -53,43 +53,58 @@ fn report_of(reader: BatchReader, counts: OutcomeCounts) -> Report
 }
 
 /// Runs a session with a reader that was made for it.
-fn run_reader<R: Wait, S: Source, G: Gate>(
+fn run_reader<R: Threads + Wait + Sync, S: Source, G: Gate>(
     rt: &R,
     alloc: Global,
     desk: &Desk<Served>,
     gate: &G,
     mut reader: BatchReader,
     session: &mut Session<S>,
+    workers: u32,
 )
+    requires some { 1 ≤ workers }
+    requires most { workers ≤ 64 }
     requires ready { IsReady desk.now.board.shared.table_id session.old }
     requires reader { reader ≡ begun session.old.library session.old.limit }
     ensures { Runs S.name S.left S.faults desk.now.board.shared.table_id session.old session.new }
 {
     let mut counts = OutcomeCounts::new();
-    let turned = turn_batches(rt, alloc, desk, gate, &mut reader, &mut counts, session);
+    let turned = turn_batches(
+        rt,
+        alloc,
+        desk,
+        gate,
+        &mut reader,
+        &mut counts,
+        session,
+        workers,
+    );
     session.report = report_of(reader, counts);
     session.end = end_of(turned);
 }
 
-/// Runs a session: reads its source, and makes a turn for each of its batches.
-pub(crate) fn run_session<R: Wait, S: Source, G: Gate>(
+/// Runs a session: reads its source, and makes a turn for each of its batches, which so many workers prepare.
+pub(crate) fn run_session<R: Threads + Wait + Sync, S: Source, G: Gate>(
     rt: &R,
     alloc: Global,
     desk: &Desk<Served>,
     gate: &G,
     session: &mut Session<S>,
+    workers: u32,
 )
-    requires { IsReady desk.now.board.shared.table_id session.old }
+    requires some { 1 ≤ workers }
+    requires most { workers ≤ 64 }
+    requires ready { IsReady desk.now.board.shared.table_id session.old }
     ensures { Runs S.name S.left S.faults desk.now.board.shared.table_id session.old session.new }
 {
     match BatchReader::open(alloc, &session.library, session.limit) {
-        Ok(reader) => run_reader(rt, alloc, desk, gate, reader, session),
+        Ok(reader) => run_reader(rt, alloc, desk, gate, reader, session, workers),
         Err(Memory) => session.end = End::Memory,
     }
 }
 
-/// Runs the sessions in their order.
-fn run_in_order<R: Wait, S: Source, G: Gate>(
+/// Runs the sessions in their order, on one worker.
+fn run_in_order<R: Threads + Wait + Sync, S: Source, G: Gate>(
     rt: &R,
     alloc: Global,
     desk: &Desk<Served>,
@@ -100,8 +115,19 @@ fn run_in_order<R: Wait, S: Source, G: Gate>(
     ensures { RunsEach S.name S.left S.faults desk.now.board.shared.table_id sessions.old sessions.new }
 {
     for session in sessions.iter_mut() {
-        run_session(rt, alloc, desk, gate, session);
+        run_session(rt, alloc, desk, gate, session, 1);
     }
+}
+
+/// How many workers prepare the batches of each of so many sessions: all of them where there is one session. Else there is one
+/// for each, since the sessions themselves are in threads of their own, and while one waits for its turn the others prepare.
+fn preparers(workers: u32, sessions: usize) -> u32
+    requires some { 1 ≤ workers }
+    requires most { workers ≤ 64 }
+    ensures some { 1 ≤ result }
+    ensures most { result ≤ 64 }
+{
+    if sessions == 1 { workers } else { 1 }
 }
 
 /// Runs the sessions on so many threads.
@@ -111,17 +137,19 @@ fn run_at_once<R: Threads + Wait + Sync, S: Source + Send, G: Gate>(
     desk: &Desk<Served>,
     gate: &G,
     sessions: &mut [Session<S>],
-    workers: usize,
+    workers: u32,
 )
-    requires workers { 0 < workers }
+    requires some { 1 ≤ workers }
+    requires most { workers ≤ 64 }
     requires ready { All (IsReady desk.now.board.shared.table_id) sessions.old }
     ensures { RunsEach S.name S.left S.faults desk.now.board.shared.table_id sessions.old sessions.new }
 {
+    let preparers = preparers(workers, sessions.len());
     let each = |_place: usize, session: &mut Session<S>|
-        requires { IsReady desk.now.board.shared.table_id session.now }
+        requires { (1 ≤ preparers) × (preparers ≤ 64) × IsReady desk.now.board.shared.table_id session.now }
         ensures { Runs S.name S.left S.faults desk.entry.now.board.shared.table_id session.entry.now session.exit.now }
-    { run_session(rt, alloc, desk, gate, session) };
-    thread::for_each_mut(rt, sessions, workers, &each);
+    { run_session(rt, alloc, desk, gate, session, preparers) };
+    thread::for_each_mut(rt, sessions, workers as usize, &each);
 }
 
 /// Runs the sessions, with no asker.
@@ -133,14 +161,15 @@ fn run_alone<R: Threads + Wait + Sync, S: Source + Send, G: Gate>(
     sessions: &mut [Session<S>],
     workers: u32,
 )
-    requires workers { 1 ≤ workers }
+    requires some { 1 ≤ workers }
+    requires most { workers ≤ 64 }
     requires ready { All (IsReady desk.now.board.shared.table_id) sessions.old }
     ensures { RunsEach S.name S.left S.faults desk.now.board.shared.table_id sessions.old sessions.new }
 {
     if workers == 1 {
         run_in_order(rt, alloc, desk, gate, sessions)
     } else {
-        run_at_once(rt, alloc, desk, gate, sessions, workers as usize)
+        run_at_once(rt, alloc, desk, gate, sessions, workers)
     }
 }
 
@@ -152,9 +181,10 @@ fn run_beside<R: Threads + Wait + Sync, S: Source + Send, G: Gate>(
     gate: &G,
     sessions: &mut [Session<S>],
     asker: &mut Asker,
-    workers: usize,
+    workers: u32,
 )
-    requires workers { 0 < workers }
+    requires some { 1 ≤ workers }
+    requires most { workers ≤ 64 }
     requires ready { All (IsReady desk.now.board.shared.table_id) sessions.old }
     requires asker { IsAsker desk.now.board.shared.table_id asker.old }
     ensures sessions { RunsEach S.name S.left S.faults desk.now.board.shared.table_id sessions.old sessions.new }
@@ -163,7 +193,7 @@ fn run_beside<R: Threads + Wait + Sync, S: Source + Send, G: Gate>(
     join_mut(
         rt,
         &mut || -> ()
-            requires { (0 < workers) × All (IsReady desk.now.board.shared.table_id) sessions.now }
+            requires { (1 ≤ workers) × (workers ≤ 64) × All (IsReady desk.now.board.shared.table_id) sessions.now }
             ensures { RunsEach S.name S.left S.faults desk.entry.now.board.shared.table_id sessions.entry.now sessions.exit.now }
         { run_at_once(rt, alloc, desk, gate, sessions, workers) },
         &mut || ask_all(rt, alloc, desk, asker),
@@ -180,7 +210,8 @@ fn run_with_asker<R: Threads + Wait + Sync, S: Source + Send, G: Gate>(
     asker: &mut Asker,
     workers: u32,
 )
-    requires workers { 1 ≤ workers }
+    requires some { 1 ≤ workers }
+    requires most { workers ≤ 64 }
     requires ready { All (IsReady desk.now.board.shared.table_id) sessions.old }
     requires asker { IsAsker desk.now.board.shared.table_id asker.old }
     ensures sessions { RunsEach S.name S.left S.faults desk.now.board.shared.table_id sessions.old sessions.new }
@@ -190,7 +221,7 @@ fn run_with_asker<R: Threads + Wait + Sync, S: Source + Send, G: Gate>(
         run_in_order(rt, alloc, desk, gate, sessions);
         ask_all(rt, alloc, desk, asker)
     } else {
-        run_beside(rt, alloc, desk, gate, sessions, asker, workers as usize)
+        run_beside(rt, alloc, desk, gate, sessions, asker, workers)
     }
 }
 

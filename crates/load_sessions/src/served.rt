@@ -5,9 +5,9 @@ ghost use Rattle.std.proofs.lemmas.List.{length-map};
 ghost use Rattle.catalogue_core.specs.Histories.{current, outcomes};
 ghost use Rattle.load_sessions.specs.Entries.{entries_of, gives, tells};
 
-use catalogue_core::batch::Batch;
 use catalogue_core::catalogue::Catalogue;
 use catalogue_core::outcome::Outcome;
+use catalogue_core::prepared::Prepared;
 use catalogue_lock::machine::Machine;
 use catalogue_query::answer::Answer;
 use catalogue_query::answering::answer;
@@ -18,7 +18,8 @@ use std::marker::Brand;
 use std::sync::ledger::{Blank, Ledger};
 use union_base::memory::Memory;
 
-/// A catalogue at a desk. Its entries are the catalogue's history, and it has no setting.
+/// A catalogue at a desk. Its entries are the catalogue's history, and it has no setting. A change is a prepared batch, which
+/// contracts see as the batch.
 #[derive(Drop)]
 pub struct Served {
     pub catalogue: Catalogue,
@@ -36,25 +37,25 @@ impl Served {
     }
 }
 
-/// Applies a batch, with the match tests counted in a ledger of their own.
+/// Applies a prepared batch, with the match tests counted in a ledger of their own.
 fn apply_by<L: Ledger>(
     alloc: Global,
     catalogue: &mut Catalogue,
     number: u32,
-    batch: Batch,
+    prepared: Prepared,
     blank: Blank,
 ) -> Result<Vec<Outcome>, Memory>
     requires name { blank.name ≡ L.name }
     requires parts { blank.parts ≡ L.parts }
     requires some { 0 < L.parts }
     requires few { length catalogue.old < 2 ^ 63 }
-    ensures appended { OnOk result (catalogue.new ≡ catalogue.old ++ record { pass = number; batch = batch } ∷ []) }
-    ensures outcomes { IfOk result (λ found. found.items ≡ outcomes batch.library (current catalogue.old) batch.ops) }
+    ensures appended { OnOk result (catalogue.new ≡ catalogue.old ++ record { pass = number; batch = prepared } ∷ []) }
+    ensures outcomes { IfOk result (λ found. found.items ≡ outcomes prepared.library (current catalogue.old) prepared.ops) }
     ensures kept { OnErr result (catalogue.new ≡ catalogue.old) }
     ensures few { length catalogue.new < 2 ^ 63 }
 {
     let mut steps: Steps<L> = Steps::open(blank);
-    let found = catalogue.apply(alloc, number, batch, &mut steps)?;
+    let found = catalogue.apply_prepared(alloc, number, prepared, &mut steps)?;
     let _turns = catalogue.turns();
     Ok(found)
 }
@@ -62,7 +63,7 @@ fn apply_by<L: Ledger>(
 impl Machine for Served {
     type Setting = ();
 
-    type Change = Batch;
+    type Change = Prepared;
 
     type Question = Query;
 
@@ -82,8 +83,13 @@ impl Machine for Served {
 
     ghost bounded = { λ m. subst (λ n. n < 2 ^ 63) (sym (length-map m.catalogue _)) m.few };
 
-    fn apply(&mut self, alloc: Global, number: u32, batch: Batch) -> Result<Vec<Outcome>, Memory> {
-        apply_by::<Brand>(alloc, &mut self.catalogue, number, batch, Blank::new(1))
+    fn apply(
+        &mut self,
+        alloc: Global,
+        number: u32,
+        prepared: Prepared,
+    ) -> Result<Vec<Outcome>, Memory> {
+        apply_by::<Brand>(alloc, &mut self.catalogue, number, prepared, Blank::new(1))
     }
 
     fn ask(&self, alloc: Global, query: &Query) -> Result<Answer, Memory> {

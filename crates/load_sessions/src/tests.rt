@@ -1,4 +1,4 @@
-//! Two libraries at one desk, on one worker and on two, beside an asker.
+//! Two libraries at one desk, on one worker and on two, beside an asker; and the limit of a source.
 ghost use Rattle.std.specs.Prelude.{◌≤◌, ◌+◌, IfOk};
 ghost use Rattle.catalogue_lock.specs.Tokens.{IsRootOf, root_of};
 ghost use Rattle.load_sessions.specs.Sessions.{IsReady};
@@ -25,22 +25,30 @@ use union_io::sure_source::SureSource;
 const STREAM: &[u8] =
     b"00114nam a2200061 a 4500001000300000008004100003245000800044\x1Eid\x1E240101s1999    xx                  eng d\x1E00\x1FaCat\x1E\x1D\x1D00041dam a2200037 a 4500001000300000\x1Eb1\x1E\x1D";
 
-/// A session of the library on that stream, in pieces of 50 bytes.
+/// The record with the control number `id`, of 114 bytes.
+const ONE: &[u8; 114] =
+    b"00114nam a2200061 a 4500001000300000008004100003245000800044\x1Eid\x1E240101s1999    xx                  eng d\x1E00\x1FaCat\x1E\x1D";
+
+/// A session of the library on these bytes, in pieces of 50 of them.
 fn session_at(
     alloc: Global,
     desk: &Desk<Served>,
     root: &mut Root<Served>,
     library: LibraryCode,
+    content: &[u8],
+    limit: u64,
 ) -> Result<Session<SureSource>, Memory>
     requires desk { IsRootOf root.old desk.now }
     requires few { (root_of root.old).made ≤ 10 }
+    requires least { 1 ≤ limit }
+    requires most { limit ≤ 1000 }
     ensures desk { IsRootOf root.new desk.now }
     ensures made { (root_of root.new).made ≤ (root_of root.old).made + 1 }
     ensures ready { IfOk result (λ session. IsReady desk.now.board.shared.table_id session) }
 {
     let pass = desk.make_pass(root);
-    let source = SureSource::of(Bytes::of(alloc, STREAM)?, 50);
-    Ok(Session::new(alloc, library, source, 1_000, pass))
+    let source = SureSource::of(Bytes::of(alloc, content)?, 50);
+    Ok(Session::new(alloc, library, source, limit, pass))
 }
 
 /// Whether the session ended with Done and has the report of the stream.
@@ -64,8 +72,8 @@ fn are_loaded<R: Threads + Wait + Sync>(
     requires most { workers ≤ 64 }
 {
     let (desk, mut root) = Desk::open(alloc, Served::empty(alloc)?)?;
-    let first = session_at(alloc, &desk, &mut root, libraries.0)?;
-    let second = session_at(alloc, &desk, &mut root, libraries.1)?;
+    let first = session_at(alloc, &desk, &mut root, libraries.0, STREAM, 1_000)?;
+    let second = session_at(alloc, &desk, &mut root, libraries.1, STREAM, 1_000)?;
     let pass = desk.make_pass(&mut root);
     let mut questions = Vec::new(alloc);
     questions.push(Query::Count)?;
@@ -95,5 +103,37 @@ fn two_libraries_are_loaded(rt: HostRuntime) -> Result<(), Fail> {
     assert!(rt; loaded, "one worker");
     let loaded = are_loaded(&rt, alloc, (one, other), 2)?;
     assert!(rt; loaded, "two workers");
+    Ok(())
+}
+
+/// The session of a library on so many copies of the record, of which 228 bytes are read, run alone by four workers.
+fn limited<R: Threads + Wait + Sync>(
+    rt: &R,
+    alloc: Global,
+    library: LibraryCode,
+    copies: u32,
+) -> Result<Session<SureSource>, Memory> {
+    let mut content = Vec::new(alloc);
+    for _ in 0..copies {
+        content.extend_from_slice(ONE)?;
+    }
+    let (desk, mut root) = Desk::open(alloc, Served::empty(alloc)?)?;
+    let session = session_at(alloc, &desk, &mut root, library, content.as_slice(), 228)?;
+    let mut sessions = [session];
+    run_sessions(rt, alloc, &desk, &mut sessions, None, 4, &OpenGate);
+    let [session] = sessions;
+    Ok(session)
+}
+
+#[test]
+fn source_is_read_to_the_limit(rt: HostRuntime) -> Result<(), Fail> {
+    let alloc = rt.alloc();
+    let library = LibraryCode::read(b"LIBA").ok_or("a library code")?;
+    let twice = limited(&rt, alloc, library, 2)?;
+    let report = &twice.report;
+    assert!(rt; twice.end == End::Done && report.frames == 2);
+    assert!(rt; report.added == 1 && report.replaced == 1);
+    let thrice = limited(&rt, alloc, library, 3)?;
+    assert!(rt; thrice.end == End::TooLong);
     Ok(())
 }

@@ -7,6 +7,7 @@ ghost use Rattle.library_batches.specs.Reading.{begun};
 ghost use Rattle.load_sessions.specs.Tallies.{found};
 ghost use Rattle.load_sessions.specs.Turning.{Turns};
 
+use crate::preparing::prepare;
 use crate::served::Served;
 use crate::session::Session;
 use catalogue_core::batch::Batch;
@@ -19,12 +20,14 @@ use library_batches::outcome_counts::OutcomeCounts;
 use library_batches::stop::Stop;
 use std::alloc::Global;
 use std::sync::Wait;
+use std::thread::Threads;
 use union_base::memory::Memory;
 use union_io::gate::Gate;
 use union_io::source::Source;
 
-/// One turn of the pass, with a batch, between two calls of the gate. Answers what came of the batch's operations.
-fn turn_batch<R: Wait, G: Gate>(
+/// One turn of the pass, with a batch that so many workers prepare before the turn is asked for, between two calls of the gate.
+/// Answers what came of the batch's operations.
+fn turn_batch<R: Threads + Wait + Sync, G: Gate>(
     rt: &R,
     alloc: Global,
     desk: &Desk<Served>,
@@ -32,8 +35,11 @@ fn turn_batch<R: Wait, G: Gate>(
     pass: &mut Pass<Served>,
     turn: u64,
     batch: Batch,
+    workers: u32,
 ) -> Result<Vec<Outcome>, Memory>
-    requires { IsPassOf pass.old desk.now }
+    requires desk { IsPassOf pass.old desk.now }
+    requires some { 1 ≤ workers }
+    requires most { workers ≤ 64 }
     ensures desk { IsPassOf pass.new desk.now }
     ensures same { IsSamePass pass.old pass.new }
     ensures own { OnOk result ((view pass.new).own ≡ (view pass.old).own ++ batch ∷ []) }
@@ -42,15 +48,17 @@ fn turn_batch<R: Wait, G: Gate>(
     ensures few { IfOk result (λ outcomes. length outcomes.items ≤ LARGEST_BATCH) }
     ensures memory { OnErr result ((view pass.new).own ≡ (view pass.old).own) }
 {
+    let prepared = prepare(rt, alloc, batch, workers)?;
     gate.before_turn(pass.number(), turn);
-    let turned = desk.turn(alloc, rt, pass, batch);
+    let turned = desk.turn(alloc, rt, pass, prepared);
     gate.after_turn(pass.number(), turn);
     let Turned { turn: _, outcome } = turned?;
     Ok(outcome)
 }
 
-/// A turn for each batch of the session's source, as the reader hands them out, and the counts of what came of them.
-pub(crate) fn turn_batches<R: Wait, S: Source, G: Gate>(
+/// A turn for each batch of the session's source, as the reader hands them out and so many workers prepare them, and the counts
+/// of what came of them.
+pub(crate) fn turn_batches<R: Threads + Wait + Sync, S: Source, G: Gate>(
     rt: &R,
     alloc: Global,
     desk: &Desk<Served>,
@@ -58,7 +66,10 @@ pub(crate) fn turn_batches<R: Wait, S: Source, G: Gate>(
     reader: &mut BatchReader,
     counts: &mut OutcomeCounts,
     session: &mut Session<S>,
+    workers: u32,
 ) -> Result<(), Stop>
+    requires some { 1 ≤ workers }
+    requires most { workers ≤ 64 }
     requires desk { IsPassOf session.old.pass desk.now }
     requires own { (view session.old.pass).own ≡ [] }
     requires limit { session.old.limit ≤ LARGEST_SOURCE }
@@ -70,7 +81,16 @@ pub(crate) fn turn_batches<R: Wait, S: Source, G: Gate>(
     loop {
         match reader.next(alloc, &mut session.source)? {
             Some(batch) => {
-                let outcomes = turn_batch(rt, alloc, desk, gate, &mut session.pass, turn, batch)?;
+                let outcomes = turn_batch(
+                    rt,
+                    alloc,
+                    desk,
+                    gate,
+                    &mut session.pass,
+                    turn,
+                    batch,
+                    workers,
+                )?;
                 counts.count(outcomes.as_slice());
                 turn += 1;
             }

@@ -1,7 +1,9 @@
 mod Keys
+mod Listing
 mod Looking
-mod Places
+pub mod Places
 mod Numbering
 mod Opening
 mod Unmerged
+pub mod Splitting
 mod Views

@@ -52,7 +52,7 @@ module _ {X : Type 0} where
   ]
 
 -- two numbers are one, or are not
-one_or_not : (m n : ℕ) → (m ≡ n) ⊎ (m ≢ n)
+pub one_or_not : (m n : ℕ) → (m ≡ n) ⊎ (m ≢ n)
 one_or_not m n = elim (dec_lt m n) as (λ _. (m ≡ n) ⊎ (m ≢ n)) [
   | yes h ↦ inr (λ e. omega arith)
   | no h ↦ elim (dec_lt n m) as (λ _. (m ≡ n) ⊎ (m ≢ n)) [ yes h' ↦ inr (λ e. omega arith) | no h' ↦ inl (omega arith) ]

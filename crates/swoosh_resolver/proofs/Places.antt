@@ -1,13 +1,13 @@
 -- Blocks under numbers: what stands where, once some are taken out.
 use Rattle.std.proofs.Common.{◌≡◌, ◌≢◌, ℕ, zero, suc, ◌+◌, ◌-◌, ◌<◌, ◌≤◌, Bool, true, false, cond, eqb, List, [], ◌∷◌, ◌++◌, Option, None, Some, length, length-take, get_or, take, drop, refl, sym, ◌∙◌, ap, subst, inl, inr, arith}
-use Rattle.std.specs.Prelude.{Contains, AllPairs, slice_set, count_by}
+use Rattle.std.specs.Prelude.{Contains, AllPairs, IsSome, slice_set, count_by}
 use Rattle.std.specs.Prelude.{IfNone, option_map}
 use Rattle.std.specs.Cmp.{nat_eq_equiv}
 use Rattle.std.specs.List.{list_any}
 use Rattle.std.proofs.lemmas.Bool.Decides.{nat_tests}
 use Rattle.std.specs.List.Sorted.{IsPermutation}
 use Rattle.std.proofs.lemmas.List.{get_or-set_other, get_or-take, length-set}
-use Rattle.std.proofs.lemmas.List.Sorted.{IsPermutation-refl, IsPermutation-cons, IsPermutation-trans, IsPermutation-middle}
+use Rattle.std.proofs.lemmas.List.Sorted.{IsPermutation-refl, IsPermutation-cons, IsPermutation-trans, IsPermutation-middle, length_permutation}
 use Rattle.std.proofs.lemmas.List.Sums.{fold_push, sum_by-cons, sum_by_more, sum_by-take-le}
 use Rattle.merge_laws.proofs.Places.{Contains-head, Contains-tail, Contains-cases, AllPairs-rest, AllPairs-first}
 use Rattle.feature_index.specs.Postings.{Ascends}
@@ -149,21 +149,6 @@ pub IfNone-always : {X : Type 0} (o : Option X) (P : Type 0) → P → IfNone o 
 IfNone-always None P p = p
 IfNone-always (Some x) P p = tt
 
-module _ {R K : Type 0} (blocks : List (Option (Entry R K))) (closed : List ℕ) (n : ℕ) (open' : list_any (λ y. eqb y n) closed ≡ false) where
-  -- a block under a number that is not closed
-  pub record IsOpenBlock (v : R) : Type 0 where
-    pub by : Entry R K
-    pub stands : block_at (without blocks closed) n ≡ Some by
-    pub is : v ≡ by.value
-
-  pub open_block : (v : R) → Some v ≡ option_map (λ e. e.value) (block_at blocks n) → IsOpenBlock v
-  open_block v h =
-      let (e, stands, is) = block-from_value (block_at blocks n) v h in
-      record { by = e; stands = block-kept closed blocks n (open-from_missed closed n open') ∙ stands; is = is }
-
-  pub no_block : None ≡ option_map (λ e. e.value) (block_at blocks n) → block_at (without blocks closed) n ≡ None
-  no_block h = block-kept closed blocks n (open-from_missed closed n open') ∙ none-from_value (block_at blocks n) h
-
 module _ {X : Type 0} where
   from_open-one : (blocks : List (Option X)) (m n : ℕ) (x : X) → block_at (slice_set blocks m None) n ≡ Some x → block_at blocks n ≡ Some x
   from_open-one [] m n x e = e
@@ -188,3 +173,22 @@ not-before xs once i x il e (j, jl, f) =
 pub length-without : {X : Type 0} (closed : List ℕ) (blocks : List (Option X)) → length (without blocks closed) ≡ length blocks
 length-without [] blocks = refl
 length-without (n ∷ ns) blocks = length-without ns (slice_set blocks n None) ∙ length-set blocks n None
+
+-- as many blocks fewer as numbers are closed
+pub count-closed : {X : Type 0} (closed : List ℕ) (blocks : List (Option X)) → AllPairs (λ m n. m ≢ n) closed → ((n : ℕ) → Contains closed n → IsSome (block_at blocks n)) → length (blocks_in (without blocks closed)) + length closed ≡ length (blocks_in blocks)
+count-closed [] blocks distinct named = omega arith
+count-closed {X} (n ∷ ns) blocks distinct named =
+    let fewer : List (Option X) = slice_set blocks n None in
+    let rest = count-closed ns fewer (AllPairs-rest (λ m n. m ≢ n) n ns distinct)
+    (λ m c. rw (get_or-set_other blocks n m None None (λ e. AllPairs-first (λ m n. m ≢ n) n ns distinct m c (sym e))) (named m (Contains-tail n ns m c))) in
+    let one : length (blocks_in fewer) + 1 ≡ length (blocks_in blocks) = go (block_at blocks n) refl (named n (Contains-head n ns)) in
+    omega arith
+  where
+    go : (o : Option X) → block_at blocks n ≡ o → IsSome (block_at blocks n) → length (blocks_in (slice_set blocks n None)) + 1 ≡ length (blocks_in blocks)
+    go None e some = absurd (let no = rw e at some in cc)
+    go (Some x) e some = let same = length_permutation (blocks_in blocks) (x ∷ blocks_in (slice_set blocks n None)) (taken-from_set blocks n x e) in omega arith
+
+pub count-within : {X : Type 0} (blocks : List (Option X)) → length (blocks_in blocks) ≤ length blocks
+count-within [] = omega arith
+count-within (None ∷ bs) = let rest = count-within bs in omega arith
+count-within (Some x ∷ bs) = let rest = count-within bs in omega arith

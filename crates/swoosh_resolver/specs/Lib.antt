@@ -1,3 +1,4 @@
 pub mod Tables
 pub mod Changes
 pub mod Insertions
+pub mod Splits

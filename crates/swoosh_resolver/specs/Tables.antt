@@ -9,6 +9,10 @@ pub record Entry (R K : Type 0) : Type 0 where
   pub value : R
   pub keys : List K
 
+-- entries in a row
+pub record Listed (R K : Type 0) : Type 0 where
+  pub items : List (Entry R K)
+
 -- the keys are those of the value, each once
 pub record AreKeys {R K : Type 0} (has_key : R → K → Type 0) (value : R) (keys : List K) : Type 0 where
   pub members : (k : K) → Contains keys k ↔ has_key value k
@@ -40,7 +44,12 @@ values_of entries = map (λ e. e.value) entries
 pub record ArePosted {R K : Type 0} (eq : K → K → Bool) (has_key : R → K → Type 0) (blocks : List (Option (Entry R K))) (postings : List (K × Posting)) : Type 0 where
   pub stands : (k : K) (n : ℕ) → Contains (numbers_of eq postings k) n ↔ ((e : Entry R K) × (block_at blocks n ≡ Some e) × has_key e.value k)
 
--- no two blocks match, and the postings are those of the blocks
-pub record AreBlocks {R K : Type 0} (match : R → R → Bool) (eq : K → K → Bool) (has_key : R → K → Type 0) (blocks : List (Option (Entry R K))) (postings : List (K × Posting)) : Type 0 where
+-- under each key stand the places of the entries that have it, and no others
+abbrev pub AreListed : {R K : Type 0} → (K → K → Bool) → (R → K → Type 0) → List (Entry R K) → List (K × Posting) → Type 0
+AreListed eq has_key items postings = ArePosted eq has_key (map Some items) postings
+
+-- no two blocks match, the postings are those of the blocks, and the count is how many blocks there are
+pub record AreBlocks {R K : Type 0} (match : R → R → Bool) (eq : K → K → Bool) (has_key : R → K → Type 0) (blocks : List (Option (Entry R K))) (postings : List (K × Posting)) (count : ℕ) : Type 0 where
   pub apart : AreApart match (values_of (blocks_in blocks))
   pub posted : ArePosted eq has_key blocks postings
+  pub counted : count ≡ length (blocks_in blocks)

@@ -1,10 +1,12 @@
 //! Blocks under numbers.
-ghost use Rattle.std.specs.Prelude.{◌≡◌, [], IfSome, option_copied, option_map};
-ghost use Rattle.swoosh_resolver.specs.Tables.{block_at};
-ghost use Rattle.swoosh_resolver.specs.Changes.{Fits};
+ghost use Rattle.std.specs.Prelude.{◌≡◌, ◌↔◌, ℕ, [], Some, Contains, length, option_copied, option_map};
+ghost use Rattle.feature_index.specs.Postings.{Ascends};
+ghost use Rattle.swoosh_resolver.specs.Tables.{Entry, block_at, blocks_in};
+ghost use Rattle.swoosh_resolver.specs.Changes.{Fits, without};
 
 use crate::change::Change;
 use crate::keyed::Keyed;
+use crate::opened::Opened;
 use feature_index::postings::Postings;
 use merge_laws::resolvable::Resolvable;
 use std::alloc::Global;
@@ -16,6 +18,7 @@ use std::marker::Model;
 pub struct Blocks<R: Resolvable> {
     pub(crate) blocks: Vec<Option<Keyed<R>>>,
     pub(crate) postings: Postings<R::Key>,
+    pub(crate) count: usize,
 }
 
 impl<R: Resolvable> Model for Blocks<R> {
@@ -26,7 +29,7 @@ impl<R: Resolvable> Model for Blocks<R> {
 
     ghost view = { λ b. record { blocks = b.blocks.items; room = vec_capacity b.blocks - length b.blocks.items; postings = b.postings } };
 
-    ghost invariant = { λ b. AreBlocks R.meets R.Key.eq R.has_key b.blocks.items b.postings };
+    ghost invariant = { λ b. AreBlocks R.meets R.Key.eq R.has_key b.blocks.items b.postings b.count };
 }
 
 impl<R: Resolvable> Blocks<R> {
@@ -37,6 +40,7 @@ impl<R: Resolvable> Blocks<R> {
         Blocks {
             blocks: Vec::new(alloc),
             postings: Postings::empty(alloc),
+            count: 0,
         }
     }
 
@@ -49,8 +53,24 @@ impl<R: Resolvable> Blocks<R> {
         let alloc = *self.blocks.allocator();
         Change {
             closed: Vec::new(alloc),
-            opened: Vec::new(alloc),
+            opened: Opened::empty(alloc),
         }
+    }
+
+    /// How many blocks there are. Takes no memory.
+    pub fn count(&self) -> usize
+        ensures { result ≡ length (blocks_in self.now.blocks) }
+    {
+        self.count
+    }
+
+    /// The numbers of the blocks that have the key, in ascending order. Takes no memory.
+    pub fn with_key(&self, key: &R::Key) -> &[u64]
+        ensures ascending { Ascends result.now }
+        ensures members { (n : ℕ) → Contains result.now n
+            ↔ ((e : Entry R R.Key) × (block_at self.now.blocks n ≡ Some e) × R.has_key e.value key.now) }
+    {
+        self.postings.of(key)
     }
 
     /// The block under the number. None exactly where no block has it. Takes no memory.
@@ -60,6 +80,17 @@ impl<R: Resolvable> Blocks<R> {
         match self.blocks.get(number as usize) {
             Some(Some(keyed)) => Some(&keyed.value),
             _ => None,
+        }
+    }
+
+    /// The block under the number, where this is none of the closed numbers. Takes no memory.
+    pub(crate) fn open_block(&self, closed: &[u64], number: u64) -> Option<&R>
+        ensures { option_copied result ≡ option_map (λ e. e.value) (block_at (without self.now.blocks closed.now) number) }
+    {
+        if closed.contains(&number) {
+            None
+        } else {
+            self.block(number)
         }
     }
 }

@@ -1,12 +1,12 @@
 //! Changes of blocks, on their way.
-use crate::keyed::Keyed;
+use crate::opened::Opened;
 use merge_laws::resolvable::Resolvable;
 
 /// A change of blocks that is planned and not installed: the numbers of the blocks that it closes, and the values that it opens.
 #[derive(Drop)]
 pub struct Change<R: Resolvable> {
     pub closed: Vec<u64>,
-    pub opened: Vec<Keyed<R>>,
+    pub opened: Opened<R>,
 }
 
 /// Where a member of a view stands.

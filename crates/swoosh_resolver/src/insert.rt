@@ -11,49 +11,14 @@ ghost use Rattle.swoosh_resolver.specs.Insertions.{passes, IsMatchAt, Merges, In
 use crate::blocks::Blocks;
 use crate::change::Change;
 use crate::keyed::Keyed;
+use crate::posting::candidates;
 use merge_laws::resolvable::Resolvable;
 use merge_laws::steps::Steps;
 use std::alloc::Global;
 use std::sync::ledger::Ledger;
 use union_base::memory::Memory;
 
-/// The place of the first of the values that shares a key with the given one and matches it. Takes no memory.
-fn first_fresh<R: Resolvable, L: Ledger>(
-    opened: &[Keyed<R>],
-    value: &Keyed<R>,
-    steps: &mut Steps<L>,
-) -> Option<usize>
-    ensures within { IfSome result (λ i. i < length opened.now) }
-    ensures found { IfSome result (λ i. (d : Entry R R.Key) → IsTrue (R.meets value.now.value
-        (slice_index_or opened.now i d).value)) }
-    ensures none { IfNone result (All (λ e. R.meets value.now.value e.value ≡ false) opened.now) }
-    ensures cost { steps.new ≤ steps.old + count_by (λ e. R.shares e.value value.now.value) opened.now }
-{
-    for (place, other) in opened.iter().enumerate() {
-        if value.matches(other, steps) {
-            return Some(place);
-        }
-    }
-    None
-}
-
 impl<R: Resolvable> Blocks<R> {
-    /// The numbers of the blocks that have one of the keys, in ascending order. Memory where it runs out.
-    fn candidates(&self, alloc: Global, keys: &[R::Key]) -> Result<Vec<u64>, Memory>
-        ensures ascending { IfOk result (λ numbers. Ascends numbers.items) }
-        ensures members { IfOk result (λ numbers. (n : ℕ) → Contains numbers.items n
-            ↔ ((k : R.Key) × Contains keys.now k × ((e : Entry R R.Key) × (block_at self.now.blocks n ≡ Some e)
-            × R.has_key e.value k))) }
-    {
-        let mut numbers = Vec::new(alloc);
-        for key in keys.iter() {
-            numbers.extend_from_slice(self.postings.of(key))?;
-        }
-        numbers.sort()?;
-        numbers.dedup();
-        Ok(numbers)
-    }
-
     /// The block under the number, where it is not closed and the value matches it. Takes no memory.
     fn kept_match<L: Ledger>(
         &self,
@@ -67,10 +32,7 @@ impl<R: Resolvable> Blocks<R> {
             (without self.now.blocks closed.now) number) ≡ false) }
         ensures cost { steps.new ≤ steps.old + (if is_some (block_at (without self.now.blocks closed.now) number) then 1 else 0) }
     {
-        if closed.contains(&number) {
-            return None;
-        }
-        let block = self.block(number)?;
+        let block = self.open_block(closed, number)?;
         if value.value.matches(block, steps) {
             Some(block)
         } else {
@@ -93,7 +55,7 @@ impl<R: Resolvable> Blocks<R> {
         ensures cost { steps.new ≤ steps.old + count_by (λ e. R.shares e.value value.now.value) (blocks_in
             (without self.now.blocks closed.now)) }
     {
-        let numbers = self.candidates(alloc, value.keys.as_slice())?;
+        let numbers = candidates::<R>(alloc, &self.postings, value.keys.as_slice())?;
         for number in numbers.iter() {
             if let Some(block) = self.kept_match(closed, *number, value, steps) {
                 return Ok(Some((*number, block)));
@@ -132,9 +94,9 @@ impl<R: Resolvable> Blocks<R> {
             change.closed.push(number)?;
             return Ok(Some(merged));
         }
-        match first_fresh(change.opened.as_slice(), value, steps) {
+        match change.opened.first_match(alloc, value, steps)? {
             Some(place) => {
-                let other = change.opened.swap_remove(place);
+                let other = change.opened.swap_remove(alloc, place)?;
                 Ok(Some(other.value.joined(alloc, &value.value)?))
             }
             None => Ok(None),
@@ -168,7 +130,7 @@ impl<R: Resolvable> Blocks<R> {
         while let Some(merged) = self.merge_next(alloc, &mut change, &value, steps)? {
             value = Keyed::of(alloc, merged)?;
         }
-        change.opened.push(value)?;
+        change.opened.push(alloc, value)?;
         Ok(change)
     }
 }

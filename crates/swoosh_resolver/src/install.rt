@@ -10,7 +10,7 @@ ghost use Rattle.swoosh_resolver.specs.Changes.{AreNumbers, AreOpened, Fits, Has
 use crate::blocks::Blocks;
 use crate::change::Change;
 use crate::keyed::Keyed;
-use crate::posting::{post, unpost};
+use crate::posting::{post, push_copies, unpost};
 use feature_index::postings::Postings;
 use merge_laws::resolvable::Resolvable;
 use std::alloc::Global;
@@ -127,20 +127,6 @@ fn copies_of_keys<R: Resolvable>(alloc: Global, opened: &[Keyed<R>]) -> Result<V
     Ok(keys)
 }
 
-/// Puts copies of the value's keys at the end. Memory where it runs out.
-fn push_copies<R: Resolvable>(
-    alloc: Global,
-    keyed: &Keyed<R>,
-    keys: &mut Vec<R::Key>,
-) -> Result<(), Memory>
-    ensures { OnOk result (keys.new.items ≡ keys.old.items ++ keyed.now.keys) }
-{
-    for key in keyed.keys.iter() {
-        keys.push(R::copy_key(alloc, key)?)?;
-    }
-    Ok(())
-}
-
 /// The numbers of so many opened values, in their order. Memory where it runs out.
 fn numbers_of_opened(
     alloc: Global,
@@ -197,12 +183,13 @@ impl<R: Resolvable> Blocks<R> {
             (blocks_in self.new.blocks)) }
     {
         let Change { closed, opened } = change;
+        self.count = self.count - closed.len() + opened.len();
         close_all(&mut self.blocks, &mut self.postings, closed.as_slice());
         open_all(
             &mut self.blocks,
             &mut self.postings,
             closed.as_slice(),
-            opened,
+            opened.into_values(),
         );
     }
 }

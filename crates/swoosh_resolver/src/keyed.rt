@@ -34,25 +34,4 @@ impl<R: Resolvable> Keyed<R> {
         let keys = value.index_keys(alloc)?;
         Ok(Keyed { value, keys })
     }
-
-    /// Whether the values have a key in common. Takes no memory.
-    pub(crate) fn shares_key(&self, other: &Keyed<R>) -> bool
-        ensures { result ≡ R.shares self.now.value other.now.value }
-    {
-        for key in self.keys.iter() {
-            if other.keys.as_slice().contains(key) {
-                return true;
-            }
-        }
-        false
-    }
-
-    /// Whether the values match. Values that share no key do not, and are not tested: where they share one, one step is
-    /// counted. Takes no memory.
-    pub(crate) fn matches<L: Ledger>(&self, other: &Keyed<R>, steps: &mut Steps<L>) -> bool
-        ensures answer { result ≡ R.meets self.now.value other.now.value }
-        ensures cost { steps.new ≤ steps.old + (if R.shares other.now.value self.now.value then 1 else 0) }
-    {
-        other.shares_key(self) && self.value.matches(&other.value, steps)
-    }
 }

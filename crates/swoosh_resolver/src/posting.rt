@@ -1,10 +1,13 @@
-//! The postings of one block.
-ghost use Rattle.std.specs.Prelude.{◌≡◌, ◌≢◌, ◌+◌, ◌≤◌, ◌↔◌, ◌⊎◌, ℕ, Contains, count_by};
-ghost use Rattle.feature_index.specs.Postings.{numbers_of, spare_of};
+//! The postings of one block, and the blocks under some keys.
+ghost use Rattle.std.specs.Prelude.{◌≡◌, ◌≢◌, ◌+◌, ◌≤◌, ◌↔◌, ◌⊎◌, ◌++◌, ℕ, List, Option, Some, IfOk, OnOk, Contains, count_by};
+ghost use Rattle.feature_index.specs.Postings.{Ascends, numbers_of, spare_of};
+ghost use Rattle.swoosh_resolver.specs.Tables.{Entry, ArePosted, block_at};
 
 use crate::keyed::Keyed;
 use feature_index::postings::Postings;
 use merge_laws::resolvable::Resolvable;
+use std::alloc::Global;
+use union_base::memory::Memory;
 
 /// Puts the number under each key of the value, in the room that was made. Takes no memory.
 pub(crate) fn post<R: Resolvable>(postings: &mut Postings<R::Key>, keyed: &Keyed<R>, number: u64)
@@ -30,4 +33,54 @@ pub(crate) fn unpost<R: Resolvable>(postings: &mut Postings<R::Key>, keyed: &Key
     for key in keyed.keys.iter() {
         postings.remove(key, number);
     }
+}
+
+/// Puts copies of the value's keys at the end. Memory where it runs out.
+pub(crate) fn push_copies<R: Resolvable>(
+    alloc: Global,
+    keyed: &Keyed<R>,
+    keys: &mut Vec<R::Key>,
+) -> Result<(), Memory>
+    ensures { OnOk result (keys.new.items ≡ keys.old.items ++ keyed.now.keys) }
+{
+    for key in keyed.keys.iter() {
+        keys.push(R::copy_key(alloc, key)?)?;
+    }
+    Ok(())
+}
+
+/// Makes room for one number more under each key of the value. The numbers stay. Memory where it runs out.
+pub(crate) fn make_room_for<R: Resolvable>(
+    alloc: Global,
+    postings: &mut Postings<R::Key>,
+    keyed: &Keyed<R>,
+) -> Result<(), Memory>
+    ensures numbers { (k : R.Key) → numbers_of R.Key.eq postings.new k ≡ numbers_of R.Key.eq postings.old k }
+    ensures room { OnOk result ((k : R.Key) → count_by (R.Key.eq k) keyed.now.keys ≤ spare_of R.Key.eq postings.new k) }
+{
+    let mut keys = Vec::new(alloc);
+    push_copies(alloc, keyed, &mut keys)?;
+    postings.make_room(alloc, keys)
+}
+
+/// The numbers of the blocks that have one of the keys, in ascending order, whichever blocks the postings are of. Memory where
+/// it runs out.
+pub(crate) fn candidates<R: Resolvable>(
+    alloc: Global,
+    postings: &Postings<R::Key>,
+    keys: &[R::Key],
+) -> Result<Vec<u64>, Memory>
+    ensures ascending { IfOk result (λ numbers. Ascends numbers.items) }
+    ensures members { IfOk result (λ numbers. (blocks : List (Option (Entry R R.Key)))
+        → ArePosted R.Key.eq R.has_key blocks postings.now → (n : ℕ) → Contains numbers.items n
+        ↔ ((k : R.Key) × Contains keys.now k × ((e : Entry R R.Key) × (block_at blocks n ≡ Some e)
+        × R.has_key e.value k))) }
+{
+    let mut numbers = Vec::new(alloc);
+    for key in keys.iter() {
+        numbers.extend_from_slice(postings.of(key))?;
+    }
+    numbers.sort()?;
+    numbers.dedup();
+    Ok(numbers)
 }

@@ -17,29 +17,26 @@ use union_words::status::Status;
 const NO_WORD: &[u8; 1] = b"\xFF";
 
 fn main(rt: HostRuntime) -> ExitCode {
-    ExitCode::from(run(&rt).exit_number())
-}
-
-fn run(rt: &HostRuntime) -> Status {
     let alloc = rt.alloc();
-    let Ok(words) = words(rt, alloc) else {
-        return Status::Memory;
+    let Ok(words) = words(&rt, alloc) else {
+        return ExitCode::from(Status::Memory.exit_number());
     };
     let Ok(files) = rt.clone() else {
-        return Status::Memory;
+        return ExitCode::from(Status::Memory.exit_number());
     };
     let mut shelf = FileShelf::new(alloc, files);
     let mut out = OutSink::of(rt.stdout());
     let mut notes = ErrSink::of(rt.stderr());
-    union_run(
-        rt,
+    let status = union_run(
+        &rt,
         alloc,
         words.as_slice(),
         &mut shelf,
         &mut out,
         &mut notes,
         &OpenGate,
-    )
+    );
+    ExitCode::from(status.exit_number())
 }
 
 /// The words behind the program's name.

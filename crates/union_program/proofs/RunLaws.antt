@@ -15,11 +15,10 @@ use Rattle.union_words.specs.declared.status.Status.TheVariants.{Done, DoneWithR
 use Rattle.union_words.specs.Flows.{ShelfFlow, IsCalm, InputFile, IsOneOf, FailsAt, NoneFails, Outflow, HasFailedAt, IsNoted}
 use Rattle.union_words.specs.Statuses.{is_done, is_early, is_input_fault, end_by}
 use Rattle.union_words.specs.Texts.{early_text}
-use Rattle.union_program.specs.Deliveries.{Delivery, reports_of, end_of_all}
-use Rattle.union_program.specs.Inputs.{inputs_of, AreWithin, IsTooLongAt, StopsAt, deliveries}
-use Rattle.union_program.specs.Runs.{Showing, IsShown, IsShownInPart, IsBegun, IsUnionRun, IsReported, Written, Shows}
-use Rattle.union_program.specs.Unions.{HasUnited, IsUnion}
-use Rattle.union_program.specs.declared.loaded.Loaded.{Loaded}
+use Rattle.union_sessions.specs.Inputs.{inputs_of, IsEarliest, FailsEarliest, AreWithin, IsTooLongAt, StopsAt, deliveries}
+use Rattle.union_sessions.specs.Unions.{HasUnited, IsUnion}
+use Rattle.union_sessions.specs.declared.loaded.Loaded.{Loaded}
+use Rattle.union_program.specs.Runs.{end_of_all, Showing, IsUnionRun, IsReported, Written, Shows}
 
 -- something failed under one of the names, so it is not so that nothing did
 none_at : (shelf : ShelfFlow) (file : InputFile) (libraries : List InputFile) → IsOneOf file libraries → NoneFails libraries shelf
@@ -30,6 +29,15 @@ none_at shelf file (first ∷ rest) (inr more) none = none_at shelf file rest mo
 
 none_fails : (libraries : List LibraryFile) (shelf : ShelfFlow) (input : Input) → FailsAt (inputs_of libraries) shelf input → NoneFails (inputs_of libraries) shelf → ⊥
 none_fails libraries shelf input fails none = none_at shelf fails.file (inputs_of libraries) fails.one none fails.failed
+
+none_earliest : (shelf : ShelfFlow) (file : InputFile) (inputs : List InputFile) → IsEarliest shelf file inputs → NoneFails inputs shelf
+    → ¬ Rose (shelf.before file.path) (shelf.after file.path)
+none_earliest shelf file [] one none = absurd one
+none_earliest shelf file (first ∷ rest) (inl is) none = subst (λ f. ¬ Rose (shelf.before f.path) (shelf.after f.path)) (sym is) none.0
+none_earliest shelf file (first ∷ rest) (inr more) none = none_earliest shelf file rest more.1 none.1
+
+none_reads : (libraries : List LibraryFile) (shelf : ShelfFlow) (input : Input) → FailsEarliest (inputs_of libraries) shelf input → NoneFails (inputs_of libraries) shelf → ⊥
+none_reads libraries shelf input fails none = none_earliest shelf fails.file (inputs_of libraries) fails.one none fails.failed
 
 stops_calm : (status : Status) (libraries : List LibraryFile) (shelf : ShelfFlow) → StopsAt status libraries shelf → is_input_fault status ≡ false
     → IsCalm shelf
@@ -64,7 +72,7 @@ within_none contents libraries input within found =
 stops_whole : (status : Status) (libraries : List LibraryFile) (shelf : ShelfFlow) (contents : List ℕ → List ℕ) → StopsAt status libraries shelf
     → shelf.files ≡ Some contents → AreWithin contents libraries → NoneFails (inputs_of libraries) shelf → status ≡ Memory
 stops_whole (OpenFault input) libraries shelf contents stops is within none = absurd (none_fails libraries shelf input stops none)
-stops_whole (ReadFault input) libraries shelf contents stops is within none = absurd (none_fails libraries shelf input stops none)
+stops_whole (ReadFault input) libraries shelf contents stops is within none = absurd (none_reads libraries shelf input stops none)
 stops_whole (TooLong input) libraries shelf contents stops is within none =
     absurd (within_none contents libraries input within (told (λ contents. IsTooLongAt contents libraries input) shelf.files contents is stops.1))
 stops_whole Memory libraries shelf contents stops is within none = refl
@@ -77,7 +85,7 @@ stops_whole WriteFault libraries shelf contents stops is within none = absurd st
 stops_long : (status : Status) (libraries : List LibraryFile) (shelf : ShelfFlow) (contents : List ℕ → List ℕ) (i : Input) → StopsAt status libraries shelf
     → shelf.files ≡ Some contents → IsTooLongAt contents libraries i → NoneFails (inputs_of libraries) shelf → (status ≡ TooLong i) ⊎ (status ≡ Memory)
 stops_long (OpenFault input) libraries shelf contents i stops is found none = absurd (none_fails libraries shelf input stops none)
-stops_long (ReadFault input) libraries shelf contents i stops is found none = absurd (none_fails libraries shelf input stops none)
+stops_long (ReadFault input) libraries shelf contents i stops is found none = absurd (none_reads libraries shelf input stops none)
 stops_long (TooLong input) libraries shelf contents i stops is found none =
     inl (ap TooLong (same_Some _ _ (sym (told (λ contents. IsTooLongAt contents libraries input) shelf.files contents is stops.1) ∙ found)))
 stops_long Memory libraries shelf contents i stops is found none = inr refl
@@ -119,13 +127,13 @@ end-done false = refl
 end-not : (refused : Bool) (status : Status) → is_done status ≡ false → end_by refused ≡ status → ⊥
 end-not refused status not_done is = let clash : true ≡ false = sym (end-done refused) ∙ (ap is_done is ∙ not_done) in cc
 
-done-end : (refused : Bool) (status : Status) → (status ≡ end_by refused) ⊎ ((status ≡ WriteFault) ⊎ (status ≡ Memory)) → is_done status ≡ true
+pub done-end : (refused : Bool) (status : Status) → (status ≡ end_by refused) ⊎ ((status ≡ WriteFault) ⊎ (status ≡ Memory)) → is_done status ≡ true
     → status ≡ end_by refused
 done-end refused status (inl is) done = is
 done-end refused status (inr (inl is)) done = let clash : false ≡ true = sym (ap is_done is) ∙ done in cc
 done-end refused status (inr (inr is)) done = let clash : false ≡ true = sym (ap is_done is) ∙ done in cc
 
-other-end : (refused : Bool) (status other : Status) → (status ≡ end_by refused) ⊎ ((status ≡ WriteFault) ⊎ (status ≡ Memory)) → is_done other ≡ false
+pub other-end : (refused : Bool) (status other : Status) → (status ≡ end_by refused) ⊎ ((status ≡ WriteFault) ⊎ (status ≡ Memory)) → is_done other ≡ false
     → (WriteFault ≡ other → ⊥) → (Memory ≡ other → ⊥) → status ≡ other → ⊥
 other-end refused status other (inl is) none no_write no_memory at = end-not refused other none (sym is ∙ at)
 other-end refused status other (inr (inl is)) none no_write no_memory at = no_write (sym is ∙ at)
@@ -135,14 +143,14 @@ not-input : (refused : Bool) → is_input_fault (end_by refused) ≡ false
 not-input true = refl
 not-input false = refl
 
-early-memory : (refused : Bool) (status : Status) → (status ≡ end_by refused) ⊎ ((status ≡ WriteFault) ⊎ (status ≡ Memory)) → is_early status ≡ true
+pub early-memory : (refused : Bool) (status : Status) → (status ≡ end_by refused) ⊎ ((status ≡ WriteFault) ⊎ (status ≡ Memory)) → is_early status ≡ true
     → status ≡ Memory
 early-memory true status (inl is) early = let clash : false ≡ true = sym (ap is_early is) ∙ early in cc
 early-memory false status (inl is) early = let clash : false ≡ true = sym (ap is_early is) ∙ early in cc
 early-memory refused status (inr (inl is)) early = let clash : false ≡ true = sym (ap is_early is) ∙ early in cc
 early-memory refused status (inr (inr is)) early = is
 
-ends-so : (refused : Bool) (status : Status) (P Q : Type 0) → (status ≡ end_by refused) ⊎ ((status ≡ WriteFault) ⊎ (status ≡ Memory))
+pub ends-so : (refused : Bool) (status : Status) (P Q : Type 0) → (status ≡ end_by refused) ⊎ ((status ≡ WriteFault) ⊎ (status ≡ Memory))
     → (status ≡ WriteFault → P ⊎ Q) → ¬ P → ¬ Q → (status ≡ end_by refused) ⊎ (status ≡ Memory)
 ends-so refused status P Q (inl is) wrote p q = inl is
 ends-so refused status P Q (inr (inl is)) wrote p q = elim (wrote is) [ inl fault ↦ absurd (p fault) | inr fault ↦ absurd (q fault) ]

@@ -1,9 +1,4 @@
 pub mod Tallies
 pub mod Stops
 pub mod Readings
-pub mod Deliveries
-pub mod Interleavings
-pub mod Appliances
-pub mod Unions
-pub mod Inputs
 pub mod Runs

@@ -1,6 +1,6 @@
 -- What a run does, by the form of its words.
 use Rattle.std.specs.Prelude.{◌≡◌, ◌≢◌, ℕ, ◌⊎◌, ◌<◌, ◌≤◌, false, IsTrue, List, [], ◌∷◌, ◌++◌, length, Some, IfSome}
-use Rattle.std.specs.declared.option.Option.{Option}
+use Rattle.std.specs.List.{list_any}
 use Rattle.std.specs.Io.KnownBytes.{Appends, Keeps}
 use Rattle.catalogue_core.specs.Histories.{AreEditionsOf}
 use Rattle.catalogue_core.specs.declared.edition.Edition.{Edition}
@@ -12,6 +12,10 @@ use Rattle.library_batches.specs.Refused.{refused}
 use Rattle.library_batches.specs.declared.refused.RefusedFrame.{RefusedFrame}
 use Rattle.library_stream.specs.declared.frame_reader.TheConstants.{LARGEST_SOURCE}
 use Rattle.union_reports.specs.Reports.{check_text, left_lines}
+use Rattle.union_sessions.specs.Deliveries.{Delivery, Stream, reports_of, has_refused}
+use Rattle.union_sessions.specs.Inputs.{inputs_of, FailsEarliest, AreWithin, IsTooLongAt, deliveries}
+use Rattle.union_sessions.specs.Unions.{IsUnion}
+use Rattle.union_sessions.specs.declared.loaded.Loaded.{Loaded}
 use Rattle.union_words.specs.Flows.{ShelfFlow, IsCalm, FailsAt, NoneFails, Inflow, HasFailed, Outflow, HasFailedAt, IsNoted}
 use Rattle.union_words.specs.Statuses.{is_done, is_early, is_input_fault, end_by}
 use Rattle.union_words.specs.Texts.{early_text}
@@ -20,11 +24,7 @@ use Rattle.union_words.specs.declared.input.Input.{Input}
 use Rattle.union_words.specs.declared.input.Input.TheVariants.{Library}
 use Rattle.union_words.specs.declared.status.Status.{Status}
 use Rattle.union_words.specs.declared.status.Status.TheVariants.{Done, DoneWithRefusals, Usage, OpenFault, ReadFault, WriteFault, TooLong, Memory}
-use Rattle.union_program.specs.Deliveries.{Delivery, Stream, reports_of, end_of_all}
-use Rattle.union_program.specs.Inputs.{inputs_of, AreWithin, IsTooLongAt, deliveries}
 use Rattle.union_program.specs.Readings.{IsOverfull}
-use Rattle.union_program.specs.Unions.{IsUnion}
-use Rattle.union_program.specs.declared.loaded.Loaded.{Loaded}
 use Rattle.union_program.specs.declared.shown.Shown.{Shown}
 use Rattle.union_program.specs.declared.shown.Shown.TheVariants.{Export, Works}
 
@@ -32,6 +32,9 @@ use Rattle.union_program.specs.declared.shown.Shown.TheVariants.{Export, Works}
 abbrev pub end_with : List RefusedFrame → Status
 end_with [] = Done
 end_with (frame ∷ rest) = DoneWithRefusals
+
+abbrev pub end_of_all : List Delivery → Status
+end_of_all all = end_by (list_any has_refused all)
 
 abbrev pub end_of : List ℕ → Status
 end_of stream = end_with (refused (frames stream))
@@ -96,7 +99,7 @@ IsBegun showing all out =
 pub record IsUnionRun (showing : Showing) (libraries : List LibraryFile) (shelf : ShelfFlow) (out notes : Outflow) (status : Status) : Type 0 where
   -- what failed, where something did
   pub open_fault : (i : Input) → status ≡ OpenFault i → FailsAt (inputs_of libraries) shelf i
-  pub read_fault : (i : Input) → status ≡ ReadFault i → FailsAt (inputs_of libraries) shelf i
+  pub read_fault : (i : Input) → status ≡ ReadFault i → FailsEarliest (inputs_of libraries) shelf i
   pub calm : is_input_fault status ≡ false → IsCalm shelf
   pub write_fault : status ≡ WriteFault → HasFailedAt out ⊎ HasFailedAt notes
   pub other : status ≢ Usage

@@ -1,14 +1,11 @@
 //! The union catalogue as one call: from the words of a command line to the texts on its two outputs.
 #![tactic(auto)]
 
-pub mod applying;
 pub mod check;
 pub mod counting;
-pub mod loaded;
+#[cfg(test)]
+mod gate_tests;
 pub mod notes;
-pub mod opened_file;
-pub mod opening;
-pub mod reading;
 pub mod run;
 pub mod shelved;
 pub mod shown;
@@ -18,4 +15,5 @@ pub mod tally;
 mod tests;
 #[cfg(test)]
 mod union_tests;
+pub mod watching;
 pub mod writing;

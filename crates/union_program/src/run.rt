@@ -2,7 +2,7 @@
 //!
 //! It does all that the program does, over whatever shelf of files and outputs it is handed. Each answer other than
 //! `Done` and `DoneWithRefusals` has its cause in a clause, and those two have the whole result.
-ghost use Rattle.std.specs.Prelude.{◌≡◌, ◌≢◌, ◌↔◌, ℕ, List, IsTrue, Some, None, false};
+ghost use Rattle.std.specs.Prelude.{◌≡◌, ◌≢◌, ◌↔◌, ◌≤◌, ℕ, List, IsTrue, Some, None, false};
 ghost use Rattle.std.specs.Io.KnownBytes.{Keeps};
 ghost use Rattle.union_io.specs.Counts.{SameElsewhere};
 ghost use Rattle.union_io.specs.Files.{told_of};
@@ -12,14 +12,18 @@ ghost use Rattle.union_words.specs.Words;
 ghost use Rattle.union_words.specs.Flows.{IsNoted};
 ghost use Rattle.union_words.specs.Statuses.{is_early};
 ghost use Rattle.union_script.specs.Runs.{IsScript};
+ghost use Rattle.union_trial.specs.Trials.{IsTrial};
+ghost use Rattle.union_watch.specs.Runs.{IsWatchRun};
 ghost use Rattle.union_program.specs.Runs.{exported, listed, showing_of, IsCheck, IsUnionRun, IsTold};
 
 use crate::notes::put_early;
-use crate::reading::load_libraries;
 use crate::shelved::check_file;
 use crate::shown::Shown;
+use crate::watching::{read_asks, write_answered};
 use crate::writing::write_shown;
 use std::alloc::Global;
+use std::sync::Wait;
+use std::thread::Threads;
 use union_base::bytes::Bytes;
 use union_base::memory::Memory;
 use union_io::failed::Failed;
@@ -27,11 +31,15 @@ use union_io::gate::Gate;
 use union_io::shelf::Shelf;
 use union_io::sink::{Sink, put_all};
 use union_script::run::script_run;
+use union_sessions::sessions::load_by_sessions;
+use union_trial::trial::trial_run;
+use union_watch::answering::load_and_answer;
 use union_words::job::{Job, MOST_LIBRARIES};
 use union_words::libraries::Libraries;
 use union_words::library_file::LibraryFile;
 use union_words::status::Status;
 use union_words::texts::{HELP, VERSION, help_text, version_text};
+use union_words::trial::Trial;
 
 /// Whether a run that ends so ended for another cause than a failed write. Takes no memory.
 fn is_early(status: &Status) -> bool
@@ -107,15 +115,36 @@ fn run_script<F: Shelf, O: Sink>(alloc: Global, path: &[u8], shelf: &mut F, out:
     }
 }
 
-/// Fills a catalogue with the files of libraries, and shows it.
-fn run_union<F: Shelf, O: Sink, N: Sink>(
+/// Runs a trial.
+fn run_trial<R: Threads + Sync, O: Sink>(
+    rt: &R,
+    alloc: Global,
+    trial: &Trial,
+    out: &mut O,
+) -> Status
+    ensures run { IsTrial trial.now.seed trial.now.count
+        (record { old = O.written out.old; new = O.written out.new; before = O.faults out.old; after = O.faults out.new })
+        result }
+    ensures other { result ≢ Status.Usage }
+{
+    let workers = trial.workers().number();
+    trial_run(rt, alloc, trial.seed(), trial.count(), workers, out)
+}
+
+/// Fills a catalogue with the files of libraries, which so many workers load, and shows it.
+fn run_union<R: Threads + Wait + Sync, F: Shelf, O: Sink, N: Sink, G: Gate>(
+    rt: &R,
     alloc: Global,
     shown: Shown,
     libraries: &Libraries<'_>,
+    workers: u32,
     shelf: &mut F,
     out: &mut O,
     notes: &mut N,
+    gate: &G,
 ) -> Status
+    requires least { 1 ≤ workers }
+    requires most { workers ≤ 64 }
     ensures run { IsUnionRun (showing_of shown) (libraries_meaning libraries.now)
         (record { files = F.files shelf.old; before = F.faults shelf.old; after = F.faults shelf.new })
         (record { old = O.written out.old; new = O.written out.new; before = O.faults out.old; after = O.faults out.new })
@@ -125,8 +154,42 @@ fn run_union<F: Shelf, O: Sink, N: Sink>(
         → IsNoted (record { old = N.written notes.old; new = N.written notes.new; before = N.faults notes.old; after = N.faults notes.new })
         (early_text result) }
 {
-    match load_libraries(alloc, libraries, shelf) {
+    match load_by_sessions(rt, alloc, libraries, workers, shelf, gate) {
         Ok(loaded) => write_shown(alloc, shown, loaded, out, notes),
+        Err(status) => end(notes, status),
+    }
+}
+
+/// Loads the files of libraries, by so many workers, and shows their turns and the answers to the questions of a file.
+fn run_watch<R: Threads + Wait + Sync, F: Shelf, O: Sink, N: Sink, G: Gate>(
+    rt: &R,
+    alloc: Global,
+    asks: &[u8],
+    libraries: &Libraries<'_>,
+    workers: u32,
+    shelf: &mut F,
+    out: &mut O,
+    notes: &mut N,
+    gate: &G,
+) -> Status
+    requires least { 1 ≤ workers }
+    requires most { workers ≤ 64 }
+    ensures run { IsWatchRun (record { workers = workers; asks = asks.now; libraries = libraries_meaning libraries.now })
+        (record { files = F.files shelf.old; before = F.faults shelf.old; after = F.faults shelf.new })
+        (record { old = O.written out.old; new = O.written out.new; before = O.faults out.old; after = O.faults out.new })
+        (record { old = N.written notes.old; new = N.written notes.new; before = N.faults notes.old; after = N.faults notes.new })
+        result }
+    ensures noted { IsTrue (is_early result)
+        → IsNoted (record { old = N.written notes.old; new = N.written notes.new; before = N.faults notes.old; after = N.faults notes.new })
+        (early_text result) }
+{
+    match read_asks(alloc, asks, shelf) {
+        Ok(text) => {
+            match load_and_answer(rt, alloc, text.as_slice(), libraries, workers, shelf, gate) {
+                Ok(answered) => write_answered(alloc, answered, out, notes),
+                Err(status) => end(notes, status),
+            }
+        }
         Err(status) => end(notes, status),
     }
 }
@@ -135,16 +198,21 @@ fn run_union<F: Shelf, O: Sink, N: Sink>(
 ///
 /// `check LIB=PATH` tells which frames of a library's file are refused; `export LIB=PATH ..` exports the union catalogue of
 /// the libraries' current records on `out` and reports on `notes`, and `works LIB=PATH ..` lists its works in place of the
-/// export; `script PATH` runs the lines of a script and writes on `out` alone; `--help` and `--version` write a text of the
-/// program's own on `out`. The runtime and the gate are not used yet.
-pub fn union_run<R, F: Shelf, O: Sink, N: Sink, G: Gate>(
-    _rt: &R,
+/// export; `watch --ask=PATH LIB=PATH ..` shows the libraries' turns in the order in which they were made, and the answers to the
+/// questions of a file, on `out`, and reports on `notes`; `script PATH` runs the lines of a script and writes on `out` alone;
+/// `trial SEED COUNT WORKERS` generates records, loads them and writes the measures of the catalogue on `out`; `--help` and
+/// `--version` write a text of the program's own on `out`.
+///
+/// Behind `export` and `works`, and behind the file of questions of `watch`, the option `--workers=N` says how many workers load
+/// the libraries, each by a session of its own; `gate` is told before and after each turn of a session. Waits for the workers.
+pub fn union_run<R: Threads + Wait + Sync, F: Shelf, O: Sink, N: Sink, G: Gate>(
+    rt: &R,
     alloc: Global,
     words: &[Bytes],
     shelf: &mut F,
     out: &mut O,
     notes: &mut N,
-    _gate: &G,
+    gate: &G,
 ) -> Status
     ensures usage { (result ≡ Status.Usage) ↔ (Words.job_of MOST_LIBRARIES words.now ≡ None) }
 
@@ -157,20 +225,30 @@ pub fn union_run<R, F: Shelf, O: Sink, N: Sink, G: Gate>(
         })
         (record { old = O.written out.old; new = O.written out.new; before = O.faults out.old; after = O.faults out.new })
         result }
-    ensures export { (libraries : List Words.LibraryFile) → Words.job_of MOST_LIBRARIES words.now ≡ Some (Words.Export libraries)
+    ensures export { (workers : ℕ) (libraries : List Words.LibraryFile) → Words.job_of MOST_LIBRARIES words.now ≡ Some (Words.Export workers libraries)
         → IsUnionRun exported libraries
         (record { files = F.files shelf.old; before = F.faults shelf.old; after = F.faults shelf.new })
         (record { old = O.written out.old; new = O.written out.new; before = O.faults out.old; after = O.faults out.new })
         (record { old = N.written notes.old; new = N.written notes.new; before = N.faults notes.old; after = N.faults notes.new })
         result }
-    ensures works { (libraries : List Words.LibraryFile) → Words.job_of MOST_LIBRARIES words.now ≡ Some (Words.Works libraries)
+    ensures works { (workers : ℕ) (libraries : List Words.LibraryFile) → Words.job_of MOST_LIBRARIES words.now ≡ Some (Words.Works workers libraries)
         → IsUnionRun listed libraries
+        (record { files = F.files shelf.old; before = F.faults shelf.old; after = F.faults shelf.new })
+        (record { old = O.written out.old; new = O.written out.new; before = O.faults out.old; after = O.faults out.new })
+        (record { old = N.written notes.old; new = N.written notes.new; before = N.faults notes.old; after = N.faults notes.new })
+        result }
+    ensures watch { (asks : List ℕ) (workers : ℕ) (libraries : List Words.LibraryFile)
+        → Words.job_of MOST_LIBRARIES words.now ≡ Some (Words.Watch asks workers libraries)
+        → IsWatchRun (record { workers = workers; asks = asks; libraries = libraries })
         (record { files = F.files shelf.old; before = F.faults shelf.old; after = F.faults shelf.new })
         (record { old = O.written out.old; new = O.written out.new; before = O.faults out.old; after = O.faults out.new })
         (record { old = N.written notes.old; new = N.written notes.new; before = N.faults notes.old; after = N.faults notes.new })
         result }
     ensures script { (path : List ℕ) → Words.job_of MOST_LIBRARIES words.now ≡ Some (Words.Script path) → IsScript path
         (record { files = F.files shelf.old; before = F.faults shelf.old; after = F.faults shelf.new })
+        (record { old = O.written out.old; new = O.written out.new; before = O.faults out.old; after = O.faults out.new })
+        result }
+    ensures trial { (seed count workers : ℕ) → Words.job_of MOST_LIBRARIES words.now ≡ Some (Words.Trial seed count workers) → IsTrial seed count
         (record { old = O.written out.old; new = O.written out.new; before = O.faults out.old; after = O.faults out.new })
         result }
     ensures help { Words.job_of MOST_LIBRARIES words.now ≡ Some Words.Help → IsTold HELP.now
@@ -183,8 +261,10 @@ pub fn union_run<R, F: Shelf, O: Sink, N: Sink, G: Gate>(
         → IsNoted (record { old = N.written notes.old; new = N.written notes.new; before = N.faults notes.old; after = N.faults notes.new })
         (early_text result) }
     ensures quiet { is_early result ≡ false
-        → ((libraries : List Words.LibraryFile) → Words.job_of MOST_LIBRARIES words.now ≢ Some (Words.Export libraries))
-        → ((libraries : List Words.LibraryFile) → Words.job_of MOST_LIBRARIES words.now ≢ Some (Words.Works libraries))
+        → ((workers : ℕ) (libraries : List Words.LibraryFile) → Words.job_of MOST_LIBRARIES words.now ≢ Some (Words.Export workers libraries))
+        → ((workers : ℕ) (libraries : List Words.LibraryFile) → Words.job_of MOST_LIBRARIES words.now ≢ Some (Words.Works workers libraries))
+        → ((asks : List ℕ) (workers : ℕ) (libraries : List Words.LibraryFile)
+        → Words.job_of MOST_LIBRARIES words.now ≢ Some (Words.Watch asks workers libraries))
         → Keeps (N.written notes.old) (N.written notes.new) }
 
     // A run of words in no form writes nothing else, and of files only one that the words name can be at fault: of an
@@ -199,19 +279,45 @@ pub fn union_run<R, F: Shelf, O: Sink, N: Sink, G: Gate>(
             let status = run_check(alloc, &file, shelf, out);
             end(notes, status)
         }
-        Some(Job::Export(libraries)) => {
-            run_union(alloc, Shown::Export, &libraries, shelf, out, notes)
-        }
-        Some(Job::Works(libraries)) => run_union(
+        Some(Job::Export(workers, libraries)) => run_union(
+            rt,
             alloc,
-            Shown::Works,
+            Shown::Export,
             &libraries,
+            workers.number(),
             shelf,
             out,
             notes,
+            gate,
+        ),
+        Some(Job::Works(workers, libraries)) => run_union(
+            rt,
+            alloc,
+            Shown::Works,
+            &libraries,
+            workers.number(),
+            shelf,
+            out,
+            notes,
+            gate,
+        ),
+        Some(Job::Watch(asks, workers, libraries)) => run_watch(
+            rt,
+            alloc,
+            asks,
+            &libraries,
+            workers.number(),
+            shelf,
+            out,
+            notes,
+            gate,
         ),
         Some(Job::Script(path)) => {
             let status = run_script(alloc, path, shelf, out);
+            end(notes, status)
+        }
+        Some(Job::Trial(trial)) => {
+            let status = run_trial(rt, alloc, &trial, out);
             end(notes, status)
         }
         Some(Job::Help) => tell(out, help_text()),

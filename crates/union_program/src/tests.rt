@@ -2,7 +2,9 @@
 use crate::check::check_run;
 use crate::run::union_run;
 use std::alloc::Global;
+use std::sync::Wait;
 use std::test::Fail;
+use std::thread::Threads;
 use union_base::bytes::Bytes;
 use union_base::library_code::LibraryCode;
 use union_base::memory::Memory;
@@ -102,15 +104,15 @@ fn both(alloc: Global, one: &[u8], other: &[u8]) -> Result<Vec<u8>, Fail> {
 }
 
 /// Runs the words over a file `a` with this content, and says whether the run ended so and wrote these texts.
-fn ends(
-    rt: &HostRuntime,
+fn ends<R: Threads + Wait + Sync>(
+    rt: &R,
+    alloc: Global,
     line: &[u8],
     content: &[u8],
     faults: &Faults<'_>,
     status: Status,
     texts: (&[u8], &[u8]),
 ) -> Result<bool, Fail> {
-    let alloc = rt.alloc();
     let mut shelf = MemShelf::new(alloc);
     shelf.put(
         Bytes::of(alloc, b"a")?,
@@ -153,6 +155,7 @@ fn records_are_exported(rt: HostRuntime) -> Result<(), Fail> {
         assert!(rt;
             ends(
                 &rt,
+                rt.alloc(),
                 b"export LIBA=a",
                 content,
                 &CALM,
@@ -163,6 +166,7 @@ fn records_are_exported(rt: HostRuntime) -> Result<(), Fail> {
         assert!(rt;
             ends(
                 &rt,
+                rt.alloc(),
                 b"export LIBA=a",
                 content,
                 &one_byte_a_read,
@@ -208,6 +212,7 @@ fn files_are_exported(rt: HostRuntime) -> Result<(), Fail> {
         assert!(rt;
             ends(
                 &rt,
+                rt.alloc(),
                 b"export LIBA=a",
                 content.as_slice(),
                 &CALM,
@@ -222,6 +227,7 @@ fn files_are_exported(rt: HostRuntime) -> Result<(), Fail> {
     assert!(rt;
         ends(
             &rt,
+            rt.alloc(),
             b"export LIBA=a",
             parted.as_slice(),
             &CALM,
@@ -250,6 +256,7 @@ fn refused_frames_are_told(rt: HostRuntime) -> Result<(), Fail> {
         assert!(rt;
             ends(
                 &rt,
+                rt.alloc(),
                 b"export LIBA=a",
                 content,
                 &CALM,
@@ -260,6 +267,7 @@ fn refused_frames_are_told(rt: HostRuntime) -> Result<(), Fail> {
         assert!(rt;
             ends(
                 &rt,
+                rt.alloc(),
                 b"check LIBA=a",
                 content,
                 &CALM,
@@ -275,6 +283,7 @@ fn refused_frames_are_told(rt: HostRuntime) -> Result<(), Fail> {
     assert!(rt;
         ends(
             &rt,
+            rt.alloc(),
             b"export LIBA=a",
             truncated.as_slice(),
             &CALM,
@@ -285,6 +294,7 @@ fn refused_frames_are_told(rt: HostRuntime) -> Result<(), Fail> {
     assert!(rt;
         ends(
             &rt,
+            rt.alloc(),
             b"check LIBA=a",
             truncated.as_slice(),
             &CALM,
@@ -301,6 +311,7 @@ fn withdrawals_are_checked_and_exported(rt: HostRuntime) -> Result<(), Fail> {
     assert!(rt;
         ends(
             &rt,
+            rt.alloc(),
             b"check LIBA=a",
             WITHDRAWAL,
             &CALM,
@@ -311,6 +322,7 @@ fn withdrawals_are_checked_and_exported(rt: HostRuntime) -> Result<(), Fail> {
     assert!(rt;
         ends(
             &rt,
+            rt.alloc(),
             b"export LIBA=a",
             WITHDRAWAL,
             &CALM,
@@ -343,6 +355,7 @@ fn each_fault_has_its_status(rt: HostRuntime) -> Result<(), Fail> {
         assert!(rt;
             ends(
                 &rt,
+                rt.alloc(),
                 line,
                 ONE,
                 &open,
@@ -360,6 +373,7 @@ fn each_fault_has_its_status(rt: HostRuntime) -> Result<(), Fail> {
             assert!(rt;
                 ends(
                     &rt,
+                    rt.alloc(),
                     line,
                     ONE,
                     &read,
@@ -371,6 +385,7 @@ fn each_fault_has_its_status(rt: HostRuntime) -> Result<(), Fail> {
         assert!(rt;
             ends(
                 &rt,
+                rt.alloc(),
                 line,
                 ONE,
                 &out,
@@ -386,6 +401,7 @@ fn each_fault_has_its_status(rt: HostRuntime) -> Result<(), Fail> {
     assert!(rt;
         ends(
             &rt,
+            rt.alloc(),
             b"export LIBA=a",
             ONE,
             &notes,
@@ -409,6 +425,7 @@ fn other_words_are_refused(rt: HostRuntime) -> Result<(), Fail> {
         assert!(rt;
             ends(
                 &rt,
+                rt.alloc(),
                 line,
                 ONE,
                 &CALM,
@@ -420,6 +437,7 @@ fn other_words_are_refused(rt: HostRuntime) -> Result<(), Fail> {
     assert!(rt;
         ends(
             &rt,
+            rt.alloc(),
             b"--version",
             ONE,
             &CALM,

@@ -1,8 +1,10 @@
-//! What no clause says of `export`: worked records of one and of several libraries, from their files to the two texts, with
+//! What no clause says of `export` and of `watch`: worked records of one and of several libraries, from their files to the two texts, with
 //! each fault in turn, over files in memory.
 use crate::run::union_run;
 use std::alloc::{AllocError, Global};
+use std::sync::Wait;
 use std::test::Fail;
+use std::thread::Threads;
 use union_base::bytes::Bytes;
 use union_base::library_code::LibraryCode;
 use union_base::memory::Memory;
@@ -117,14 +119,14 @@ fn shelf_of(alloc: Global, files: &Files<'_>) -> Result<MemShelf, Memory> {
 }
 
 /// Runs the words over the files, and says whether the run ended so and wrote these texts.
-fn ends(
-    rt: &HostRuntime,
+fn ends<R: Threads + Wait + Sync>(
+    rt: &R,
+    alloc: Global,
     line: &[u8],
     files: &Files<'_>,
     status: Status,
     texts: (&[u8], &[u8]),
 ) -> Result<bool, Fail> {
-    let alloc = rt.alloc();
     let mut shelf = shelf_of(alloc, files)?;
     let mut out = MemSink::new(
         Vec::new(alloc),
@@ -154,6 +156,7 @@ fn one_library_is_exported(rt: HostRuntime) -> Result<(), Fail> {
     assert!(rt;
         ends(
             &rt,
+            rt.alloc(),
             b"export LIBA=a",
             &calm(ONE, b"", b""),
             Status::Done,
@@ -166,6 +169,7 @@ fn one_library_is_exported(rt: HostRuntime) -> Result<(), Fail> {
     assert!(rt;
         ends(
             &rt,
+            rt.alloc(),
             b"export LIBA=a",
             &calm(b"\r\n", b"", b""),
             Status::Done,
@@ -178,6 +182,7 @@ fn one_library_is_exported(rt: HostRuntime) -> Result<(), Fail> {
     assert!(rt;
         ends(
             &rt,
+            rt.alloc(),
             b"export LIBA=a",
             &calm(two.as_slice(), b"", b""),
             Status::Done,
@@ -190,6 +195,7 @@ fn one_library_is_exported(rt: HostRuntime) -> Result<(), Fail> {
     assert!(rt;
         ends(
             &rt,
+            rt.alloc(),
             b"export LIBA=a",
             &calm(truncated.as_slice(), b"", b""),
             Status::DoneWithRefusals,
@@ -213,7 +219,11 @@ const ORDERS: [[usize; 3]; 6] = [
 ];
 
 /// Whether the bridge is exported so from one library, in each order of its records.
-fn is_bridged_in_one(rt: &HostRuntime, order: [usize; 3]) -> Result<bool, Fail> {
+fn is_bridged_in_one<R: Threads + Wait + Sync>(
+    rt: &R,
+    alloc: Global,
+    order: [usize; 3],
+) -> Result<bool, Fail> {
     let [one, two, three] = order;
     let (Some(first), Some(second), Some(third)) = (
         BRIDGE.get(one),
@@ -222,9 +232,10 @@ fn is_bridged_in_one(rt: &HostRuntime, order: [usize; 3]) -> Result<bool, Fail> 
     ) else {
         return Ok(false);
     };
-    let file = joined(rt.alloc(), &[first, second, third])?;
+    let file = joined(alloc, &[first, second, third])?;
     ends(
         rt,
+        alloc,
         b"export LIBA=a",
         &calm(file.as_slice(), b"", b""),
         Status::Done,
@@ -267,13 +278,14 @@ const COMMANDS: [(&[u8], &[u8]); 6] = [
 fn no_order_changes_the_export(rt: HostRuntime) -> Result<(), Fail> {
     let alloc = rt.alloc();
     for order in ORDERS {
-        assert!(rt; is_bridged_in_one(&rt, order)?);
+        assert!(rt; is_bridged_in_one(&rt, rt.alloc(), order)?);
     }
     let [a, b, c] = BRIDGE;
     for (line, report) in COMMANDS {
         assert!(rt;
             ends(
                 &rt,
+                rt.alloc(),
                 line,
                 &calm(a, b, c),
                 Status::Done,
@@ -285,6 +297,7 @@ fn no_order_changes_the_export(rt: HostRuntime) -> Result<(), Fail> {
         assert!(rt;
             ends(
                 &rt,
+                rt.alloc(),
                 b"export LIBA=a LIBB=c",
                 &calm(pair.as_slice(), b"", c),
                 Status::Done,
@@ -297,6 +310,7 @@ fn no_order_changes_the_export(rt: HostRuntime) -> Result<(), Fail> {
         assert!(rt;
             ends(
                 &rt,
+                rt.alloc(),
                 b"export LIBB=c LIBA=a",
                 &calm(pair.as_slice(), b"", c),
                 Status::Done,
@@ -363,6 +377,7 @@ fn fields_that_do_not_fit_are_left_out(rt: HostRuntime) -> Result<(), Fail> {
     assert!(rt;
         ends(
             &rt,
+            rt.alloc(),
             b"export LIBA=a",
             &calm(longer.as_slice(), b"", b""),
             Status::DoneWithRefusals,
@@ -395,6 +410,7 @@ fn each_fault_of_a_library_has_its_status(rt: HostRuntime) -> Result<(), Fail> {
     assert!(rt;
         ends(
             &rt,
+            rt.alloc(),
             b"export LIBA=a LIBB=b LIBC=c",
             &failing,
             Status::ReadFault(library(b"LIBB")?),
@@ -404,6 +420,7 @@ fn each_fault_of_a_library_has_its_status(rt: HostRuntime) -> Result<(), Fail> {
     assert!(rt;
         ends(
             &rt,
+            rt.alloc(),
             b"export LIBA=a LIBB=x LIBC=c",
             &failing,
             Status::OpenFault(library(b"LIBB")?),
@@ -413,6 +430,7 @@ fn each_fault_of_a_library_has_its_status(rt: HostRuntime) -> Result<(), Fail> {
     assert!(rt;
         ends(
             &rt,
+            rt.alloc(),
             b"export LIBA=b LIBB=x",
             &failing,
             Status::OpenFault(library(b"LIBB")?),
@@ -429,6 +447,7 @@ fn each_fault_of_a_library_has_its_status(rt: HostRuntime) -> Result<(), Fail> {
     assert!(rt;
         ends(
             &rt,
+            rt.alloc(),
             b"export LIBA=a",
             &narrow,
             Status::WriteFault,
@@ -447,6 +466,7 @@ fn a_withdrawn_record_is_not_exported(rt: HostRuntime) -> Result<(), Fail> {
     assert!(rt;
         ends(
             &rt,
+            rt.alloc(),
             b"export LIBA=a",
             &calm(all.as_slice(), b"", b""),
             Status::Done,
@@ -459,6 +479,7 @@ fn a_withdrawn_record_is_not_exported(rt: HostRuntime) -> Result<(), Fail> {
     assert!(rt;
         ends(
             &rt,
+            rt.alloc(),
             b"export LIBA=a",
             &calm(left.as_slice(), b"", b""),
             Status::Done,
@@ -472,6 +493,7 @@ fn a_withdrawn_record_is_not_exported(rt: HostRuntime) -> Result<(), Fail> {
     assert!(rt;
         ends(
             &rt,
+            rt.alloc(),
             b"export LIBA=a LIBB=c",
             &calm(three.as_slice(), b"", WITHDRAWAL),
             Status::Done,
@@ -492,6 +514,7 @@ fn works_are_listed(rt: HostRuntime) -> Result<(), Fail> {
     assert!(rt;
         ends(
             &rt,
+            rt.alloc(),
             b"works LIBA=a LIBB=b",
             &calm(all.as_slice(), ONE, b""),
             Status::Done,
@@ -522,6 +545,7 @@ fn words_in_no_form_end_at_once(rt: HostRuntime) -> Result<(), Fail> {
         assert!(rt;
             ends(
                 &rt,
+                rt.alloc(),
                 line,
                 &calm(ONE, ONE, ONE),
                 Status::Usage,
@@ -548,5 +572,26 @@ fn sure_files_are_exported(rt: HostRuntime) -> Result<(), Fail> {
         &OpenGate,
     );
     assert!(rt; ended == Status::Done);
+    Ok(())
+}
+
+#[test]
+fn turns_and_replies_are_shown(rt: HostRuntime) -> Result<(), Fail> {
+    let alloc = rt.alloc();
+    let [a, b, c] = BRIDGE;
+    let bridge = joined(alloc, &[a, b, c])?;
+    assert!(rt;
+        ends(
+            &rt,
+            rt.alloc(),
+            b"watch --ask=c --workers=1 LIBA=a LIBB=b",
+            &calm(bridge.as_slice(), ONE, b"count"),
+            Status::Done,
+            (
+                b"turn 000001 LIBA 3\nturn 000002 LIBB 1\nreply 000002 count\neditions 2 works 2 records 4\n",
+                b"LIBA frames 3 added 3 replaced 0 removed 0 absent 0 refused 0\nLIBB frames 1 added 1 replaced 0 removed 0 absent 0 refused 0\n"
+            )
+        )?
+    );
     Ok(())
 }

@@ -5,7 +5,6 @@ ghost use Rattle.union_reports.specs.Reports.{left_line};
 ghost use Rattle.union_words.specs.Statuses.{end_by, is_done};
 ghost use Rattle.union_program.specs.Runs.{exported, listed, showing_of, IsReported, Shows};
 
-use crate::loaded::Loaded;
 use crate::notes::put_early;
 use crate::shown::Shown;
 use catalogue_export::export::export;
@@ -17,6 +16,7 @@ use union_base::record_id::RecordId;
 use union_io::failed::Failed;
 use union_io::sink::{Sink, put_all};
 use union_reports::reports::add_left_lines;
+use union_sessions::loaded::Loaded;
 use union_words::status::Status;
 
 /// How a run ends that came to its end, by whether some frame was refused. Takes no memory.
@@ -45,7 +45,7 @@ fn with_left_lines(
 
 /// Writes the reports, and a line for each edition of which fields were left out. Where memory ran out, the line that says so
 /// is written in their place.
-fn write_reports<N: Sink>(
+pub fn write_reports<N: Sink>(
     alloc: Global,
     loaded: Loaded,
     left: &[(RecordId, usize)],

@@ -1,7 +1,7 @@
-mod FileLaws
-mod SourceLaws
-mod BatchLaws
-mod TextLaws
-mod LineLaws
-mod StopLaws
+pub mod FileLaws
+pub mod SourceLaws
+pub mod BatchLaws
+pub mod TextLaws
+pub mod LineLaws
+pub mod StopLaws
 pub mod ScriptLaws

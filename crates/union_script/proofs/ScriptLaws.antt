@@ -24,7 +24,7 @@ use Rattle.union_script.specs.Lines.{HasRun, WritesFront, StopsLoading, FailsUnd
 use Rattle.union_script.specs.Readings.{StopsAt}
 use Rattle.union_script.specs.Runs.{WritesAll, WritesBefore, IsFaultAt, named_by, IsScript}
 use Rattle.union_script.specs.Texts.{Contents, script_of, has_refusals}
-use Rattle.union_script.specs.declared.script_file.TheConstants.{LARGEST_SCRIPT}
+use Rattle.union_script.specs.declared.text_file.TheConstants.{LARGEST_TEXT}
 use Rattle.union_script.proofs.FileLaws.{Counts, flow, same_more}
 use Rattle.union_script.proofs.LineLaws.{library_input, not_over}
 use Rattle.union_script.proofs.StopLaws.{Known, outflow, stop_behind}
@@ -51,10 +51,10 @@ none_at shelf file [] one none = absurd one
 none_at shelf file (first ∷ rest) (inl is) none = subst (λ f. ¬ Rose (shelf.before f.path) (shelf.after f.path)) (sym is) none.0
 none_at shelf file (first ∷ rest) (inr more) none = none_at shelf file rest more none.1
 
-none_fails : (inputs : List InputFile) (shelf : ShelfFlow) (input : Input) → FailsAt inputs shelf input → NoneFails inputs shelf → ⊥
+pub none_fails : (inputs : List InputFile) (shelf : ShelfFlow) (input : Input) → FailsAt inputs shelf input → NoneFails inputs shelf → ⊥
 none_fails inputs shelf input fails none = none_at shelf fails.file inputs fails.one none fails.failed
 
-told : (P : Contents → Type 0) (files : Option Contents) (contents : Contents) → files ≡ Some contents → IfSome files P → P contents
+pub told : (P : Contents → Type 0) (files : Option Contents) (contents : Contents) → files ≡ Some contents → IfSome files P → P contents
 told P files contents is holds = subst (λ fs. IfSome fs P) is holds
 
 no_fault : (path : List ℕ) (shelf : ShelfFlow) (contents : Contents) (i : Input) → shelf.files ≡ Some contents → IsFaultAt shelf.files path shelf i
@@ -62,7 +62,7 @@ no_fault : (path : List ℕ) (shelf : ShelfFlow) (contents : Contents) (i : Inpu
 no_fault path shelf contents i is fault none =
     none_fails (inputs_of contents path) shelf i (subst (λ files. IsFaultAt files path shelf i) is fault) none
 
-within_none : (contents : Contents) (inputs : List InputFile) (input : Input) → AreWithin contents inputs → IsTooLongAt contents inputs input → ⊥
+pub within_none : (contents : Contents) (inputs : List InputFile) (input : Input) → AreWithin contents inputs → IsTooLongAt contents inputs input → ⊥
 within_none contents inputs input within found =
     let clash : None ≡ Some input = sym (ap (option_map (λ (file : InputFile). file.input)) within) ∙ found in cc
 
@@ -167,11 +167,11 @@ script_is_named DoneWithRefusals path shelf i stops is = absurd stops
 script_is_named Usage path shelf i stops is = absurd stops
 script_is_named WriteFault path shelf i stops is = absurd stops
 
-script_long : (contents : Contents) (path : List ℕ) (i : Input) → i ≡ Script → LARGEST_SCRIPT < length (contents path)
+script_long : (contents : Contents) (path : List ℕ) (i : Input) → i ≡ Script → LARGEST_TEXT < length (contents path)
     → IsTooLongAt contents (inputs_of contents path) i
 script_long contents path i named more =
     ap (λ over. option_map (λ (file : InputFile). file.input) (cond over (Some (script_input path)) (find (is_overfull contents) (files_loaded (script_of (contents path))))))
-    (lt-ltb LARGEST_SCRIPT (length (contents path)) more)
+    (lt-ltb LARGEST_TEXT (length (contents path)) more)
     ∙ ap Some (sym named)
 
 nothing_written : (contents : Contents) (lines : List ScriptLine) (written : Known) → WritesFront contents lines [] written written
@@ -204,13 +204,13 @@ stopped_at_script status path shelf written x z stops =
 
 -- the script was read, and it is within its limit
 abbrev pub IsRead : List ℕ → List ℕ → Contents → Type 0
-IsRead path script contents = (length (contents path) ≤ LARGEST_SCRIPT) × (script ≡ contents path)
+IsRead path script contents = (length (contents path) ≤ LARGEST_TEXT) × (script ≡ contents path)
 
 -- where the script is within its limit, the first input that is too long is the file of a load line
-script_within : (contents : Contents) (path : List ℕ) (lines : List ScriptLine) → length (contents path) ≤ LARGEST_SCRIPT
+script_within : (contents : Contents) (path : List ℕ) (lines : List ScriptLine) → length (contents path) ≤ LARGEST_TEXT
     → first_overfull contents (inputs_with path lines) ≡ first_overfull contents (files_loaded lines)
 script_within contents path lines fits =
-    ap (λ over. cond over (Some (script_input path)) (find (is_overfull contents) (files_loaded lines))) (not_over LARGEST_SCRIPT (length (contents path)) fits)
+    ap (λ over. cond over (Some (script_input path)) (find (is_overfull contents) (files_loaded lines))) (not_over LARGEST_TEXT (length (contents path)) fits)
 
 -- the files that are loaded, around that of a line
 files_around : (lines first others : List ScriptLine) (file : LibraryFile) → lines ≡ first ++ Load file ∷ others

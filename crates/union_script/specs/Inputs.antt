@@ -9,13 +9,13 @@ use Rattle.union_words.specs.ScriptLines.{ScriptLine, Load, Export, Works, Ask, 
 use Rattle.union_words.specs.declared.input.Input.{Input}
 use Rattle.union_words.specs.declared.input.Input.TheVariants.{Library, Asks, Script}
 use Rattle.union_script.specs.Texts.{Contents, script_of}
-use Rattle.union_script.specs.declared.script_file.TheConstants.{LARGEST_SCRIPT}
+use Rattle.union_script.specs.declared.text_file.TheConstants.{LARGEST_TEXT}
 
 -- the most bytes that are read of it
 abbrev pub limit_of : Input → ℕ
 limit_of (Library code) = LARGEST_SOURCE
-limit_of Asks = LARGEST_SCRIPT
-limit_of Script = LARGEST_SCRIPT
+limit_of Asks = LARGEST_TEXT
+limit_of Script = LARGEST_TEXT
 
 -- the file of a line that loads one
 abbrev pub loaded_by : ScriptLine → List InputFile

@@ -1,5 +1,5 @@
 -- What a script writes, and how its lines change the catalogue.
-use Rattle.std.specs.Prelude.{◌≡◌, ℕ, Bool, true, false, not, nat_lt, List, [], ◌∷◌, ◌++◌, length, map, filter, codes, Result, Ok, Err}
+use Rattle.std.specs.Prelude.{◌≡◌, ℕ, Bool, true, false, nat_lt, List, [], ◌∷◌, ◌++◌, length, map, codes, Result, Ok, Err}
 use Rattle.std.specs.List.{flat_map, list_any}
 use Rattle.std.specs.Result.{is_err}
 use Rattle.catalogue_query.specs.Answers.{answer_lines}
@@ -19,7 +19,7 @@ use Rattle.library_batches.specs.Refused.{refused}
 use Rattle.library_batches.specs.Batches.{AreBatches}
 use Rattle.library_batches.specs.Outcomes.{found_in}
 use Rattle.union_reports.specs.Reports.{report_text}
-use Rattle.union_words.specs.Lines.{lines_of, is_skipped}
+use Rattle.union_words.specs.Lines.{lines_of, kept}
 use Rattle.union_words.specs.ScriptLines.{ScriptLine, Load, Export, Works, Ask, Word, script_line}
 use Rattle.union_words.specs.Texts.{line_feed}
 
@@ -29,7 +29,7 @@ Contents = List ℕ → List ℕ
 
 -- what lines ask for, in their order, but for those that are skipped
 abbrev pub asked_by : List (List ℕ) → List ScriptLine
-asked_by lines = map script_line (filter (λ line. not (is_skipped line)) lines)
+asked_by lines = map script_line (kept lines)
 
 -- what the lines of a script ask for
 abbrev pub script_of : List ℕ → List ScriptLine

@@ -1,31 +1,20 @@
 //! A line of a script that asks something of the catalogue.
-ghost use Rattle.std.specs.Prelude.{◌≡◌, ◌++◌, ◌∷◌, [], OnOk, IfOk};
+ghost use Rattle.std.specs.Prelude.{◌∷◌, [], IfOk};
 ghost use Rattle.catalogue_query.specs.declared.query.Query.{Query as QueryModel};
 ghost use Rattle.union_words.specs.Flows.{ShelfFlow, IsCalm};
 ghost use Rattle.union_words.specs.ScriptLines.{Ask as AskLine};
 ghost use Rattle.union_script.specs.Lines.{LinesRun};
-ghost use Rattle.union_script.specs.Texts.{IsAnswer, ended_lines};
+ghost use Rattle.union_script.specs.Texts.{IsAnswer};
 
-use crate::saying::{REFUSED_UNKNOWN, REFUSED_WORD, say};
+use crate::line_texts::{REFUSED_UNKNOWN, REFUSED_WORD, add_lines};
+use crate::saying::say;
 use catalogue_core::catalogue::Catalogue;
 use catalogue_query::answering::answer;
 use catalogue_query::query::{Query, QueryRefusal};
-use std::alloc::{AllocError, Global};
-use union_base::bytes::Bytes;
+use std::alloc::Global;
 use union_base::memory::Memory;
 use union_io::sink::Sink;
 use union_words::status::Status;
-
-/// Adds the lines, each with a line feed behind it.
-fn add_lines(text: &mut Vec<u8>, lines: &[Bytes]) -> Result<(), AllocError>
-    ensures { OnOk result (text.new.items ≡ text.old.items ++ ended_lines lines.now) }
-{
-    for line in lines {
-        text.extend_from_slice(line.bytes())?;
-        text.push(b'\n')?;
-    }
-    Ok(())
-}
 
 /// The answer to a query, as it is written.
 fn answer_text(alloc: Global, catalogue: &Catalogue, query: &Query) -> Result<Vec<u8>, Memory>

@@ -6,8 +6,9 @@ ghost use Rattle.union_script.specs.Lines.{LinesRun, Says};
 ghost use Rattle.union_script.specs.Texts.{asked_by, IsExport, IsWorkList};
 
 use crate::asking::run_ask;
+use crate::line_texts::REFUSED_WORD;
 use crate::loading::load_file;
-use crate::saying::{REFUSED_WORD, say};
+use crate::saying::say;
 use crate::union::Union;
 use catalogue_core::catalogue::Catalogue;
 use catalogue_export::export::export;

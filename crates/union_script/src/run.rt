@@ -7,7 +7,7 @@ ghost use Rattle.union_script.specs.Runs.{IsScript};
 ghost use Rattle.union_script.specs.Texts.{script_of};
 
 use crate::lines::run_lines;
-use crate::script_file::read_script;
+use crate::text_file::read_text_file;
 use crate::union::Union;
 use catalogue_core::catalogue::Catalogue;
 use merge_laws::steps::Steps;
@@ -18,6 +18,7 @@ use union_base::bytes::Bytes;
 use union_base::memory::Memory;
 use union_io::shelf::Shelf;
 use union_io::sink::Sink;
+use union_words::input::Input;
 use union_words::status::Status;
 
 /// Runs a script over a new catalogue, with the match tests counted in a ledger of their own.
@@ -89,7 +90,7 @@ pub fn script_run<F: Shelf, O: Sink>(
         (record { old = O.written out.old; new = O.written out.new; before = O.faults out.old; after = O.faults out.new })
         result }
 {
-    match read_script(alloc, path, shelf) {
+    match read_text_file(alloc, path, Input::Script, shelf) {
         Ok(script) => match run_text(alloc, script.as_slice(), shelf, out) {
             Ok(refused) => end_by(refused),
             Err(status) => status,

@@ -5,12 +5,6 @@ use union_io::failed::Failed;
 use union_io::sink::{Sink, put_all};
 use union_words::status::Status;
 
-/// What a line writes that begins with a word of a script and is in no form of it.
-pub const REFUSED_WORD: &[u8] = b"refused word\n";
-
-/// What a line writes that begins with an unknown word.
-pub const REFUSED_UNKNOWN: &[u8] = b"refused unknown\n";
-
 /// Writes a text, and tells again whether something is refused.
 pub fn say<O: Sink>(text: &[u8], refused: bool, out: &mut O) -> Result<bool, Status>
     ensures { Says result text.now refused

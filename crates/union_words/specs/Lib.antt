@@ -1,3 +1,4 @@
+pub mod Alike
 pub mod Flows
 pub mod Lines
 pub mod Meanings

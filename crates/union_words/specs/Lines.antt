@@ -1,5 +1,5 @@
 -- The lines of a script or of a file of questions.
-use Rattle.std.specs.Prelude.{ℕ, ◌-◌, Bool, true, ◌==◌, List, [], ◌∷◌, length, take, drop, map, Option, Some, None, if◌then◌else◌}
+use Rattle.std.specs.Prelude.{ℕ, ◌-◌, Bool, true, not, ◌==◌, List, [], ◌∷◌, length, take, drop, map, filter, Option, Some, None, if◌then◌else◌}
 use Rattle.std.specs.List.{slice_split}
 use Rattle.union_words.specs.Words.{is_text}
 
@@ -21,3 +21,7 @@ is_skipped (b ∷ rest) = b == 0x23
 abbrev pub lines_left : Option (List ℕ) → List (List ℕ)
 lines_left None = []
 lines_left (Some text) = lines_of text
+
+-- the lines that are not skipped
+abbrev pub kept : List (List ℕ) → List (List ℕ)
+kept lines = filter (λ line. not (is_skipped line)) lines

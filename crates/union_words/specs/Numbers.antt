@@ -4,7 +4,7 @@ use Rattle.std.specs.List.{list_all}
 use Rattle.std.specs.Option.{option_and_then}
 use Rattle.std.specs.Char.{is_ascii_digit}
 use Rattle.std.specs.Str.Parse.{digits_value}
-use Rattle.union_words.specs.Words.{is_text}
+use Rattle.union_words.specs.Alike.{is_text}
 
 -- a zero stands before another digit
 abbrev pub has_leading_zero : List ℕ → Bool

@@ -1,9 +1,11 @@
 -- The forms of words that the program has, and what each asks for.
-use Rattle.std.specs.Prelude.{ℕ, Bool, true, ◌&&◌, ◌==◌, not, nat_eq, nat_le, List, [], ◌∷◌, length, map, Option, Some, None, if◌then◌else◌, codes}
+use Rattle.std.specs.Prelude.{ℕ, Bool, true, ◌&&◌, ◌==◌, not, nat_le, List, [], ◌∷◌, length, map, Option, Some, None, if◌then◌else◌, codes}
 use Rattle.std.specs.List.{list_all, list_any, before_first, after_first}
-use Rattle.std.specs.Cmp.Lexicographic.{pointwise}
+use Rattle.std.specs.Option.{option_and_then}
 use Rattle.std.specs.Str.{is_utf8}
 use Rattle.union_base.specs.LibraryCodes.{is_library_code}
+use Rattle.union_words.specs.Numbers.{option_text, workers_word, seed_of, count_of, workers_of}
+pub use Rattle.union_words.specs.Alike.{is_text}
 
 -- a library and the path of its file
 pub record LibraryFile : Type 0 where
@@ -13,15 +15,13 @@ pub record LibraryFile : Type 0 where
 -- what the words ask for
 pub data Job : Type 0 where
   Check : (file : LibraryFile) → Job
-  Export : (libraries : List LibraryFile) → Job
-  Works : (libraries : List LibraryFile) → Job
+  Export : (workers : ℕ) (libraries : List LibraryFile) → Job
+  Works : (workers : ℕ) (libraries : List LibraryFile) → Job
+  Watch : (asks : List ℕ) (workers : ℕ) (libraries : List LibraryFile) → Job
   Script : (path : List ℕ) → Job
+  Trial : (seed : ℕ) (count : ℕ) (workers : ℕ) → Job
   Help : Job
   Version : Job
-
--- the two texts are one
-abbrev pub is_text : List ℕ → List ℕ → Bool
-is_text a b = pointwise nat_eq a b
 
 -- a path is UTF-8 and at least one byte
 abbrev pub is_path : List ℕ → Bool
@@ -66,19 +66,70 @@ check_job (word ∷ []) = (if is_library_word word then Some (Check (library_of 
 check_job [] = None
 check_job (word ∷ more ∷ rest) = None
 
--- one to `most` words `LIB=PATH` behind `export`
-abbrev pub export_job : ℕ → List (List ℕ) → Option Job
-export_job most words = (if nat_le (length words) most && are_libraries words then Some (Export (libraries_of words)) else None)
+-- how many workers there are where the words do not say
+abbrev pub usual_workers : ℕ
+usual_workers = 4
 
--- one to `most` words `LIB=PATH` behind `works`
+-- so many workers, and the words behind the option that says so; or the usual ones, and all of the words
+abbrev pub workers_or : Option ℕ → List (List ℕ) → List (List ℕ) → ℕ × List (List ℕ)
+workers_or None rest words = (usual_workers, words)
+workers_or (Some workers) rest words = (workers, rest)
+
+-- the workers, by a first word `--workers=N` where there is one, and the words behind it
+abbrev pub workers_in : List (List ℕ) → ℕ × List (List ℕ)
+workers_in [] = (usual_workers, [])
+workers_in (word ∷ rest) = workers_or (workers_word word) rest (word ∷ rest)
+
+-- one to `most` words `LIB=PATH`
+abbrev pub libraries_job : (List LibraryFile → Job) → ℕ → List (List ℕ) → Option Job
+libraries_job job most words = (if nat_le (length words) most && are_libraries words then Some (job (libraries_of words)) else None)
+
+-- behind `export`
+abbrev pub export_job : ℕ → List (List ℕ) → Option Job
+export_job most words = libraries_job (Export (workers_in words).0) most (workers_in words).1
+
+-- and behind `works`
 abbrev pub works_job : ℕ → List (List ℕ) → Option Job
-works_job most words = (if nat_le (length words) most && are_libraries words then Some (Works (libraries_of words)) else None)
+works_job most words = libraries_job (Works (workers_in words).0) most (workers_in words).1
+
+-- the text, where it is a path
+abbrev pub path_of : List ℕ → Option (List ℕ)
+path_of text = (if is_path text then Some text else None)
+
+-- the path in a word `--ask=PATH`
+abbrev pub ask_word : List ℕ → Option (List ℕ)
+ask_word word = option_and_then path_of (option_text (codes "--ask=") word)
+
+-- behind the word that names the file of questions
+abbrev pub asking_job : Option (List ℕ) → ℕ → List (List ℕ) → Option Job
+asking_job None most words = None
+asking_job (Some asks) most words = libraries_job (Watch asks (workers_in words).0) most (workers_in words).1
+
+-- and behind `watch`
+abbrev pub watch_job : ℕ → List (List ℕ) → Option Job
+watch_job most [] = None
+watch_job most (word ∷ rest) = asking_job (ask_word word) most rest
 
 -- a path behind `script`
 abbrev pub script_job : List (List ℕ) → Option Job
 script_job (word ∷ []) = (if is_path word then Some (Script word) else None)
 script_job [] = None
 script_job (word ∷ more ∷ rest) = None
+
+-- the trial of these numbers, where there are all three
+abbrev pub numbers_job : Option ℕ → Option ℕ → Option ℕ → Option Job
+numbers_job None count workers = None
+numbers_job (Some seed) None workers = None
+numbers_job (Some seed) (Some count) None = None
+numbers_job (Some seed) (Some count) (Some workers) = Some (Trial seed count workers)
+
+-- the number with which the generator begins, how many records are generated, and how many workers load them, behind `trial`
+abbrev pub trial_job : List (List ℕ) → Option Job
+trial_job [] = None
+trial_job (seed ∷ []) = None
+trial_job (seed ∷ count ∷ []) = None
+trial_job (seed ∷ count ∷ workers ∷ []) = numbers_job (seed_of seed) (count_of count) (workers_of workers)
+trial_job (seed ∷ count ∷ workers ∷ more ∷ rest) = None
 
 -- what a word that stands alone asks for
 abbrev pub lone_job : List ℕ → Option Job
@@ -92,7 +143,9 @@ command_job most command words =
     (if is_text command (codes "check") then check_job words
     else (if is_text command (codes "export") then export_job most words
     else (if is_text command (codes "works") then works_job most words
-    else (if is_text command (codes "script") then script_job words else None))))
+    else (if is_text command (codes "watch") then watch_job most words
+    else (if is_text command (codes "script") then script_job words
+    else (if is_text command (codes "trial") then trial_job words else None))))))
 
 -- what the words behind the program's name ask for: None where they are in no form that the program has
 abbrev pub job_of : ℕ → List (List ℕ) → Option Job

@@ -1,11 +1,14 @@
 //! What the words of the command line ask for.
 ghost use Rattle.std.specs.Prelude.{◌≡◌, ℕ, List};
-ghost use Rattle.std.specs.Option.{option_map};
+ghost use Rattle.std.specs.Option.{option_copied, option_map};
 ghost use Rattle.union_words.specs.Meanings.{job_meaning};
 ghost use Rattle.union_words.specs.Words;
 
 use crate::libraries::Libraries;
 use crate::library_file::{LibraryFile, is_path};
+use crate::number::option_text;
+use crate::trial::Trial;
+use crate::workers::{Workers, workers_in};
 use union_base::bytes::Bytes;
 
 /// The most libraries that a command takes.
@@ -16,12 +19,16 @@ pub const MOST_LIBRARIES: usize = 64;
 pub enum Job<'a> {
     /// `check LIB=PATH`: check one file.
     Check(LibraryFile<'a>),
-    /// `export LIB=PATH ..`: load and export.
-    Export(Libraries<'a>),
-    /// `works LIB=PATH ..`: load and list the works.
-    Works(Libraries<'a>),
+    /// `export [--workers=N] LIB=PATH ..`: load and export.
+    Export(Workers, Libraries<'a>),
+    /// `works [--workers=N] LIB=PATH ..`: load and list the works.
+    Works(Workers, Libraries<'a>),
+    /// `watch --ask=PATH [--workers=N] LIB=PATH ..`: load, and answer the questions of that file beside.
+    Watch(&'a [u8], Workers, Libraries<'a>),
     /// `script PATH`: run a script.
     Script(&'a [u8]),
+    /// `trial SEED COUNT WORKERS`: generate records, load them and measure the catalogue.
+    Trial(Trial),
     /// `--help`: tell the forms of words.
     Help,
     /// `--version`: tell the program's name and version.
@@ -65,8 +72,12 @@ fn command_job<'a>(command: &[u8], words: &'a [Bytes], most: usize) -> Option<Jo
         export_job(words, most)
     } else if command == b"works".as_slice() {
         works_job(words, most)
+    } else if command == b"watch".as_slice() {
+        watch_job(words, most)
     } else if command == b"script".as_slice() {
         script_job(words)
+    } else if command == b"trial".as_slice() {
+        trial_job(words)
     } else {
         None
     }
@@ -87,13 +98,40 @@ fn check_job(words: &[Bytes]) -> Option<Job<'_>>
 fn export_job(words: &[Bytes], most: usize) -> Option<Job<'_>>
     ensures { option_map job_meaning result ≡ Words.export_job most words.now }
 {
-    Some(Job::Export(Libraries::read(words, most)?))
+    let (workers, words) = workers_in(words);
+    Some(Job::Export(workers, Libraries::read(words, most)?))
 }
 
 fn works_job(words: &[Bytes], most: usize) -> Option<Job<'_>>
     ensures { option_map job_meaning result ≡ Words.works_job most words.now }
 {
-    Some(Job::Works(Libraries::read(words, most)?))
+    let (workers, words) = workers_in(words);
+    Some(Job::Works(workers, Libraries::read(words, most)?))
+}
+
+fn watch_job(words: &[Bytes], most: usize) -> Option<Job<'_>>
+    ensures { option_map job_meaning result ≡ Words.watch_job most words.now }
+{
+    match words {
+        [word, words @ ..] => asking_job(ask_word(word.bytes())?, words, most),
+        [] => None,
+    }
+}
+
+/// What `watch` asks for with the file of questions of that path.
+fn asking_job<'a>(asks: &'a [u8], words: &'a [Bytes], most: usize) -> Option<Job<'a>>
+    ensures { option_map job_meaning result ≡ Words.asking_job (Some asks.now) most words.now }
+{
+    let (workers, words) = workers_in(words);
+    Some(Job::Watch(asks, workers, Libraries::read(words, most)?))
+}
+
+/// The path in a word `--ask=PATH`.
+fn ask_word(word: &[u8]) -> Option<&[u8]>
+    ensures { option_copied result ≡ Words.ask_word word.now }
+{
+    let path = option_text(b"--ask=", word)?;
+    if is_path(path) { Some(path) } else { None }
 }
 
 fn script_job(words: &[Bytes]) -> Option<Job<'_>>
@@ -101,6 +139,18 @@ fn script_job(words: &[Bytes]) -> Option<Job<'_>>
 {
     match words {
         [word] if is_path(word.bytes()) => Some(Job::Script(word.bytes())),
+        _ => None,
+    }
+}
+
+fn trial_job(words: &[Bytes]) -> Option<Job<'_>>
+    ensures { option_map job_meaning result ≡ Words.trial_job words.now }
+{
+    match words {
+        [seed, count, workers] => match Trial::read(seed.bytes(), count.bytes(), workers.bytes()) {
+            Some(trial) => Some(Job::Trial(trial)),
+            None => None,
+        },
         _ => None,
     }
 }

@@ -18,3 +18,5 @@ pub mod status;
 #[cfg(test)]
 mod tests;
 pub mod texts;
+pub mod trial;
+pub mod workers;

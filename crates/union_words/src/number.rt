@@ -1,5 +1,5 @@
 //! Numbers as the words give them: decimal digits without sign and without leading zero.
-ghost use Rattle.std.specs.Prelude.{◌≡◌, ◌<◌, ◌^◌, ◌&&◌, nat_lt, nat_le, IsTrue, Some, None, if◌then◌else◌};
+ghost use Rattle.std.specs.Prelude.{◌≡◌, ◌<◌, ◌≤◌, ◌^◌, ◌&&◌, nat_lt, nat_le, IfSome, IsTrue, Some, None, if◌then◌else◌};
 ghost use Rattle.std.specs.List.{list_all};
 ghost use Rattle.std.specs.Option.{option_copied};
 ghost use Rattle.std.specs.Char.{is_ascii_digit};
@@ -13,7 +13,8 @@ pub const MOST_GENERATED: u64 = 200_000;
 
 /// How many workers the text asks for, 1 to 64: None exactly where it is no such number. Takes no memory.
 pub fn workers_of(text: &[u8]) -> Option<u64>
-    ensures { result ≡ Numbers.workers_of text.now }
+    ensures value { result ≡ Numbers.workers_of text.now }
+    ensures within { IfSome result (λ workers. (1 ≤ workers) × (workers ≤ 64)) }
 {
     number_within(1, MOST_WORKERS, text)
 }
@@ -21,7 +22,8 @@ pub fn workers_of(text: &[u8]) -> Option<u64>
 /// How many records the text asks the generator for, 1 to 200,000: None exactly where it is no such number. Takes no
 /// memory.
 pub fn count_of(text: &[u8]) -> Option<u64>
-    ensures { result ≡ Numbers.count_of text.now }
+    ensures value { result ≡ Numbers.count_of text.now }
+    ensures within { IfSome result (λ count. (1 ≤ count) × (count ≤ 200000)) }
 {
     number_within(1, MOST_GENERATED, text)
 }
@@ -36,7 +38,8 @@ pub fn seed_of(text: &[u8]) -> Option<u64>
 
 /// How many workers a word `--workers=N` asks for: None exactly where it is no such word. Takes no memory.
 pub fn workers_word(word: &[u8]) -> Option<u64>
-    ensures { result ≡ Numbers.workers_word word.now }
+    ensures value { result ≡ Numbers.workers_word word.now }
+    ensures within { IfSome result (λ workers. (1 ≤ workers) × (workers ≤ 64)) }
 {
     workers_of(option_text(b"--workers=", word)?)
 }
@@ -50,7 +53,8 @@ pub fn option_text<'a>(name: &[u8], word: &'a [u8]) -> Option<&'a [u8]>
 
 /// The number of the text: None exactly where the text is no number from `least` to `most`. Takes no memory.
 pub fn number_within(least: u64, most: u64, text: &[u8]) -> Option<u64>
-    ensures { result ≡ Numbers.number_within least most text.now }
+    ensures value { result ≡ Numbers.number_within least most text.now }
+    ensures within { IfSome result (λ number. (least ≤ number) × (number ≤ most)) }
 {
     if !is_number(text) {
         return None;

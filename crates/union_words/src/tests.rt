@@ -8,16 +8,17 @@ use crate::number::{count_of, seed_of, workers_of, workers_word};
 use crate::script_line::ScriptLine;
 use crate::status::Status;
 use crate::texts::{help_text, version_text};
+use crate::workers::Workers;
 use std::alloc::{AllocError, Global};
 use std::test::Fail;
 use union_base::bytes::Bytes;
 use union_base::library_code::LibraryCode;
 use union_base::memory::Memory;
 
-/// The words of a line, between blanks.
-fn words(alloc: Global, line: &[u8]) -> Result<Vec<Bytes>, Memory> {
+/// The words of a text, between bytes of that kind.
+fn words_between(alloc: Global, text: &[u8], byte: u8) -> Result<Vec<Bytes>, Memory> {
     let mut words = Vec::new(alloc);
-    for word in line.split(|b| *b == b' ') {
+    for word in text.split(|b| *b == byte) {
         if !word.is_empty() {
             words.push(Bytes::of(alloc, word)?)?;
         }
@@ -39,6 +40,17 @@ fn tell_libraries(text: &mut Vec<u8>, libraries: &Libraries<'_>) -> Result<(), A
     Ok(())
 }
 
+/// A command and its number of workers, which is one of 1, 4 and 64.
+fn tell_command(text: &mut Vec<u8>, command: &[u8], workers: &Workers) -> Result<(), AllocError> {
+    text.extend_from_slice(command)?;
+    text.extend_from_slice(match workers.number() {
+        1 => b"1".as_slice(),
+        4 => b"4".as_slice(),
+        64 => b"64".as_slice(),
+        _ => b"other".as_slice(),
+    })
+}
+
 /// A job as a text, with a blank before each library and each path.
 fn told(alloc: Global, job: &Option<Job<'_>>) -> Result<Vec<u8>, AllocError> {
     let mut text = Vec::new(alloc);
@@ -50,17 +62,31 @@ fn told(alloc: Global, job: &Option<Job<'_>>) -> Result<Vec<u8>, AllocError> {
             text.extend_from_slice(b"check")?;
             tell_file(&mut text, file)?;
         }
-        Some(Job::Export(libraries)) => {
-            text.extend_from_slice(b"export")?;
+        Some(Job::Export(workers, libraries)) => {
+            tell_command(&mut text, b"export ", workers)?;
             tell_libraries(&mut text, libraries)?;
         }
-        Some(Job::Works(libraries)) => {
-            text.extend_from_slice(b"works")?;
+        Some(Job::Works(workers, libraries)) => {
+            tell_command(&mut text, b"works ", workers)?;
+            tell_libraries(&mut text, libraries)?;
+        }
+        Some(Job::Watch(asks, workers, libraries)) => {
+            tell_command(&mut text, b"watch ", workers)?;
+            text.extend_from_slice(b" ")?;
+            text.extend_from_slice(asks)?;
             tell_libraries(&mut text, libraries)?;
         }
         Some(Job::Script(path)) => {
             text.extend_from_slice(b"script ")?;
             text.extend_from_slice(path)?;
+        }
+        Some(Job::Trial(trial)) => {
+            tell_command(&mut text, b"trial ", &trial.workers())?;
+            text.extend_from_slice(match (trial.seed(), trial.count()) {
+                (0, 1) => b" least".as_slice(),
+                (u64::MAX, 200_000) => b" most".as_slice(),
+                _ => b" other".as_slice(),
+            })?;
         }
     }
     Ok(text)
@@ -68,21 +94,30 @@ fn told(alloc: Global, job: &Option<Job<'_>>) -> Result<Vec<u8>, AllocError> {
 
 /// Whether the words of the line ask for this.
 fn asks(alloc: Global, line: &[u8], most: usize, want: &[u8]) -> Result<bool, Fail> {
-    let words = words(alloc, line)?;
+    let words = words_between(alloc, line, b' ')?;
     let text = told(alloc, &Job::read(words.as_slice(), most))?;
     Ok(text.as_slice() == want)
 }
 
 /// Lines of words, and what each asks for where up to 64 libraries may stand.
-const FORMS: [(&[u8], &[u8]); 10] = [
+const FORMS: [(&[u8], &[u8]); 16] = [
     (b"check LIBA=a", b"check LIBA a"),
-    (b"export LIBA=a", b"export LIBA a"),
-    (b"export LIBA=a LIBB=a", b"export LIBA a LIBB a"),
-    (b"export B=x A=y C=x", b"export B x A y C x"),
-    (b"export LIBA=a=b=", b"export LIBA a=b="),
+    (b"export LIBA=a", b"export 4 LIBA a"),
+    (b"export LIBA=a LIBB=a", b"export 4 LIBA a LIBB a"),
+    (b"export B=x A=y C=x", b"export 4 B x A y C x"),
+    (b"export LIBA=a=b=", b"export 4 LIBA a=b="),
     (b"check 7=\xC3\xA4", b"check 7 \xC3\xA4"),
-    (b"works LIBA=a LIBB=a", b"works LIBA a LIBB a"),
+    (b"export --workers=64 LIBA=a", b"export 64 LIBA a"),
+    (b"works --workers=1 LIBA=a LIBB=a", b"works 1 LIBA a LIBB a"),
+    (b"works LIBA=a LIBB=a", b"works 4 LIBA a LIBB a"),
+    (b"watch --ask=q LIBA=a", b"watch 4 q LIBA a"),
+    (
+        b"watch --ask=--ask= --workers=1 LIBA=a LIBB=b",
+        b"watch 1 --ask= LIBA a LIBB b",
+    ),
     (b"script s.txt", b"script s.txt"),
+    (b"trial 0 1 1", b"trial 1 least"),
+    (b"trial 18446744073709551615 200000 64", b"trial 64 most"),
     (b"--help", b"help"),
     (b"--version", b"version"),
 ];
@@ -107,7 +142,11 @@ const NO_FORMS: [&[u8]; 15] = [
 ];
 
 /// More of them.
-const NEITHER: [&[u8]; 6] = [
+const NEITHER: [&[u8]; 10] = [
+    b"export --workers=65 LIBA=a",
+    b"export LIBA=a --workers=2",
+    b"export --workers=2",
+    b"works --workers=2 --workers=2 LIBA=a",
     b"export =a",
     b"export LIBA=\xFF",
     b"EXPORT LIBA=a",
@@ -115,6 +154,65 @@ const NEITHER: [&[u8]; 6] = [
     b"\xFF",
     b"export LIBA=a check",
 ];
+
+/// Words in no form, each in a line of its own: of workers and of files of questions.
+const USAGE: [&[u8]; 24] = [
+    b"export\n--ask=q.txt\nLIBA=a.mrc",
+    b"export\nLIBA=a.mrc\n--workers=2",
+    b"export\n--workers=2",
+    b"export\nLIBA=\xFF.mrc",
+    b"script\n--workers=1\nq.txt",
+    b"export\n--workers=2\n--workers=2\nLIBA=a.mrc",
+    b"export\n--workers\n2\nLIBA=a.mrc",
+    b"watch",
+    b"watch\n--ask=\nLIBA=a.mrc",
+    b"watch\n--workers=1\nLIBA=a.mrc",
+    b"watch\n--ask=q.txt",
+    b"watch\n--workers=1\n--ask=q.txt\nLIBA=a.mrc",
+    b"watch\n--ask=\xFF\nLIBA=a.mrc",
+    b"watch\n--ask=q.txt\n--ask=q.txt\nLIBA=a.mrc",
+    b"export\n--workers= 1\nLIBA=a.mrc\nLIBB=b.mrc\nLIBC=c.mrc",
+    b"export\n--workers=\nLIBA=a.mrc\nLIBB=b.mrc\nLIBC=c.mrc",
+    b"export\n--workers=18446744073709551617\nLIBA=a.mrc\nLIBB=b.mrc\nLIBC=c.mrc",
+    b"export\n--workers=01\nLIBA=a.mrc\nLIBB=b.mrc\nLIBC=c.mrc",
+    b"export\n--workers=x\nLIBA=a.mrc\nLIBB=b.mrc\nLIBC=c.mrc",
+    b"export\n--workers=-1\nLIBA=a.mrc\nLIBB=b.mrc\nLIBC=c.mrc",
+    b"export\n--workers=65\nLIBA=a.mrc\nLIBB=b.mrc\nLIBC=c.mrc",
+    b"export\n--workers=+1\nLIBA=a.mrc\nLIBB=b.mrc\nLIBC=c.mrc",
+    b"export\n--workers=1.0\nLIBA=a.mrc\nLIBB=b.mrc\nLIBC=c.mrc",
+    b"export\n--workers=0\nLIBA=a.mrc\nLIBB=b.mrc\nLIBC=c.mrc",
+];
+
+/// The words behind `trial`, where they are in no form.
+const NO_TRIALS: [&[u8]; 14] = [
+    b"trial",
+    b"trial\n0\n1",
+    b"trial\n0\n1\n1\n1",
+    b"trial\n18446744073709551616\n1\n1",
+    b"trial\n00\n1\n1",
+    b"trial\n+1\n1\n1",
+    b"trial\nx\n1\n1",
+    b"trial\n0\n0\n1",
+    b"trial\n0\n200001\n1",
+    b"trial\n0\n01\n1",
+    b"trial\n0\n1\n0",
+    b"trial\n0\n1\n65",
+    b"trial\n0\n1\n01",
+    b"trial\n0\n1\n--workers=1",
+];
+
+#[test]
+fn words_in_the_wrong_place_are_in_no_form(rt: HostRuntime) -> Result<(), Fail> {
+    for text in USAGE {
+        let words = words_between(rt.alloc(), text, b'\n')?;
+        assert!(rt; Job::read(words.as_slice(), 64).is_none());
+    }
+    for text in NO_TRIALS {
+        let words = words_between(rt.alloc(), text, b'\n')?;
+        assert!(rt; Job::read(words.as_slice(), 64).is_none());
+    }
+    Ok(())
+}
 
 #[test]
 fn words_are_read(rt: HostRuntime) -> Result<(), Fail> {
@@ -127,7 +225,7 @@ fn words_are_read(rt: HostRuntime) -> Result<(), Fail> {
     for line in NEITHER {
         assert!(rt; asks(rt.alloc(), line, 64, b"none")?);
     }
-    assert!(rt; asks(rt.alloc(), b"export LIBA=a", 1, b"export LIBA a")?);
+    assert!(rt; asks(rt.alloc(), b"export LIBA=a", 1, b"export 4 LIBA a")?);
     assert!(rt; asks(rt.alloc(), b"export LIBA=a LIBB=b", 1, b"none")?);
     Ok(())
 }
@@ -147,7 +245,7 @@ fn sixty_four_libraries_at_most(rt: HostRuntime) -> Result<(), Fail> {
     let full = many(rt.alloc(), 64)?;
     let over = many(rt.alloc(), 65)?;
     match Job::read(full.as_slice(), 64) {
-        Some(Job::Export(libraries)) => assert_eq!(rt; libraries.len(), 64),
+        Some(Job::Export(_, libraries)) => assert_eq!(rt; libraries.len(), 64),
         _ => assert!(rt; false),
     }
     assert!(rt; Job::read(over.as_slice(), 64).is_none());

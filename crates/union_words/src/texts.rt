@@ -15,22 +15,36 @@ to questions.
 
 USAGE
     union check LIB=PATH         say which records of the file break a rule
-    union export LIB=PATH ..     load the files and export the union catalogue
-    union works LIB=PATH ..      load the files and list the works
+    union export [--workers=N] LIB=PATH ..
+                                 load the files and export the union catalogue
+    union works [--workers=N] LIB=PATH ..
+                                 load the files and list the works
+    union watch --ask=PATH [--workers=N] LIB=PATH ..
+                                 load the files, and answer the questions of a
+                                 file beside
     union script PATH            run a script
+    union trial SEED COUNT WORKERS
+                                 generate COUNT records, load them and measure
+                                 the catalogue
     union --help                 show this help
     union --version              show the program's name and version
 
     LIB is the library's code, 1 to 16 of A-Z and 0-9. PATH is the path of its
     file, at least one byte and UTF-8: all that stands behind the first '='.
-    export and works take 1 to 64 libraries, each under a code of its own.
+    export, works and watch take 1 to 64 libraries, each under a code of its
+    own. N workers load them at once, 1 to 64: without the option there are 4.
     A record of status d withdraws the library's record with its control
     number; any other is loaded, in place of an earlier one.
+    SEED is 0 to 18446744073709551615, COUNT 1 to 200000 and WORKERS 1 to 64,
+    in decimal digits without sign and without leading zero.
 
 SCRIPT
     load LIB PATH                load the file on top of what was loaded
     export                       write the export of the catalogue
     works                        write the list of works
+    Any other line is a question. Lines are run one by one.
+
+QUESTIONS
     id LIB CTL                   the edition that has this record
     isbn X                       the editions with this ISBN
     control (S)N                 the editions with this control number
@@ -39,9 +53,9 @@ SCRIPT
     holdings LIB CTL             who holds the edition of this record
     count                        how many editions, works and records there are
 
-    Lines are run one by one. Empty lines and lines that begin with '#' are
-    passed over. A line in no such form writes 'refused unknown' or 'refused
-    word'.
+    A file of questions has one on each line. In it and in a script empty lines
+    and lines that begin with '#' are passed over. A line in no such form writes
+    'refused unknown' or 'refused word'.
 
 WHAT GOES WHERE
     check     Standard output has a line 'LIB refused FRAME RULE PLACE' for each
@@ -58,8 +72,21 @@ WHAT GOES WHERE
     works     Standard output has for each work a line 'work KEY', then for each
               of its editions a blank and LIB.CTL. Standard error is as with
               export, without the 'left' lines.
+    watch     Standard output has for each batch of records, in the order in
+              which they were loaded, a line 'turn T LIB N': the turn's number,
+              the library, and how many records it loads or withdraws. Behind
+              these it has for each question, in the order of the file, a line
+              'reply T LINE' and the answer over the first T turns. The last
+              question is asked when all is loaded, and with one worker so is
+              each; the others are asked meanwhile.
+              Standard error is as with works.
     script    Standard output has what each line writes: a load its report, a
               question its answer. Standard error has nothing.
+    trial     Standard output has one line
+              'frames F records R editions E works W bytes B': how many records
+              were generated, how many of them are current, how many editions
+              and works they make, and how many bytes the export has. It is the
+              same for any WORKERS. Standard error has nothing.
     --help and --version write to standard output alone.
 
     With status 2, 3, 4, 6 or 7 standard error has one line that says why,
@@ -74,7 +101,7 @@ EXIT STATUS
     4    read failed: a file could not be read to its end
     5    write failed: an output has a part of its text at most
     6    too long: a file has more than 1,099,511,627,776 bytes, or a script
-         more than 1,048,576
+         or a file of questions more than 1,048,576
     7    out of memory
 
 EXAMPLES
@@ -82,8 +109,12 @@ EXAMPLES
         union check LIBA=liba.mrc
     The union catalogue of two libraries, and their reports, in two files:
         union export LIBA=liba.mrc LIBB=libb.mrc > union.mrc 2> report.txt
+    Questions that are answered while two libraries are loaded:
+        union watch --ask=questions.txt LIBA=liba.mrc LIBB=libb.mrc
     What a night's script comes to:
         union script night.txt
+    The measures of a catalogue of 20000 generated records:
+        union trial 7 20000 4
     This help, a page at a time:
         union --help | less
     Which version this is:

@@ -1,8 +1,4 @@
-pub mod Places
+mod IdLists
 pub mod Reading
-pub mod IdLists
-pub mod StepLaws
-pub mod Installing
-pub mod RoomLaws
-pub mod Merging
-pub mod KeyLaws
+pub mod Writing
+pub mod Steps

@@ -4,17 +4,14 @@
 //! order, each list of ids in order and without repeats (specs/Works.antt). A change is planned, its room is made, and
 //! then it is installed, which takes no memory and can't be refused.
 //!
-//! Cost: a key is found by binary search among entries in order. A change takes such a search for each of its pairs, and
-//! one pass over all entries; where it brings new keys, they are sorted in by one pass more. A count is one pass.
+//! Cost: a key is found in a tree, in steps by the logarithm of the number of keys. A change takes some such searches for
+//! each of its pairs, and nothing else of the works is looked at; a count is read. Where memory ran out while room was made,
+//! keys without ids may be left in the tree, which count as absent: a walk passes over them, and a pair that comes fills them.
 #![tactic(auto)]
 
 pub mod change;
 mod ids;
-mod keys;
 pub mod laws;
-mod rooms;
-mod search;
-mod steps;
 #[cfg(test)]
 mod tests;
 mod work;

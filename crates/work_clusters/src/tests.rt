@@ -37,7 +37,7 @@ fn shown(alloc: Global, works: &Works) -> Result<Vec<u8>, Fail> {
     for _ in 0..works.count() {
         key = works.after(key);
         if let Some(key) = key {
-            for id in works.editions_of(key.bytes()) {
+            for id in works.editions_of(key) {
                 text.extend_from_slice(key.bytes())?;
                 text.push(b'=')?;
                 text.extend_from_slice(id.library.bytes())?;
@@ -83,14 +83,18 @@ fn works_after_each_turn(rt: HostRuntime) -> Result<(), Fail> {
         assert_eq!(rt; shown(alloc, &works)?.as_slice(), after.as_bytes());
     }
     assert_eq!(rt; works.count(), 2);
-    assert!(rt; works.editions_of(b"hill, ann/red ship").is_empty());
+    let absent = Bytes::of(alloc, b"hill, ann/red ship")?;
+    assert!(rt; works.editions_of(&absent).is_empty());
     Ok(())
 }
 
 #[test]
-fn no_works(rt: HostRuntime) {
+fn no_works(rt: HostRuntime) -> Result<(), Fail> {
     let works = Works::empty(rt.alloc());
+    let key = Bytes::of(rt.alloc(), b"")?;
     assert_eq!(rt; works.count(), 0);
     assert!(rt; works.after(None).is_none());
-    assert!(rt; works.editions_of(b"").is_empty());
+    assert!(rt; works.after(Some(&key)).is_none());
+    assert!(rt; works.editions_of(&key).is_empty());
+    Ok(())
 }

@@ -1,27 +1,31 @@
 //! The works of a catalogue.
-ghost use Rattle.std.specs.Prelude.{◌≡◌, [], Ok, length, OnOk};
-ghost use Rattle.std.specs.Option.{option_copied};
-ghost use Rattle.work_clusters.specs.Works.{ids_under, key_after, changed};
-ghost use Rattle.work_clusters.specs.Room.{HasRoom};
+ghost use Rattle.std.specs.Prelude.{◌≡◌, ◌+◌, ◌<◌, ◌≤◌, [], ◌∷◌, ℕ, List, Ok, length, find, OnOk, if◌then◌else◌};
+ghost use Rattle.std.specs.Option.{option_copied, option_map};
+ghost use Rattle.work_clusters.specs.Works.{is_key, ids_under, key_after, changed};
+ghost use Rattle.work_clusters.specs.WorksLaws.{some, AreWorks};
+ghost use Rattle.work_clusters.specs.Room.{HasRoom, room_under};
+ghost use Rattle.work_clusters.specs.Steps.{TakesOut, PutsIn};
 
 use crate::change::WorkChange;
-use crate::keys::add_keys;
-use crate::rooms::make_places;
-use crate::search::{count_kept, first_kept, place, place_after};
-use crate::steps::exchange;
 use crate::work::Work;
 use std::alloc::Global;
+use std::collections::BTreeMap;
+use std::collections::btree_map::Range;
 use std::marker::Model;
+use std::ops::Bound;
 use union_base::bytes::Bytes;
+use union_base::copied::Copied;
 use union_base::memory::Memory;
 use union_base::record_id::RecordId;
 use union_base::sequence::Sequence;
 
 /// A finite map from work keys to lists of ids that are not empty. Contracts see its works in the order of their keys, and
-/// beside them the room that was made under each key.
+/// beside them the room that was made under each key. A row without ids has room alone, and its key counts as absent; the rows
+/// that have ids are counted.
 #[derive(Drop)]
 pub struct Works {
-    entries: Vec<Work>,
+    rows: BTreeMap<Bytes, Work>,
+    filled: u64,
 }
 
 impl Model for Works {
@@ -29,11 +33,11 @@ impl Model for Works {
 
     ghost Value = { WorkMap };
 
-    ghost use Rattle.work_clusters.specs.Entries.{works_in, room_in, AreEntries};
+    ghost use Rattle.work_clusters.specs.Entries.{works_in, room_in, AreCounted};
 
-    ghost view = { λ w. record { works = works_in w.entries.items; room = room_in w.entries.items } };
+    ghost view = { λ w. record { works = works_in w.rows.entries; room = room_in w.rows.entries } };
 
-    ghost invariant = { λ w. AreEntries w.entries.items };
+    ghost invariant = { λ w. AreCounted w.rows.entries w.filled };
 }
 
 impl Works {
@@ -42,17 +46,18 @@ impl Works {
         ensures { result.works ≡ [] }
     {
         Works {
-            entries: Vec::new(alloc),
+            rows: BTreeMap::new(alloc),
+            filled: 0,
         }
     }
 
     /// The ids under the key, in ascending order: none where the key is absent. Takes no memory.
-    pub fn editions_of(&self, key: &[u8]) -> &[RecordId]
+    pub fn editions_of(&self, key: &Bytes) -> &[RecordId]
         ensures { result.now ≡ ids_under self.now.works key.now }
     {
-        match place(self.entries.as_slice(), key) {
-            Ok(at) => self.entries[at].editions.as_slice(),
-            Err(_) => &[],
+        match self.rows.get(key) {
+            Some(work) => work.ids(),
+            None => &[],
         }
     }
 
@@ -60,19 +65,18 @@ impl Works {
     pub fn count(&self) -> u64
         ensures { result ≡ length self.now.works }
     {
-        count_kept(self.entries.as_slice()) as u64
+        self.filled
     }
 
     /// The least key that is greater than the given one, or the least of all where none is given. Takes no memory.
     pub fn after(&self, key: Option<&Bytes>) -> Option<&Bytes>
         ensures { option_copied result ≡ key_after self.now.works (option_copied key.entry) }
     {
-        let start = place_after(self.entries.as_slice(), key);
-        let (_, rest) = self.entries.as_slice().split_at(start);
-        match first_kept(rest) {
-            Some(work) => Some(&work.key),
-            None => None,
-        }
+        let start = match key {
+            Some(key) => Bound::Excluded(key),
+            None => Bound::Unbounded,
+        };
+        first_filled(self.rows.range((start, Bound::Unbounded)))
     }
 
     /// The change in which the gone pairs leave, and then the come pairs enter. Any pairs make a change: a gone pair that is
@@ -96,9 +100,25 @@ impl Works {
         ensures works { self.new.works ≡ self.old.works }
         ensures room { OnOk result (HasRoom self.new.room change.now.come) }
     {
-        let come = change.come.as_slice();
-        add_keys(alloc, &mut self.entries, come)?;
-        make_places(self.entries.as_mut_slice(), come)
+        for (key, _) in change.come.as_slice() {
+            self.make_place(alloc, key)?;
+        }
+        Ok(())
+    }
+
+    /// Makes room for one id more under the key. The works stay, whatever the answer.
+    fn make_place(&mut self, alloc: Global, key: &Bytes) -> Result<(), Memory>
+        ensures works { self.new.works ≡ self.old.works }
+        ensures room { OnOk result ((q : List ℕ) → room_under self.old.room q + (if is_key q key.now then 1 else 0) ≤ room_under self.new.room q) }
+    {
+        match self.rows.get_mut(key) {
+            Some(work) => work.make_room(),
+            None => {
+                let work = Work::with_room(alloc)?;
+                self.rows.insert(key.copied(alloc)?, work)?;
+                Ok(())
+            }
+        }
     }
 
     /// The gone pairs leave, then the come pairs enter, for which there is room. Takes no memory.
@@ -107,8 +127,87 @@ impl Works {
         ensures { self.new.works ≡ changed self.old.works change.gone change.come }
     {
         let WorkChange { gone, come } = change;
-        let come = come.into_vec();
-        exchange(self.entries.as_mut_slice(), gone.as_slice(), come);
-        self.entries.retain(|work| work.has_editions());
+        self.take_out(gone.as_slice());
+        self.put_in(come.into_vec());
+        self.drop_empty(gone.as_slice());
+    }
+
+    /// The gone pairs leave. Where nothing is, nothing is looked for.
+    fn take_out(&mut self, gone: &[(Bytes, RecordId)])
+        ensures well { AreWorks self.old.works }
+        ensures taken { TakesOut self.old self.new gone.now }
+    {
+        if self.filled == 0 {
+            return;
+        }
+        for (key, id) in gone {
+            self.take_out_one(key, id);
+        }
+    }
+
+    fn take_out_one(&mut self, key: &Bytes, id: &RecordId)
+        ensures { TakesOut self.old self.new ((key.now, id.now) ∷ []) }
+    {
+        if let Some(work) = self.rows.get_mut(key) {
+            if work.leave(id) {
+                self.filled -= 1;
+            }
+        }
+    }
+
+    fn put_in(&mut self, come: Vec<(Bytes, RecordId)>)
+        requires { HasRoom self.old.room come.items }
+        ensures { PutsIn self.old self.new come.items }
+    {
+        for (key, id) in come {
+            self.put_in_one(&key, id);
+        }
+    }
+
+    fn put_in_one(&mut self, key: &Bytes, id: RecordId)
+        requires { 0 < room_under self.old.room key.now }
+        ensures { PutsIn self.old self.new ((key.now, id) ∷ []) }
+    {
+        // A count of rows is below 2^63, and so is that of those with ids.
+        let _rows = self.rows.len();
+        if let Some(work) = self.rows.get_mut(key) {
+            if work.enter(id) {
+                self.filled += 1;
+            }
+        }
+    }
+
+    /// Rows under the pairs' keys that have no ids are given up. The works stay. Where each row has ids, nothing is looked for.
+    fn drop_empty(&mut self, gone: &[(Bytes, RecordId)])
+        ensures well { AreWorks self.new.works }
+        ensures same { self.new.works ≡ self.old.works }
+    {
+        if self.filled == self.rows.len() as u64 {
+            return;
+        }
+        for (key, _) in gone {
+            self.drop_empty_one(key);
+        }
+    }
+
+    fn drop_empty_one(&mut self, key: &Bytes)
+        ensures { self.new.works ≡ self.old.works }
+    {
+        if let Some(work) = self.rows.get(key) {
+            if !work.has_editions() {
+                let _dropped = self.rows.remove(key);
+            }
+        }
+    }
+}
+
+/// The key of the first of the rows that has ids. Takes no memory.
+fn first_filled<'a>(rows: Range<'a, Bytes, Work>) -> Option<&'a Bytes>
+    ensures { option_copied result ≡ option_map (λ row. row.0) (find (λ row. some row.1.ids) rows.entry) }
+{
+    let mut rows = rows;
+    match rows.find(|(_, work)| work.has_editions()) {
+        Some((key, _)) => Some(key),
+        None => None,
     }
 }

@@ -2,13 +2,16 @@ use Rattle.std.proofs.Common.{◌++◌, ◌∷◌, [], length, ap, ◌∙◌}
 use Rattle.catalogue_core.proofs.SameEditions.{same_editions_of}
 use Rattle.catalogue_query.specs.Answers.{work_keys}
 use Rattle.catalogue_query.specs.Lines.{count_line}
+use Rattle.catalogue_query.proofs.WorkLaws.{length-works}
 use Rattle.catalogue_query.proofs.answering.count_lines.Goals as goal
 
 pub returns : goal.returns
 returns c =
     let counted = c.edition_count-editions.ensures in
-    let keyed = c.in_ok-works.ensures in
-    let works = keyed.2 ∙ ap (λ all. length (work_keys all)) (same_editions_of c.args.catalogue.now keyed.0 counted.0 keyed.1 counted.1) in
+    let listing = c.works.ensures in
+    let works =
+    c.count-works.ensures ∙ ap length listing.2 ∙ length-works listing.0
+    ∙ ap (λ all. length (work_keys all)) (same_editions_of c.args.catalogue.now listing.0 counted.0 listing.1 counted.1) in
     let records = c.record_count-records.ensures in (
       counted.0,
       counted.1,

@@ -3,7 +3,6 @@ use Rattle.std.specs.List.{flat_map}
 use Rattle.catalogue_export.specs.Editions.{export_text, left_of}
 use Rattle.union_reports.specs.Reports.{left_line, left_lines}
 use Rattle.union_words.specs.Statuses.{end_by}
-use Rattle.union_program.specs.Runs.{IsReported}
 use Rattle.union_program.proofs.RunLaws.{shown-whole, shown-failed, shown-memory}
 use Rattle.union_program.proofs.writing.write_export.Goals as goal
 

@@ -10,8 +10,8 @@ pub returns-in-Ok : goal.returns-in-Ok
 returns-in-Ok g c =
     let files = g.F.Shelf.files c.args.shelf.now in
     let out = outflow (g.O.Sink.written c.args.out.now) (g.O.Sink.written c.run_text.new.out) (g.O.Sink.faults c.args.out.now) (g.O.Sink.faults c.run_text.new.out) in
-    let now_told = g.F.Shelf.files c.read_script.new.shelf in
-    let b = g.F.Shelf.faults c.read_script.new.shelf in
+    let now_told = g.F.Shelf.files c.read_text_file.new.shelf in
+    let b = g.F.Shelf.faults c.read_text_file.new.shelf in
     let d = g.F.Shelf.faults c.run_text.new.shelf in
     record {
       run =

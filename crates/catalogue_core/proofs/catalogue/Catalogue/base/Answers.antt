@@ -1,16 +1,27 @@
-use Rattle.std.proofs.Common.{ap, ◌∙◌}
-use Rattle.std.specs.Option.{option_and_then}
+use Rattle.std.proofs.Common.{◌≡◌, sym, ap, ◌∙◌}
+use Rattle.std.specs.Prelude.{Option, Some, None}
+use Rattle.std.specs.Option.{option_map, option_and_then, option_copied}
 use Rattle.catalogue_core.specs.Histories.{at_id, current}
 use Rattle.catalogue_core.specs.Keeping.{batches, loaded_at}
-use Rattle.catalogue_core.proofs.Looking.{base-kept}
+use Rattle.catalogue_core.specs.declared.history_entry.HistoryEntry.{HistoryEntry}
+use Rattle.catalogue_core.specs.declared.home.Home.{Home}
+use Rattle.catalogue_core.proofs.NamedLaws.{base-is}
 use Rattle.catalogue_core.proofs.catalogue.Catalogue.base.Goals as goal
 
-pub returns : goal.returns
-returns c =
+pub returns-in-Some : goal.returns-in-Some
+returns-in-Some c =
+    let x = c.self.inside in
     let id = c.args.id.now in
-    let history = c.self.inside.history.items in
-    let places = c.self.inside.places.entries in
-    c.base_in.ensures
-    ∙ ap (λ turns. option_and_then (loaded_at (batches turns)) (at_id places id)) c.deref.ensures.value
-    ∙ base-kept (batches history) places (current history) c.self.invariant.current id
-    ∙ ap (λ turns. at_id (current turns) id) c.self.view_is
+    let home = c.in-Some.home.now in
+    let at : at_id x.homes.entries id ≡ Some home = sym c.get.ensures.value ∙ ap option_copied c.in-Some.is in
+    c.loaded_at.ensures ∙ ap (λ turns. loaded_at (batches turns) home.place) c.deref.ensures.value
+    ∙ ap (λ o. option_and_then (loaded_at (batches x.history.items)) (option_map (λ (h : Home). h.place) o)) (sym at)
+    ∙ base-is x.history.items x.homes.entries x.blocks.blocks x.works.works c.self.invariant id ∙ ap (λ turns. at_id (current turns) id) c.self.view_is
+
+pub returns-in-None : goal.returns-in-None
+returns-in-None c =
+    let x = c.self.inside in
+    let id = c.args.id.now in
+    let at : at_id x.homes.entries id ≡ None = sym c.get.ensures.value ∙ ap option_copied c.in-None.is in
+    ap (λ o. option_and_then (loaded_at (batches x.history.items)) (option_map (λ (h : Home). h.place) o)) (sym at)
+    ∙ base-is x.history.items x.homes.entries x.blocks.blocks x.works.works c.self.invariant id ∙ ap (λ turns. at_id (current turns) id) c.self.view_is

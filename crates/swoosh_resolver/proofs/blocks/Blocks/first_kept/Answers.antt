@@ -11,7 +11,7 @@ returns-in-Some-clause-cost g c =
     let look : IsLook g.R.Resolvable.has_key c.args.self.now.blocks value keys c.deref-number-items.result.now = record {
       keyed = subst (λ v. AreKeys g.R.Resolvable.has_key v keys) (ap (λ (e : Entry g.row.R.Denot g.row.R-Key.Denot). e.value) c.value.view_is) c.value.invariant;
       ascending = rw items c.in_ok-numbers.ensures.ascending;
-      members = rw (items, ← c.as_slice.ensures.value) c.in_ok-numbers.ensures.members;
+      members = rw (items, ← c.as_slice.ensures.value, ← c.self.view_is) (c.in_ok-numbers.ensures.members c.self.inside.blocks.items c.self.invariant.posted);
     } in
     let i = c.loop-number.number-index in
     paid-all g.met.R.Resolvable.key_laws c.args.self.now.blocks c.args.closed.now value keys c.deref-number-items.result.now look c.args.steps.now c.kept_match.new.steps (i + 1)
@@ -25,7 +25,7 @@ loop-number-preserved g c =
     let look : IsLook g.R.Resolvable.has_key c.args.self.now.blocks value keys c.deref-number-items.result.now = record {
       keyed = subst (λ v. AreKeys g.R.Resolvable.has_key v keys) (ap (λ (e : Entry g.row.R.Denot g.row.R-Key.Denot). e.value) c.value.view_is) c.value.invariant;
       ascending = rw items c.in_ok-numbers.ensures.ascending;
-      members = rw (items, ← c.as_slice.ensures.value) c.in_ok-numbers.ensures.members;
+      members = rw (items, ← c.as_slice.ensures.value, ← c.self.view_is) (c.in_ok-numbers.ensures.members c.self.inside.blocks.items c.self.invariant.posted);
     } in
     let i = c.loop-number.number-index in
     record {
@@ -41,7 +41,7 @@ returns-clause-none g c =
     let look : IsLook g.R.Resolvable.has_key c.args.self.now.blocks value keys c.deref-number-items.result.now = record {
       keyed = subst (λ v. AreKeys g.R.Resolvable.has_key v keys) (ap (λ (e : Entry g.row.R.Denot g.row.R-Key.Denot). e.value) c.value.view_is) c.value.invariant;
       ascending = rw items c.in_ok-numbers.ensures.ascending;
-      members = rw (items, ← c.as_slice.ensures.value) c.in_ok-numbers.ensures.members;
+      members = rw (items, ← c.as_slice.ensures.value, ← c.self.view_is) (c.in_ok-numbers.ensures.members c.self.inside.blocks.items c.self.invariant.posted);
     } in
     none-matches g.met.R.Resolvable.key_laws c.args.self.now.blocks c.args.closed.now value keys c.deref-number-items.result.now look c.loop-number.number-index (omega arith) c.loop-number.invariant.none
 
@@ -53,6 +53,6 @@ returns-clause-cost g c =
     let look : IsLook g.R.Resolvable.has_key c.args.self.now.blocks value keys c.deref-number-items.result.now = record {
       keyed = subst (λ v. AreKeys g.R.Resolvable.has_key v keys) (ap (λ (e : Entry g.row.R.Denot g.row.R-Key.Denot). e.value) c.value.view_is) c.value.invariant;
       ascending = rw items c.in_ok-numbers.ensures.ascending;
-      members = rw (items, ← c.as_slice.ensures.value) c.in_ok-numbers.ensures.members;
+      members = rw (items, ← c.as_slice.ensures.value, ← c.self.view_is) (c.in_ok-numbers.ensures.members c.self.inside.blocks.items c.self.invariant.posted);
     } in
     paid-all g.met.R.Resolvable.key_laws c.args.self.now.blocks c.args.closed.now value keys c.deref-number-items.result.now look c.args.steps.now c.loop-number.steps c.loop-number.number-index c.loop-number.invariant.cost

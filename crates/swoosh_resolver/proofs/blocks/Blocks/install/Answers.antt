@@ -1,14 +1,29 @@
-use Rattle.std.proofs.Common.{◌≡◌, ◌++◌, length, ◌∙◌, ap, arith}
+use Rattle.std.proofs.Common.{◌≡◌, ◌++◌, length, length-append, ◌∙◌, ap, arith}
 use Rattle.std.specs.Prelude.{Contains}
 use Rattle.std.specs.List.Sorted.{IsPermutation}
-use Rattle.std.proofs.lemmas.List.Sorted.{IsPermutation-map}
+use Rattle.std.proofs.lemmas.List.Sorted.{IsPermutation-map, length_permutation}
 use Rattle.merge_laws.specs.Resolution.{DoNotMatch}
 use Rattle.merge_laws.proofs.Places.{AllPairs-permutation}
 use Rattle.swoosh_resolver.specs.Tables.{Entry, blocks_in, values_of}
 use Rattle.swoosh_resolver.specs.Changes.{AreOpened, Fits, view_of, without}
-use Rattle.swoosh_resolver.proofs.Places.{block-closed, length-without}
+use Rattle.swoosh_resolver.proofs.Places.{block-closed, count-closed, count-within, length-without}
 use Rattle.swoosh_resolver.proofs.Opening.{within-from_some, kept-number}
 use Rattle.swoosh_resolver.proofs.blocks.Blocks.install.Goals as goal
+
+pub overflow_sub-self : goal.overflow_sub-self
+overflow_sub-self g c =
+    let blocks = c.self.inside.blocks.items in
+    let closed = c.args.change.closed.items in
+    let fits : Fits g.R.Resolvable.meets blocks closed c.args.change.opened.items = rw (← c.self.view_is) at c.requires.fits in
+    let fewer = count-closed closed blocks fits.distinct fits.named in
+    omega (arith, c.self.invariant.counted, c.len.ensures)
+
+pub overflow_add-self : goal.overflow_add-self
+overflow_add-self g c =
+    let blocks = c.self.inside.blocks.items in
+    let room = (rw (← c.self.view_is) at c.requires.room).places in
+    let within = count-within blocks in
+    omega (arith, c.self.invariant.counted, c.len.ensures, c.len-2.ensures, c.self.inside.blocks.ok)
 
 pub open_all-requires-clause-free : goal.open_all-requires-clause-free
 open_all-requires-clause-free g c n there =
@@ -31,6 +46,7 @@ open_all-requires-clause-places g c =
     let n = ap length left in
     let m = ap length c.as_slice-2.ensures.value in
     let capacity = c.close_all.ensures.capacity in
+    let values = ap length c.into_values.ensures in
     omega (arith, c.self.inside.blocks.ok)
 
 pub invariant_of-self : goal.invariant_of-self
@@ -41,11 +57,18 @@ invariant_of-self g c =
     let opened = c.args.change.opened.items in
     let view : IsPermutation (view_of blocks closed opened) (values_of (blocks_in c.open_all.new.blocks.items)) =
     IsPermutation-map (λ (e : Entry g.row.R.Denot g.row.R-Key.Denot). e.value) (blocks_in (without blocks closed) ++ opened) (blocks_in c.open_all.new.blocks.items)
-    (rw left at c.open_all.ensures.view) in
+    (rw c.into_values.ensures at (rw left at c.open_all.ensures.view)) in
     let fits : Fits g.R.Resolvable.meets blocks closed opened = rw (← c.self.view_is) at c.requires.fits in
     record {
       apart = AllPairs-permutation (DoNotMatch g.R.Resolvable.meets) (λ x y h. (h.1, h.0)) (view_of blocks closed opened) (values_of (blocks_in c.open_all.new.blocks.items)) view fits.apart;
       posted = c.open_all.ensures.posted;
+      counted =
+          let fewer = count-closed closed blocks fits.distinct fits.named in
+          let before = c.self.invariant.counted in
+          let after = length_permutation (blocks_in c.close_all.new.blocks.items ++ opened) (blocks_in c.open_all.new.blocks.items) (rw c.into_values.ensures at c.open_all.ensures.view) in
+          let both = length-append (blocks_in c.close_all.new.blocks.items) opened in
+          let same = ap (λ b. length (blocks_in b)) left in
+          omega (arith, c.len.ensures, c.len-2.ensures);
     }
 
 pub returns-clause-view : goal.returns-clause-view
@@ -56,7 +79,7 @@ returns-clause-view g c =
     let opened = c.args.change.opened.items in
     let view : IsPermutation (view_of blocks closed opened) (values_of (blocks_in c.open_all.new.blocks.items)) =
     IsPermutation-map (λ (e : Entry g.row.R.Denot g.row.R-Key.Denot). e.value) (blocks_in (without blocks closed) ++ opened) (blocks_in c.open_all.new.blocks.items)
-    (rw left at c.open_all.ensures.view) in
+    (rw c.into_values.ensures at (rw left at c.open_all.ensures.view)) in
     rw (← c.self.view_is) view
 
 pub returns-clause-opened : goal.returns-clause-opened
@@ -67,7 +90,7 @@ returns-clause-opened g c =
     let same : length c.close_all.new.blocks.items ≡ length blocks = ap length left ∙ length-without closed blocks in
     let one = rw same at c.open_all.ensures.opened in
     let two = rw left at one in
-    let are : AreOpened (without blocks closed) closed (length blocks) c.args.change.opened.items c.open_all.new.blocks.items = rw c.as_slice-2.ensures.value at two in
+    let are : AreOpened (without blocks closed) closed (length blocks) c.args.change.opened.items c.open_all.new.blocks.items = rw (c.as_slice-2.ensures.value, c.into_values.ensures) at two in
     rw (← c.self.view_is) are
 
 pub returns-clause-kept : goal.returns-clause-kept
@@ -78,5 +101,5 @@ returns-clause-kept g c =
     let same : length c.close_all.new.blocks.items ≡ length blocks = ap length left ∙ length-without closed blocks in
     let one = rw same at c.open_all.ensures.opened in
     let two = rw left at one in
-    let are : AreOpened (without blocks closed) closed (length blocks) c.args.change.opened.items c.open_all.new.blocks.items = rw c.as_slice-2.ensures.value at two in
+    let are : AreOpened (without blocks closed) closed (length blocks) c.args.change.opened.items c.open_all.new.blocks.items = rw (c.as_slice-2.ensures.value, c.into_values.ensures) at two in
     rw (← c.self.view_is) (kept-number blocks closed c.args.change.opened.items c.open_all.new.blocks.items are)

@@ -22,32 +22,33 @@ returns-in-Some-clause-fits g c =
     let found : IsMatchAt g.R.Resolvable.meets (without blocks change.closed.items) c.args.value.now.value c.in-Some.number c.in-Some.block.now = rw (← c.as_slice.ensures.value) (rw c.in-Some.is at c.in_ok-number.ensures.found) in
     rw c.in_ok-push.ensures.items (fits-kept blocks change.closed.items change.opened.items c.requires c.in-Some.number found.by found.stands)
 
-pub returns-in_ok-joined-in-Some-first_fresh-clause-merged : goal.returns-in_ok-joined-in-Some-first_fresh-clause-merged
-returns-in_ok-joined-in-Some-first_fresh-clause-merged g c =
+pub returns-in_ok-joined-in-Some-2-clause-merged : goal.returns-in_ok-joined-in-Some-2-clause-merged
+returns-in_ok-joined-in-Some-2-clause-merged g c =
     let change = c.args.change.now in
-    let place = c.in-Some-first_fresh.place in
-    let other = c.swap_remove-other.result in
-    let within : place < length change.opened.items = rw c.as_slice-2.ensures.value at c.in-Some-first_fresh.ensures.within in
-    let found : IsTrue (g.R.Resolvable.meets c.args.value.now.value (get_or change.opened.items place other).value) = (rw c.as_slice-2.ensures.value at c.in-Some-first_fresh.ensures.found) other in
-    let matches : IsTrue (g.R.Resolvable.meets c.args.value.now.value other.value) = subst (λ (e : Entry g.row.R.Denot g.row.R-Key.Denot). IsTrue (g.R.Resolvable.meets c.args.value.now.value e.value)) (sym c.swap_remove-other.ensures.value) found in
+    let place = c.in-Some-2.place in
+    let other = c.in_ok-other-in-Some-2.other in
+    let within : place < length change.opened.items = rw c.in-Some-2.is at c.in_ok-place.ensures.within in
+    let found : IsTrue (g.R.Resolvable.meets c.args.value.now.value (get_or change.opened.items place other).value) = (rw c.in-Some-2.is at c.in_ok-place.ensures.found) other in
+    let is = c.in_ok-other-in-Some-2.ensures.value in
+    let matches : IsTrue (g.R.Resolvable.meets c.args.value.now.value other.value) = subst (λ (e : Entry g.row.R.Denot g.row.R-Key.Denot). IsTrue (g.R.Resolvable.meets c.args.value.now.value e.value)) (sym is) found in
     let value = ap (λ (e : Entry g.row.R.Denot g.row.R-Key.Denot). e.value) c.value.view_is in
     let its = ap (λ (e : Entry g.row.R.Denot g.row.R-Key.Denot). e.value) c.other.view_is in
-    rw c.swap_remove-other.ensures.items
-    (merges-fresh c.args.self.now.blocks change.closed.items change.opened.items g.met.R.Join.join_laws g.met.R.Resolvable.match_laws c.args.value.now.value c.in_ok-joined-in-Some-first_fresh.field-0 place other within c.swap_remove-other.ensures.value matches
-    (c.in_ok-joined-in-Some-first_fresh.ensures ∙ ap (λ v. g.R.Join.join v c.value.inside.value) its ∙ ap (g.R.Join.join other.value) value))
+    rw c.in_ok-other-in-Some-2.ensures.items
+    (merges-fresh c.args.self.now.blocks change.closed.items change.opened.items g.met.R.Join.join_laws g.met.R.Resolvable.match_laws c.args.value.now.value c.in_ok-joined-in-Some-2.field-0 place other within is matches
+    (c.in_ok-joined-in-Some-2.ensures ∙ ap (λ v. g.R.Join.join v c.value.inside.value) its ∙ ap (g.R.Join.join other.value) value))
 
-pub returns-in_ok-joined-in-Some-first_fresh-clause-fits : goal.returns-in_ok-joined-in-Some-first_fresh-clause-fits
-returns-in_ok-joined-in-Some-first_fresh-clause-fits g c =
+pub returns-in_ok-joined-in-Some-2-clause-fits : goal.returns-in_ok-joined-in-Some-2-clause-fits
+returns-in_ok-joined-in-Some-2-clause-fits g c =
     let change = c.args.change.now in
-    let place = c.in-Some-first_fresh.place in
-    let within : place < length change.opened.items = rw c.as_slice-2.ensures.value at c.in-Some-first_fresh.ensures.within in
-    rw c.swap_remove-other.ensures.items
-    (fits-fresh c.args.self.now.blocks change.closed.items change.opened.items c.requires place c.swap_remove-other.result within c.swap_remove-other.ensures.value)
+    let place = c.in-Some-2.place in
+    let within : place < length change.opened.items = rw c.in-Some-2.is at c.in_ok-place.ensures.within in
+    rw c.in_ok-other-in-Some-2.ensures.items
+    (fits-fresh c.args.self.now.blocks change.closed.items change.opened.items c.requires place c.in_ok-other-in-Some-2.other within c.in_ok-other-in-Some-2.ensures.value)
 
 pub returns-in-None-clause-none : goal.returns-in-None-clause-none
 returns-in-None-clause-none g c =
     let blocks = c.args.self.now.blocks in
     let change = c.args.change.now in
     let kept = rw c.as_slice.ensures.value at (rw c.in_default.is at c.in_ok-number.ensures.none) in
-    let fresh = rw c.as_slice-2.ensures.value at c.in-None.ensures.none in
+    let fresh = rw c.in-None.is at c.in_ok-place.ensures.none in
     (refl, refl, All-view blocks change.closed.items change.opened.items (λ w. g.R.Resolvable.meets c.args.value.now.value w ≡ false) kept fresh)

@@ -1,0 +1,56 @@
+#!/bin/sh
+# What the deliveries of a night cost a catalogue that has all libraries' records, beside loading everything again.
+#
+# usage: bench/nightly.sh PROGRAM MAKER [SIZE..]
+#
+# PROGRAM is the built program, crates/union_main/out/union_main after ./union ran once. MAKER is a script in Python that is
+# not part of this repository: `MAKER SEED LIBRARIES RECORDS FOLDER` makes the files of a consortium, for each library its
+# first load, with a name that ends in .mrc, and a later delivery of corrections and withdrawals, in .upd.mrc. For each SIZE
+# (10,000, 20,000, 40,000 and 80,000 if none is given) eight libraries have that many records in all files. Two scripts run:
+# one loads the first loads alone, the other then loads the later deliveries too, which is what a catalogue costs that is
+# made from nothing each night; the difference is what a catalogue costs that follows. What is printed is how many records
+# the deliveries have, the processor time in seconds of either, and its largest memory in megabytes, as GNU time tells them,
+# with the answer to `count`. All is one run: compare ratios alone.
+set -eu
+
+[ $# -ge 2 ] || { sed -n '4p' "$0" >&2; exit 2; }
+[ -x "$1" ] || { echo "not a program: $1" >&2; exit 2; }
+[ -x /usr/bin/time ] || { echo "no /usr/bin/time" >&2; exit 2; }
+program=$1
+maker=$2
+shift 2
+[ $# -ge 1 ] || set -- 10000 20000 40000 80000
+work=$(mktemp -d)
+trap 'rm -rf "$work"' EXIT INT TERM
+
+records() { tr -cd '\035' | wc -c; }
+
+# The time and memory of a script, whose answers go to a file: `user system kilobytes`.
+spent() {
+    status=0
+    /usr/bin/time -q -f '%U %S %M' -o "$work/spent" "$program" script "$1" >"$work/answers" 2>"$work/notes" || status=$?
+    [ "$status" -le 1 ] || { cat "$work/notes" >&2; exit 1; }
+    cat "$work/spent"
+}
+
+for size in "$@"; do
+    rm -rf "$work/libraries"
+    python3 "$maker" 1 8 "$size" "$work/libraries" >"$work/notes"
+    : >"$work/loads"
+    : >"$work/later"
+    number=0
+    for file in "$work"/libraries/*.upd.mrc; do
+        number=$((number + 1))
+        echo "load L$number ${file%.upd.mrc}.mrc" >>"$work/loads"
+        echo "load L$number $file" >>"$work/later"
+    done
+    { cat "$work/loads"; echo count; } >"$work/first"
+    { cat "$work/loads" "$work/later"; echo count; } >"$work/all"
+    first=$(spent "$work/first")
+    all=$(spent "$work/all")
+    echo "$(cat "$work"/libraries/*.upd.mrc | records) $(cat "$work"/libraries/*.mrc | records) $first $all $(tail -n 1 "$work/answers")" | awk '{
+        first = $3 + $4; all = $6 + $7; night = all - first
+        printf "%d later records of %d: %.2f s for them, %.2f s for everything, %d MB; ", $1, $2, night, all, $8 / 1024
+        printf "everything again is %.1f times the night; %s %s %s %s %s %s\n", all / (night > 0.01 ? night : 0.01), $9, $10, $11, $12, $13, $14
+    }'
+done

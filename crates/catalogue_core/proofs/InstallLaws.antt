@@ -1,0 +1,390 @@
+-- What a catalogue keeps once a plan is installed.
+use Rattle.std.proofs.Common.{◌≡◌, ◌≢◌, ℕ, ◌+◌, ◌<◌, ◌≤◌, Bool, true, false, cond, IsTrue, List, [], ◌∷◌, ◌++◌, length, get_or, Contains, AllPairs, refl, sym, ap, subst, ◌∙◌, inl, inr, arith}
+use Rattle.std.specs.Prelude.{◌⊎◌, ◌↔◌, fold, map, filter_map, slice_index, slice_get, slice_set, Option, Some, None, is_some, unwrap_or}
+use Rattle.std.specs.Option.{option_map}
+use Rattle.std.specs.List.{list_any, cons_option}
+use Rattle.std.specs.List.Sorted.{IsPermutation, IsStrictlySortedBy}
+use Rattle.std.specs.BTreeMap.{is_at}
+use Rattle.std.specs.Map.{lookup, keys_of, values_of as values}
+use Rattle.std.proofs.lemmas.List.{map-append}
+use Rattle.std.proofs.lemmas.List.Sums.{fold-append}
+use Rattle.std.proofs.lemmas.List.Elements.{Contains-append_left, Contains-append_right, Contains-append_cases}
+use Rattle.std.proofs.Math.Decide.{dec_lt}
+use Rattle.std.proofs.lemmas.List.Sorted.{IsPermutation-sym, IsPermutation-map, Contains-permutation}
+use Rattle.std.proofs.lemmas.Option.{slice_get_within, get_or_from_slice_get}
+use Rattle.union_base.specs.SortedLists.{has}
+use Rattle.union_base.specs.declared.record_id.RecordId.{RecordId}
+use Rattle.union_base.specs.IdLaws.{ids_apart}
+use Rattle.merge_laws.specs.Resolution.{IsResolution, DoNotMatch, AreApart}
+use Rattle.merge_laws.proofs.Places.{Contains-head, Contains-tail, Contains-cases, AllPairs-permutation, AllPairs-first}
+use Rattle.merge_laws.proofs.Resolutions.{apart-from_resolution, IsResolution-permutation}
+use Rattle.match_features.specs.MemberLaws.{member-from_has}
+use Rattle.field_merge.specs.Kept.{id_cmp}
+use Rattle.field_merge.specs.KeptLaws.{id_total}
+use Rattle.swoosh_resolver.specs.Changes.{AreNumbers, AreOpened, number_at, view_of, without}
+use Rattle.swoosh_resolver.specs.Tables.{block_at, blocks_in, values_of}
+use Rattle.swoosh_resolver.proofs.Places.{block-closed, block-kept, block-from_open, taken-from_set, number-from_block, closed-from_found, open-from_missed}
+use Rattle.work_clusters.specs.MemberLaws.{AreAfter, changed-members, works_of-permutation}
+use Rattle.work_clusters.specs.Works.{works_of, changed}
+use Rattle.catalogue_core.specs.EditionKeys.{work_key_of, work_pairs, closed_pairs}
+use Rattle.catalogue_core.specs.Histories.{MapOf, at_id, is_current, after_batch, bases, current}
+use Rattle.catalogue_core.specs.Homes.{Block, AreHoused, has_contributor, place_of, places_in, standing, admitted, moved, housed_all}
+use Rattle.catalogue_core.specs.Ids.{least}
+use Rattle.catalogue_core.specs.Joining.{join}
+use Rattle.catalogue_core.specs.JoinLaws.{edition_join_laws}
+use Rattle.catalogue_core.specs.Keeping.{batches, loaded_at, map_values, StandFor}
+use Rattle.catalogue_core.specs.Kept.{IsKept}
+use Rattle.catalogue_core.specs.Matching.{match}
+use Rattle.catalogue_core.specs.MatchLaws.{edition_match_laws}
+use Rattle.catalogue_core.specs.Plans.{IsPlanned}
+use Rattle.catalogue_core.specs.declared.batch.Batch.{Batch}
+use Rattle.catalogue_core.specs.declared.edition.Edition.{Edition}
+use Rattle.catalogue_core.specs.declared.history_entry.HistoryEntry.{HistoryEntry}
+use Rattle.catalogue_core.specs.declared.home.Home.{Home}
+use Rattle.catalogue_core.specs.declared.place.Place.{Place}
+use Rattle.catalogue_core.proofs.Apart.{match-from_contributor, match-from_least}
+use Rattle.catalogue_core.proofs.HomeLaws.{some-from_test, none-from_test, admitted-keeps, admitted-lets, admitted-only, ordered-admitted, moved_at, at-moved, ordered-moved, ordered-housed_all, place-housed_all, block-housed_all}
+use Rattle.catalogue_core.proofs.Housing.{same-some}
+use Rattle.catalogue_core.proofs.Looking.{member-from_any, any-from_member, bears-resolution, bears-current}
+use Rattle.catalogue_core.proofs.MapLaws.{same, one-id, same-itself, same-maps, id-of_value}
+use Rattle.catalogue_core.proofs.Placing.{lookup-values, values-values}
+use Rattle.catalogue_core.proofs.PlanLaws.{mapped-from_member, member-from_mapped}
+use Rattle.catalogue_core.proofs.TurnLaws.{ordered-current, found-home}
+
+-- ---- blocks
+
+-- a block is among the blocks
+pub block-stands : (blocks : List (Option Block)) (n : ℕ) (e : Block) → block_at blocks n ≡ Some e → Contains (blocks_in blocks) e
+block-stands blocks n e at =
+    Contains-permutation (e ∷ blocks_in (slice_set blocks n None)) (blocks_in blocks) e
+    (IsPermutation-sym (blocks_in blocks) (e ∷ blocks_in (slice_set blocks n None)) (taken-from_set blocks n e at)) (Contains-head e (blocks_in (slice_set blocks n None)))
+
+pub value-in : (xs : List Block) (e : Block) → Contains xs e → Contains (values_of xs) e.value
+value-in [] e (k, kl, is) = absurd (omega arith)
+value-in (x ∷ xs) e c =
+    elim (Contains-cases x xs e c) [
+      | inl here ↦ subst (λ (y : Block). Contains (x.value ∷ values_of xs) y.value) here (Contains-head x.value (values_of xs))
+      | inr later ↦ Contains-tail x.value (values_of xs) e.value (value-in xs e later)
+    ]
+
+pub in-value : (xs : List Block) (v : Edition) → Contains (values_of xs) v → (e : Block) × Contains xs e × (e.value ≡ v)
+in-value [] v (k, kl, is) = absurd (omega arith)
+in-value (x ∷ xs) v c =
+    elim (Contains-cases x.value (values_of xs) v c) [
+      | inl here ↦ (x, Contains-head x xs, here)
+      | inr later ↦ (let (e, ce, is) = in-value xs v later in (e, Contains-tail x xs e ce, is))
+    ]
+
+dec-same : (m n : ℕ) → (m ≡ n) ⊎ (m ≢ n)
+dec-same m n = elim (dec_lt m n) [ yes h ↦ inr (λ e. omega arith) | no h ↦ elim (dec_lt n m) [ yes k ↦ inr (λ e. omega arith) | no k ↦ inl (omega arith) ] ]
+
+-- blocks that match have one number
+pub number-from_match : (blocks : List (Option Block)) → AreApart match (values_of (blocks_in blocks)) → (m n : ℕ) (e f : Block) → block_at blocks m ≡ Some e → block_at blocks n ≡ Some f → IsTrue (match e.value f.value) → m ≡ n
+number-from_match blocks apart m n e f at at' matches =
+    elim (dec-same m n) [
+      | inl is ↦ is
+      | inr ne ↦ (let rest = blocks_in (slice_set blocks m None) in
+          let kept : block_at (slice_set blocks m None) n ≡ Some f = block-kept (m ∷ []) blocks n (λ c. elim (Contains-cases m [] n c) [ inl is ↦ ne is | inr (k, kl, is) ↦ omega arith ]) ∙ at' in
+          let moved' : AreApart match (values_of (e ∷ rest)) = apart-moved (blocks_in blocks) (e ∷ rest) (taken-from_set blocks m e at) apart in
+          absurd ((AllPairs-first (DoNotMatch match) e.value (values_of rest) moved' f.value (value-in rest f (block-stands (slice_set blocks m None) n f kept))).0 matches))
+    ]
+  where
+    apart-moved : (xs ys : List Block) → IsPermutation xs ys → AreApart match (values_of xs) → AreApart match (values_of ys)
+    apart-moved xs ys p a = AllPairs-permutation (DoNotMatch match) (λ x y h. (h.1, h.0)) (values_of xs) (values_of ys) (IsPermutation-map (λ (b : Block). b.value) xs ys p) a
+
+-- a block of a view is one that is kept, or an opened one
+in-view : (blocks : List (Option Block)) (closed : List ℕ) (opened : List Block) (v : Edition) → Contains (view_of blocks closed opened) v
+    → ((n : ℕ) × (e : Block) × (block_at blocks n ≡ Some e) × (Contains closed n → ⊥) × (e.value ≡ v)) ⊎ ((e : Block) × Contains opened e × (e.value ≡ v))
+in-view blocks closed opened v c =
+    let (e, ce, is) = in-value (blocks_in (without blocks closed) ++ opened) v c in
+    elim (Contains-append_cases (blocks_in (without blocks closed)) opened e ce) [
+      | inl kept ↦ (let (n, at) = number-from_block (without blocks closed) e kept in
+          inl (
+            n,
+            e,
+            block-from_open closed blocks n e at,
+            λ gone. let none : ◌≡◌ {A = Option Block} (Some e) None = sym at ∙ block-closed closed blocks n gone in cc,
+            is,
+          ))
+      | inr fresh ↦ inr (e, fresh, is)
+    ]
+
+kept-in_view : (blocks : List (Option Block)) (closed : List ℕ) (opened : List Block) (n : ℕ) (e : Block) → block_at blocks n ≡ Some e → (Contains closed n → ⊥) → Contains (view_of blocks closed opened) e.value
+kept-in_view blocks closed opened n e at open' =
+    value-in (blocks_in (without blocks closed) ++ opened) e
+    (Contains-append_left (blocks_in (without blocks closed)) opened e (block-stands (without blocks closed) n e (block-kept closed blocks n open' ∙ at)))
+
+fresh-in_view : (blocks : List (Option Block)) (closed : List ℕ) (opened : List Block) (e : Block) → Contains opened e → Contains (view_of blocks closed opened) e.value
+fresh-in_view blocks closed opened e c = value-in (blocks_in (without blocks closed) ++ opened) e (Contains-append_right (blocks_in (without blocks closed)) opened e c)
+
+-- ---- works
+
+pair-in : (xs : List Edition) (e : Edition) → Contains xs e → Contains (work_pairs xs) (work_key_of e, least e)
+pair-in [] e (k, kl, is) = absurd (omega arith)
+pair-in (x ∷ xs) e c =
+    elim (Contains-cases x xs e c) [
+      | inl here ↦ subst (λ (y : Edition). Contains (work_pairs (x ∷ xs)) (work_key_of y, least y)) here (Contains-head (work_key_of x, least x) (work_pairs xs))
+      | inr later ↦ Contains-tail (work_key_of x, least x) (work_pairs xs) (work_key_of e, least e) (pair-in xs e later)
+    ]
+
+in-pairs : (xs : List Edition) (p : List ℕ × RecordId) → Contains (work_pairs xs) p → (e : Edition) × Contains xs e × (◌≡◌ {A = List ℕ × RecordId} (work_key_of e, least e) p)
+in-pairs [] p (k, kl, is) = absurd (omega arith)
+in-pairs (x ∷ xs) p c =
+    elim (Contains-cases (work_key_of x, least x) (work_pairs xs) p c) [
+      | inl here ↦ (x, Contains-head x xs, here)
+      | inr later ↦ (let (e, ce, is) = in-pairs xs p later in (e, Contains-tail x xs e ce, is))
+    ]
+
+-- the pair of a block whose number is closed
+gone-in : (blocks : List (Option Block)) (closed : List ℕ) (n : ℕ) (e : Block) → Contains closed n → block_at blocks n ≡ Some e → Contains (closed_pairs blocks closed) (work_key_of e.value, least e.value)
+gone-in blocks closed n e c at =
+    mapped-from_member (λ n. option_map (λ (b : Block). (work_key_of b.value, least b.value)) (block_at blocks n)) closed n (work_key_of e.value, least e.value) c
+    (ap (option_map (λ (b : Block). (work_key_of b.value, least b.value))) at)
+
+in-gone : (blocks : List (Option Block)) (closed : List ℕ) (p : List ℕ × RecordId) → Contains (closed_pairs blocks closed) p
+    → (n : ℕ) × (e : Block) × Contains closed n × (block_at blocks n ≡ Some e) × (least e.value ≡ p.1)
+in-gone blocks closed p c =
+    let (n, cn, is) = member-from_mapped (λ n. option_map (λ (b : Block). (work_key_of b.value, least b.value)) (block_at blocks n)) closed p c in
+    found n cn (block_at blocks n) refl is
+  where
+    found : (n : ℕ) → Contains closed n → (o : Option Block) → block_at blocks n ≡ o → option_map (λ (b : Block). (work_key_of b.value, least b.value)) o ≡ Some p
+        → (n : ℕ) × (e : Block) × Contains closed n × (block_at blocks n ≡ Some e) × (least e.value ≡ p.1)
+    found n cn None at is = cc
+    found n cn (Some e) at is = (let pair : ◌≡◌ {A = List ℕ × RecordId} (work_key_of e.value, least e.value) p = cc in (n, e, cn, at, ap (λ (q : List ℕ × RecordId). q.1) pair))
+
+pub after-change : (blocks : List (Option Block)) (closed : List ℕ) (opened : List Block) → AreApart match (values_of (blocks_in blocks))
+    → AreAfter (work_pairs (values_of (blocks_in blocks))) (closed_pairs blocks closed) (work_pairs (values_of opened)) (work_pairs (view_of blocks closed opened))
+after-change blocks closed opened apart p = (
+  λ c. (let (v, cv, is) = in-pairs (view_of blocks closed opened) p c in
+      elim (in-view blocks closed opened v cv) [
+        | inl (n, e, at, open', same') ↦ inl (
+          subst (Contains (work_pairs (values_of (blocks_in blocks)))) (ap (λ (x : Edition). (work_key_of x, least x)) same' ∙ is)
+              (pair-in (values_of (blocks_in blocks)) e.value (value-in (blocks_in blocks) e (block-stands blocks n e at))),
+          λ gone. (let (m, f, cm, at', least') = in-gone blocks closed p gone in
+              let one : least f.value ≡ least e.value = least' ∙ sym (ap (λ (q : List ℕ × RecordId). q.1) (ap (λ (x : Edition). (work_key_of x, least x)) same' ∙ is)) in
+              open' (subst (Contains closed) (number-from_match blocks apart m n f e at' at (match-from_least f.value e.value one)) cm)),
+        )
+        | inr (e, ce, same') ↦ inr (subst (Contains (work_pairs (values_of opened))) (ap (λ (x : Edition). (work_key_of x, least x)) same' ∙ is) (pair-in (values_of opened) e.value (value-in opened e ce)))
+      ]),
+  λ h. elim h [
+    | inl (c, open') ↦
+        (let (v, cv, is) = in-pairs (values_of (blocks_in blocks)) p c in
+        let (e, ce, same') = in-value (blocks_in blocks) v cv in
+        let (n, at) = number-from_block blocks e ce in
+        subst (Contains (work_pairs (view_of blocks closed opened))) (ap (λ (x : Edition). (work_key_of x, least x)) same' ∙ is)
+        (pair-in (view_of blocks closed opened) e.value (kept-in_view blocks closed opened n e at
+        (λ gone. open' (subst (Contains (closed_pairs blocks closed)) (ap (λ (x : Edition). (work_key_of x, least x)) same' ∙ is) (gone-in blocks closed n e gone at))))))
+    | inr c ↦
+        (let (v, cv, is) = in-pairs (values_of opened) p c in
+        let (e, ce, same') = in-value opened v cv in
+        subst (Contains (work_pairs (view_of blocks closed opened))) (ap (λ (x : Edition). (work_key_of x, least x)) same' ∙ is)
+        (pair-in (view_of blocks closed opened) e.value (fresh-in_view blocks closed opened e ce)))
+  ],
+)
+
+-- ---- homes
+
+standing-found : (touched : MapOf (Option Place)) (q : RecordId) (place : Place) → at_id touched q ≡ Some (Some place) → Contains (standing touched) q
+standing-found [] q place at = cc
+standing-found (t ∷ touched) q place at =
+    elim (same q t.0) as (λ b. same q t.0 ≡ b → cond b (Some t.1) (at_id touched q) ≡ Some (Some place) → Contains (cons_option (option_map (λ (p : Place). t.0) t.1) (standing touched)) q) [
+      | true ↦ λ is h. (let one : t.1 ≡ Some place = cc in
+          subst (λ (o : Option Place). Contains (cons_option (option_map (λ (p : Place). t.0) o) (standing touched)) q) (sym one)
+          (subst (Contains (t.0 ∷ standing touched)) (sym (one-id q t.0 is)) (Contains-head t.0 (standing touched))))
+      | false ↦ λ is h. (let rest = standing-found touched q place h in
+          elim t.1 as (λ o. Contains (cons_option (option_map (λ (p : Place). t.0) o) (standing touched)) q) [ Some p ↦ Contains-tail t.0 (standing touched) q rest | None ↦ rest ])
+    ] refl at
+
+standing-touched : (touched : MapOf (Option Place)) (q : RecordId) → Contains (standing touched) q → at_id touched q ≡ None → ⊥
+standing-touched [] q (k, kl, is) none = omega arith
+standing-touched (t ∷ touched) q c none =
+    elim (same q t.0) as (λ b. same q t.0 ≡ b → cond b (Some t.1) (at_id touched q) ≡ None → ⊥) [
+      | true ↦ λ is h. cc
+      | false ↦ λ is h. (elim t.1 as (λ o. Contains (cons_option (option_map (λ (p : Place). t.0) o) (standing touched)) q → ⊥) [
+        | Some p ↦ λ c. elim (Contains-cases t.0 (standing touched) q c) [
+          | inl here ↦ (let clash : true ≡ false = sym (same-itself q) ∙ ap (same q) (sym here) ∙ is in cc)
+          | inr later ↦ standing-touched touched q later h
+        ]
+        | None ↦ λ c. standing-touched touched q c h
+      ]) c
+    ] refl none
+
+pub keys-values : {X Y : Type 0} (f : X → Y) (all : MapOf X) → keys_of (map_values f all) ≡ keys_of all
+keys-values f [] = refl
+keys-values {X} {Y} f (p ∷ all) = ap (λ (ks : List RecordId). p.0 ∷ ks) (keys-values f all)
+
+-- ---- a plan is installed
+
+module _ (history : List HistoryEntry) (entry : HistoryEntry) (homes : MapOf Home) (blocks : List (Option Block)) (works : List (List ℕ × List RecordId)) (k : IsKept history homes blocks works) (closed : List ℕ) (opened : List Block) (touched : MapOf (Option Place)) (numbers : List ℕ) (p : IsPlanned (batches history ++ entry.batch ∷ []) homes blocks (after_batch (current history) entry.batch) closed opened touched) where
+  abbrev all : List Batch
+  all = batches history ++ entry.batch ∷ []
+
+  abbrev now : MapOf Edition
+  now = after_batch (current history) entry.batch
+
+  abbrev let-in : MapOf Home
+  let-in = admitted homes (standing touched)
+
+  abbrev settled : MapOf Home
+  settled = fold moved let-in touched
+
+  abbrev pub homes' : MapOf Home
+  homes' = housed_all settled opened numbers
+
+  ordered-homes : IsStrictlySortedBy id_cmp (keys_of homes)
+  ordered-homes = subst (IsStrictlySortedBy id_cmp)
+      (sym (keys-values Some (current history)) ∙ ap keys_of (sym k.current.loads) ∙ keys-values (loaded_at (batches history)) (places_in homes) ∙ keys-values (λ (home : Home). home.place) homes)
+      (ordered-current history)
+
+  ordered-let-in : IsStrictlySortedBy id_cmp (keys_of let-in)
+  ordered-let-in = ordered-admitted (standing touched) homes ordered-homes
+
+  ordered-homes' : IsStrictlySortedBy id_cmp (keys_of homes')
+  ordered-homes' = ordered-housed_all opened numbers settled (ordered-moved touched let-in ordered-let-in)
+
+  at-settled : (q : RecordId) → at_id settled q ≡ moved_at (at_id touched q) (at_id let-in q)
+  at-settled q = at-moved touched let-in q p.touches ordered-let-in
+
+  -- an id that the plan did not touch keeps its home
+  untouched : (q : RecordId) → at_id touched q ≡ None → at_id let-in q ≡ at_id homes q
+  untouched q none = known (at_id homes q) refl
+    where
+      known : (o : Option Home) → at_id homes q ≡ o → at_id let-in q ≡ o
+      known (Some h) is = admitted-keeps q (standing touched) homes h is
+      known None is = nothing (at_id let-in q) refl
+        where
+          nothing : (o : Option Home) → at_id let-in q ≡ o → o ≡ None
+          nothing None is' = refl
+          nothing (Some h) is' = elim (admitted-only q (standing touched) homes h is') [
+            | inl old ↦ (let clash : ◌≡◌ {A = Option Home} (Some h) None = sym old ∙ is in cc)
+            | inr new ↦ absurd (standing-touched touched q new none)
+          ]
+
+  -- each id has the place that the plan gives it
+  place-settled : (q : RecordId) → option_map (λ (h : Home). h.place) (at_id homes' q) ≡ place_of homes touched q
+  place-settled q =
+      place-housed_all opened numbers settled q ∙ ap (option_map (λ (h : Home). h.place)) (at-settled q) ∙ given (at_id touched q) refl
+    where
+      given : (t : Option (Option Place)) → at_id touched q ≡ t → option_map (λ (h : Home). h.place) (moved_at t (at_id let-in q)) ≡ unwrap_or t (option_map (λ (h : Home). h.place) (at_id homes q))
+      given None is = ap (option_map (λ (h : Home). h.place)) (untouched q is)
+      given (Some None) is = refl
+      given (Some (Some place)) is =
+          let (h, at) = admitted-lets q (standing touched) homes (standing-found touched q place is) in
+          ap (λ o. option_map (λ (h : Home). h.place) (moved_at (Some (Some place)) o)) at
+
+  found-settled : (q : RecordId) → option_map (loaded_at all) (option_map (λ (h : Home). h.place) (at_id homes' q)) ≡ option_map Some (at_id now q)
+  found-settled q = ap (option_map (loaded_at all)) (place-settled q) ∙ p.stands q
+
+  some-mapped : {A B : Type 0} (f : A → B) (o : Option A) → is_some (option_map f o) ≡ is_some o
+  some-mapped f None = refl
+  some-mapped f (Some x) = refl
+
+  current-settled : (q : RecordId) → is_current homes' q ≡ is_current now q
+  current-settled q =
+      sym (some-mapped (λ (h : Home). h.place) (at_id homes' q)) ∙ sym (some-mapped (loaded_at all) (option_map (λ (h : Home). h.place) (at_id homes' q)))
+      ∙ ap is_some (found-settled q) ∙ some-mapped Some (at_id now q)
+
+  stands-settled : StandFor all (places_in homes') now
+  stands-settled = record {
+    loads = same-maps (map_values (loaded_at all) (places_in homes')) (map_values Some now)
+        (subst (IsStrictlySortedBy id_cmp) (sym (keys-values (loaded_at all) (places_in homes') ∙ keys-values (λ (h : Home). h.place) homes')) ordered-homes')
+        (subst (IsStrictlySortedBy id_cmp) (sym (keys-values Some now)) p.ordered)
+        (λ q. lookup-values (loaded_at all) (places_in homes') (is_at (id_cmp q)) ∙ ap (option_map (loaded_at all)) (lookup-values (λ (h : Home). h.place) homes' (is_at (id_cmp q)))
+        ∙ found-settled q ∙ sym (lookup-values Some now (is_at (id_cmp q))));
+  }
+
+  -- ---- blocks with their numbers
+
+  module _ (blocks' : List (Option Block)) (kept : (n : ℕ) (e : Block) → block_at blocks n ≡ Some e → (Contains closed n → ⊥) → block_at blocks' n ≡ Some e)
+      (fresh : AreOpened (without blocks closed) closed (length blocks) opened blocks') (moved' : IsPermutation (view_of blocks closed opened) (values_of (blocks_in blocks')))
+      (given : AreNumbers closed (length blocks) (length opened) numbers) where
+    resolved' : IsResolution match join (values now) (values_of (blocks_in blocks'))
+    resolved' = IsResolution-permutation edition_join_laws edition_match_laws (values now) (view_of blocks closed opened) (values_of (blocks_in blocks')) moved' p.resolved
+
+    housed-each : (q : RecordId) (h : Home) → at_id homes' q ≡ Some h → (e : Block) × (block_at blocks' h.block ≡ Some e) × IsTrue (has_contributor q e.value)
+    housed-each q h at =
+        elim (block-housed_all opened numbers settled q h (omega (arith, given.len)) at) [
+          | inl (i, e, is, bears, number) ↦
+              (let below : i < length opened = slice_get_within opened i e is in
+              let number' : h.block ≡ number_at closed (length blocks) i = got-number i h.block below number in
+              (e, ap (block_at blocks') number' ∙ fresh.stand i e below (get_or_from_slice_get opened i e e is), bears))
+          | inr (h₀, at₀, block, none) ↦
+              (let there : is_current now q ≡ true = sym (current-settled q) ∙ ap is_some at in
+              let some : list_any (has_contributor q) (view_of blocks closed opened) ≡ true =
+              bears-resolution (values now) (view_of blocks closed opened) p.resolved q ∙ bears-current now p.single q ∙ there in
+              let (v, cv, bears) = member-from_any (has_contributor q) (view_of blocks closed opened) some in
+              elim (in-view blocks closed opened v cv) [
+                | inl (n, e, stands, open', same') ↦
+                    (let has' : IsTrue (has_contributor q e.value) = ap (has_contributor q) same' ∙ bears in
+                    let (home, old, is) = k.housed.only n e q stands has' in
+                    let number' : h₀.block ≡ home.block = moved-block (at_id touched q) home h₀ (sym (at-settled q ∙ ap (moved_at (at_id touched q)) (admitted-keeps q (standing touched) homes home old)) ∙ at₀) in
+                    (e, ap (block_at blocks') (block ∙ number' ∙ is) ∙ kept n e stands open', has'))
+                | inr (e, ce, same') ↦ absurd (none e ce (ap (has_contributor q) same' ∙ bears))
+              ])
+        ]
+      where
+        got-number : (i m : ℕ) → i < length opened → slice_get numbers i ≡ Some m → m ≡ number_at closed (length blocks) i
+        got-number i m below is = sym (get_or_from_slice_get numbers i m 0 is) ∙ given.each i below
+
+        moved-block : (t : Option (Option Place)) (home h₀ : Home) → moved_at t (Some home) ≡ Some h₀ → h₀.block ≡ home.block
+        moved-block None home h₀ is = let one : home ≡ h₀ = cc in ap (λ (x : Home). x.block) (sym one)
+        moved-block (Some None) home h₀ is = cc
+        moved-block (Some (Some place)) home h₀ is = let one : ◌≡◌ {A = Home} (record { place = place; block = home.block }) h₀ = cc in ap (λ (x : Home). x.block) (sym one)
+
+    housed-only : (n : ℕ) (e : Block) (q : RecordId) → block_at blocks' n ≡ Some e → IsTrue (has_contributor q e.value) → (home : Home) × (at_id homes' q ≡ Some home) × (home.block ≡ n)
+    housed-only n e q stands bears =
+        let there : is_current now q ≡ true =
+        sym (bears-current now p.single q) ∙ sym (bears-resolution (values now) (values_of (blocks_in blocks')) resolved' q)
+        ∙ any-from_member (has_contributor q) (values_of (blocks_in blocks')) e.value (value-in (blocks_in blocks') e (block-stands blocks' n e stands)) bears in
+        let (h, at) = some-from_test (at_id homes' q) (current-settled q ∙ there) in
+        let (f, stands', bears') = housed-each q h at in
+        let apart = apart-from_resolution edition_join_laws edition_match_laws (values now) (values_of (blocks_in blocks')) resolved' in (
+          h,
+          at,
+          number-from_match blocks' apart h.block n f e stands' stands
+              (match-from_contributor f.value e.value q (member-from_has id_total ids_apart f.value.content.contributors q bears') (member-from_has id_total ids_apart e.value.content.contributors q bears)),
+        )
+
+    pub kept-installed : (works' : List (List ℕ × List RecordId)) (gone come : List (List ℕ × RecordId)) → gone ≡ closed_pairs blocks closed → come ≡ work_pairs (values_of opened) → works' ≡ changed works gone come
+        → IsKept (history ++ entry ∷ []) homes' blocks' works'
+    kept-installed works' gone come is-gone is-come is-changed =
+        let turn : current (history ++ entry ∷ []) ≡ now = fold-append (λ all (entry : HistoryEntry). after_batch all entry.batch) [] history (entry ∷ []) in
+        let whole : batches (history ++ entry ∷ []) ≡ all = map-append (λ (t : HistoryEntry). t.batch) history (entry ∷ []) in
+        let apart = apart-from_resolution edition_join_laws edition_match_laws (bases history) (values_of (blocks_in blocks)) k.resolved in
+        record {
+          current = record { loads = ap (λ bs. map_values (loaded_at bs) (places_in homes')) whole ∙ stands-settled.loads ∙ ap (map_values Some) (sym turn) };
+          resolved = subst (λ list. IsResolution match join list (values_of (blocks_in blocks'))) (ap values (sym turn)) resolved';
+          housed = record { each = housed-each; only = housed-only };
+          clustered = is-changed
+              ∙ ap (λ ws. changed ws gone come) k.clustered ∙ ap (λ ps. changed (works_of (work_pairs (values_of (blocks_in blocks)))) ps come) is-gone
+              ∙ ap (changed (works_of (work_pairs (values_of (blocks_in blocks)))) (closed_pairs blocks closed)) is-come
+              ∙ changed-members (work_pairs (values_of (blocks_in blocks))) (closed_pairs blocks closed) (work_pairs (values_of opened)) (work_pairs (view_of blocks closed opened))
+              (after-change blocks closed opened apart)
+              ∙ works_of-permutation (work_pairs (view_of blocks closed opened)) (work_pairs (values_of (blocks_in blocks')))
+              (IsPermutation-map (λ (e : Edition). (work_key_of e, least e)) (view_of blocks closed opened) (values_of (blocks_in blocks')) moved');
+        }
+
+-- step by step
+pub installed : (history : List HistoryEntry) (entry : HistoryEntry) (homes : MapOf Home) (blocks : List (Option Block)) (works : List (List ℕ × List RecordId)) → IsKept history homes blocks works
+    → (closed : List ℕ) (opened : List Block) (touched : MapOf (Option Place)) → IsPlanned (batches history ++ entry.batch ∷ []) homes blocks (after_batch (current history) entry.batch) closed opened touched
+    → (ids : List RecordId) → ids ≡ standing touched
+    → (let-in : MapOf Home) → let-in ≡ admitted homes ids
+    → (settled : MapOf Home) → settled ≡ fold moved let-in touched
+    → (numbers : List ℕ) → AreNumbers closed (length blocks) (length opened) numbers
+    → (homes' : MapOf Home) → homes' ≡ housed_all settled opened numbers
+    → (roomy : List (Option Block)) → roomy ≡ blocks
+    → (blocks' : List (Option Block)) → ((n : ℕ) (e : Block) → block_at roomy n ≡ Some e → (Contains closed n → ⊥) → block_at blocks' n ≡ Some e)
+    → AreOpened (without roomy closed) closed (length roomy) opened blocks' → IsPermutation (view_of roomy closed opened) (values_of (blocks_in blocks'))
+    → (gone come : List (List ℕ × RecordId)) → gone ≡ closed_pairs blocks closed → come ≡ work_pairs (values_of opened)
+    → (works₁ works' : List (List ℕ × List RecordId)) → works₁ ≡ works → works' ≡ changed works₁ gone come
+    → (history₁ history' : List HistoryEntry) → history₁ ≡ history → history' ≡ history₁ ++ entry ∷ []
+    → IsKept history' homes' blocks' works'
+installed history entry homes blocks works k closed opened touched p ids are within lets after settles numbers given homes' houses roomy same' blocks' kept fresh moved' gone come is-gone is-come works₁ works' same-works changes history₁ history' same-history appended =
+    let kept' = subst (λ bs. (n : ℕ) (e : Block) → block_at bs n ≡ Some e → (Contains closed n → ⊥) → block_at blocks' n ≡ Some e) same' kept in
+    let fresh' = subst (λ bs. AreOpened (without bs closed) closed (length bs) opened blocks') same' fresh in
+    let view = subst (λ bs. IsPermutation (view_of bs closed opened) (values_of (blocks_in blocks'))) same' moved' in
+    let whole = kept-installed history entry homes blocks works k closed opened touched numbers p blocks' kept' fresh' view given works' gone come is-gone is-come (changes ∙ ap (λ ws. changed ws gone come) same-works) in
+    let found : homes' ≡ housed_all (fold moved (admitted homes (standing touched)) touched) opened numbers =
+    houses ∙ ap (λ all. housed_all all opened numbers) (settles ∙ ap (λ all. fold moved all touched) (lets ∙ ap (admitted homes) are)) in
+    subst (λ turns. IsKept turns homes' blocks' works') (sym (appended ∙ ap (λ turns. turns ++ entry ∷ []) same-history))
+    (subst (λ all. IsKept (history ++ entry ∷ []) all blocks' works') (sym found) whole)

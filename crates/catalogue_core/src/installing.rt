@@ -1,0 +1,91 @@
+//! A plan takes effect.
+//!
+//! All memory is taken first: for the works and the blocks, for one turn more in the history, and last for ids that are new.
+//! Where it runs out the catalogue is as before. Then everything is installed, which wants no memory and is not refused.
+ghost use Rattle.std.specs.Prelude.{◌≡◌, ◌++◌, ◌∷◌, [], IfOk, OnOk, OnErr};
+ghost use Rattle.swoosh_resolver.specs.Tables.{values_of};
+ghost use Rattle.catalogue_core.specs.EditionKeys.{work_pairs, closed_pairs, work_key_of};
+ghost use Rattle.catalogue_core.specs.Histories.{after_batch, current};
+ghost use Rattle.catalogue_core.specs.Ids.{least};
+ghost use Rattle.catalogue_core.specs.Keeping.{batches};
+ghost use Rattle.catalogue_core.specs.Kept.{IsKept};
+ghost use Rattle.catalogue_core.specs.Plans.{IsPlanned};
+
+use crate::clustering::work_pair;
+use crate::edition::Edition;
+use crate::history_entry::HistoryEntry;
+use crate::home::Home;
+use crate::homes::{admit, house_all, move_all, standing};
+use crate::plan::Plan;
+use std::alloc::Global;
+use std::collections::BTreeMap;
+use swoosh_resolver::blocks::Blocks;
+use swoosh_resolver::keyed::Keyed;
+use union_base::bytes::Bytes;
+use union_base::memory::Memory;
+use union_base::record_id::RecordId;
+use work_clusters::works::Works;
+
+/// The work keys of the blocks under the numbers, each with its edition's least contributor. Memory where it runs out.
+fn closed_pairs(
+    alloc: Global,
+    blocks: &Blocks<Edition>,
+    closed: &[u64],
+) -> Result<Vec<(Bytes, RecordId)>, Memory>
+    ensures { IfOk result (λ pairs. pairs.items ≡ closed_pairs blocks.now.blocks closed.now) }
+{
+    let mut pairs = Vec::with_capacity(alloc, closed.len())?;
+    for number in closed {
+        if let Some(edition) = blocks.block(*number) {
+            pairs.push(work_pair(alloc, edition)?)?;
+        }
+    }
+    Ok(pairs)
+}
+
+/// The work keys of the opened blocks, each with its edition's least contributor. Memory where it runs out.
+fn opened_pairs(alloc: Global, opened: &[Keyed<Edition>]) -> Result<Vec<(Bytes, RecordId)>, Memory>
+    ensures { IfOk result (λ pairs. pairs.items ≡ work_pairs (values_of opened.now)) }
+{
+    let mut pairs = Vec::with_capacity(alloc, opened.len())?;
+    for keyed in opened {
+        pairs.push(work_pair(alloc, &keyed.value)?)?;
+    }
+    Ok(pairs)
+}
+
+/// Appends the turn to the history, and makes the homes, the blocks and the works those of the plan. Memory where it runs out;
+/// then all is as before, but for room.
+pub fn install(
+    alloc: Global,
+    history: &mut Vec<HistoryEntry>,
+    homes: &mut BTreeMap<RecordId, Home>,
+    blocks: &mut Blocks<Edition>,
+    works: &mut Works,
+    entry: HistoryEntry,
+    plan: Plan,
+) -> Result<(), Memory>
+    requires kept { IsKept history.old.items homes.old.entries blocks.old.blocks works.old.works }
+    requires planned { IsPlanned (batches history.old.items ++ entry.batch ∷ []) homes.old.entries blocks.old.blocks
+        (after_batch (current history.old.items) entry.batch) plan.change.closed.items plan.change.opened.items
+        plan.touched.entries }
+    ensures kept { IsKept history.new.items homes.new.entries blocks.new.blocks works.new.works }
+    ensures appended { OnOk result (history.new.items ≡ history.old.items ++ entry ∷ []) }
+    ensures same { OnErr result (history.new.items ≡ history.old.items) }
+{
+    let gone = closed_pairs(alloc, blocks, plan.change.closed.as_slice())?;
+    let come = opened_pairs(alloc, plan.change.opened.as_slice())?;
+    let ids = standing(alloc, &plan.touched)?;
+    let regrouped = works.plan(alloc, gone, come)?;
+    works.make_room(alloc, &regrouped)?;
+    let numbers = blocks.make_room(alloc, &plan.change)?;
+    history.reserve(1)?;
+    admit(alloc, homes, ids.as_slice())?;
+    let Plan { change, touched } = plan;
+    move_all(homes, &touched);
+    house_all(homes, change.opened.as_slice(), numbers.as_slice());
+    blocks.install(change);
+    works.install(regrouped);
+    let _ = history.push(entry);
+    Ok(())
+}

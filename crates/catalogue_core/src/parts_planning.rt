@@ -1,0 +1,234 @@
+//! The plan of a turn whose loads are resolved among themselves already: the records that the batch names are withdrawn, and then
+//! what its loads come to is inserted, a part at a time.
+ghost use Rattle.std.specs.Prelude.{◌≡◌, ◌≤◌, ◌+◌, ◌++◌, ◌∷◌, [], ℕ, List, true, false, IfOk, OnOk};
+ghost use Rattle.std.specs.BTreeMap.{is_at};
+ghost use Rattle.std.specs.Map.{remove_entry, values_of};
+ghost use Rattle.field_merge.specs.Kept.{id_cmp};
+ghost use Rattle.merge_laws.specs.Resolution.{IsResolution};
+ghost use Rattle.swoosh_resolver.specs.Changes.{Fits, view_of};
+ghost use Rattle.swoosh_resolver.specs.Tables.{blocks_in, values_of as values_of_blocks};
+ghost use Rattle.catalogue_core.specs.Batches.{is_own_op};
+ghost use Rattle.catalogue_core.specs.Histories.{MapOf, id_of, is_current, after_op, outcome_of, outcomes, after_batch, bases, current};
+ghost use Rattle.catalogue_core.specs.Homes.{AreHoused, places_in};
+ghost use Rattle.catalogue_core.specs.Joining.{join};
+ghost use Rattle.catalogue_core.specs.Keeping.{batches, loaded, loaded_at, StandFor};
+ghost use Rattle.catalogue_core.specs.Matching.{match as edition_match};
+ghost use Rattle.catalogue_core.specs.Net.{net};
+ghost use Rattle.catalogue_core.specs.Plans.{IsPlanned};
+ghost use Rattle.catalogue_core.specs.PreparedReaches.{without_all, IsReachOfLeaving, IsReachOfComing, IsReachOfParts};
+ghost use Rattle.catalogue_core.specs.Reaches.{IsReachOfWithdrawal};
+ghost use Rattle.catalogue_core.specs.Touches.{IsTouched};
+ghost use Rattle.catalogue_core.specs.declared.edition.Edition.{Edition as EditionModel};
+ghost use Rattle.catalogue_core.specs.declared.batch.Batch.{Batch as BatchModel};
+
+use crate::batch::Batch;
+use crate::edition::Edition;
+use crate::history_entry::HistoryEntry;
+use crate::home::Home;
+use crate::op::Op;
+use crate::outcome::Outcome;
+use crate::place::Place;
+use crate::plan::Plan;
+use crate::planning::{place_of, withdraw};
+use merge_laws::steps::Steps;
+use std::alloc::Global;
+use std::collections::BTreeMap;
+use std::sync::ledger::Ledger;
+use swoosh_resolver::blocks::Blocks;
+use swoosh_resolver::change::Change;
+use union_base::copied::Copied;
+use union_base::library_code::LibraryCode;
+use union_base::memory::Memory;
+use union_base::record_id::RecordId;
+
+/// The id of the library's record that the operation loads or withdraws. Memory where it runs out.
+fn named(alloc: Global, library: &LibraryCode, op: &Op) -> Result<RecordId, Memory>
+    ensures { IfOk result (λ id. id ≡ id_of library.now op.now) }
+{
+    match op {
+        Op::Load(edition) => edition.least().copied(alloc),
+        Op::Withdraw(control) => Ok(RecordId {
+            library: *library,
+            control: control.copied(alloc)?,
+        }),
+    }
+}
+
+/// The plan without the record of that id, where it is current by it. Counts the match tests. Memory where it runs out.
+fn withdraw_current<L: Ledger>(
+    alloc: Global,
+    history: &[HistoryEntry],
+    homes: &BTreeMap<RecordId, Home>,
+    blocks: &Blocks<Edition>,
+    batch: &Batch,
+    plan: Plan,
+    id: &RecordId,
+    steps: &mut Steps<L>,
+) -> Result<Plan, Memory>
+    requires housed { AreHoused blocks.now.blocks homes.now.entries }
+    requires planned { (all : MapOf EditionModel) × IsPlanned (batches history.now ++ batch.now ∷ []) homes.now.entries
+        blocks.now.blocks all plan.change.closed.items plan.change.opened.items plan.touched.entries }
+    ensures planned { IfOk result (λ next. (all : MapOf EditionModel) → IsPlanned (batches history.now ++ batch.now ∷ [])
+        homes.now.entries blocks.now.blocks all plan.change.closed.items plan.change.opened.items plan.touched.entries
+        → IsPlanned (batches history.now ++ batch.now ∷ []) homes.now.entries blocks.now.blocks
+        (remove_entry (is_at (id_cmp id.now)) all) next.change.closed.items next.change.opened.items next.touched.entries) }
+    ensures free { (all : MapOf EditionModel) → IsPlanned (batches history.now ++ batch.now ∷ [])
+        homes.now.entries blocks.now.blocks all plan.change.closed.items plan.change.opened.items plan.touched.entries
+        → is_current all id.now ≡ false → steps.new ≤ steps.old }
+    ensures cost { (all : MapOf EditionModel) (number : ℕ) → IsPlanned (batches history.now ++ batch.now ∷ [])
+        homes.now.entries blocks.now.blocks all plan.change.closed.items plan.change.opened.items plan.touched.entries
+        → is_current all id.now ≡ true → IsReachOfWithdrawal (values_of all) id.now number → steps.new ≤ steps.old + number }
+{
+    match place_of(homes, &plan.touched, id) {
+        Some(_) => withdraw(alloc, history, homes, blocks, batch, plan, id, steps),
+        None => Ok(plan),
+    }
+}
+
+/// The change with the parts inserted, one after the other. Counts the match tests. Memory where it runs out.
+fn insert_parts<L: Ledger>(
+    alloc: Global,
+    blocks: &Blocks<Edition>,
+    change: Change<Edition>,
+    parts: Vec<Edition>,
+    steps: &mut Steps<L>,
+) -> Result<Change<Edition>, Memory>
+    requires { Fits edition_match blocks.now.blocks change.closed.items change.opened.items }
+    ensures fits { IfOk result (λ new. Fits edition_match blocks.now.blocks new.closed.items new.opened.items) }
+    ensures resolved { IfOk result (λ new. IsResolution edition_match join
+        (view_of blocks.now.blocks change.closed.items change.opened.items ++ parts.items)
+        (view_of blocks.now.blocks new.closed.items new.opened.items)) }
+    ensures cost { (list : List EditionModel) (number : ℕ)
+        → IsResolution edition_match join list (view_of blocks.now.blocks change.closed.items change.opened.items)
+        → IsReachOfComing list parts.items number → steps.new ≤ steps.old + number }
+{
+    let mut change = change;
+    for part in parts {
+        change = blocks.plan_insert(alloc, change, part, steps)?;
+    }
+    Ok(change)
+}
+
+/// A plan of the turn of this batch, by which the records that the batch names are no longer current. Counts the match tests.
+/// Memory where it runs out.
+fn without_named<L: Ledger>(
+    alloc: Global,
+    history: &[HistoryEntry],
+    homes: &BTreeMap<RecordId, Home>,
+    blocks: &Blocks<Edition>,
+    batch: &Batch,
+    steps: &mut Steps<L>,
+) -> Result<Plan, Memory>
+    requires current { StandFor (batches history.now) (places_in homes.now.entries) (current history.now) }
+    requires resolved { IsResolution edition_match join (bases history.now) (values_of_blocks (blocks_in blocks.now.blocks)) }
+    requires housed { AreHoused blocks.now.blocks homes.now.entries }
+    ensures planned { IfOk result (λ plan. IsPlanned (batches history.now ++ batch.now ∷ []) homes.now.entries
+        blocks.now.blocks (without_all batch.now.library (current history.now) batch.now.ops) plan.change.closed.items
+        plan.change.opened.items plan.touched.entries) }
+    ensures cost { (number : ℕ) → IsReachOfLeaving batch.now.library (current history.now) batch.now.ops number
+        → steps.new ≤ steps.old + number }
+{
+    let ops = batch.ops.as_slice();
+    let mut plan = Plan {
+        change: blocks.start(),
+        touched: BTreeMap::new(alloc),
+    };
+    for op in ops {
+        let id = named(alloc, &batch.library, op)?;
+        plan = withdraw_current(alloc, history, homes, blocks, batch, plan, &id, steps)?;
+    }
+    Ok(plan)
+}
+
+/// Lets what a turn touched follow an operation of its batch, which stands at that place, and answers what came of it. Memory
+/// where it runs out.
+fn touch_op(
+    alloc: Global,
+    homes: &BTreeMap<RecordId, Home>,
+    touched: &mut BTreeMap<RecordId, Option<Place>>,
+    library: &LibraryCode,
+    place: Place,
+    op: &Op,
+) -> Result<Outcome, Memory>
+    requires own { is_own_op library.now op.now ≡ true }
+    ensures touched { OnOk result ((all : List BatchModel) (editions : MapOf EditionModel) → loaded_at all place ≡ loaded op.now
+        → IsTouched all homes.now.entries editions touched.old.entries
+        → IsTouched all homes.now.entries (after_op library.now editions op.now) touched.new.entries) }
+    ensures outcome { IfOk result (λ found. (all : List BatchModel) (editions : MapOf EditionModel)
+        → IsTouched all homes.now.entries editions touched.old.entries → found ≡ outcome_of library.now editions op.now) }
+{
+    let id = named(alloc, library, op)?;
+    let is_current = place_of(homes, touched, &id).is_some();
+    match op {
+        Op::Load(_) => {
+            touched.insert(id, Some(place))?;
+            Ok(if is_current {
+                Outcome::Replaced
+            } else {
+                Outcome::Added
+            })
+        }
+        Op::Withdraw(_) => {
+            touched.insert(id, None)?;
+            Ok(if is_current {
+                Outcome::Removed
+            } else {
+                Outcome::Absent
+            })
+        }
+    }
+}
+
+/// Where the records are found that the batch, as the next turn, loads or withdraws, and what came of each of its operations.
+/// Memory where it runs out.
+fn touch_all(
+    alloc: Global,
+    history: &[HistoryEntry],
+    homes: &BTreeMap<RecordId, Home>,
+    batch: &Batch,
+) -> Result<(BTreeMap<RecordId, Option<Place>>, Vec<Outcome>), Memory>
+    requires { StandFor (batches history.now) (places_in homes.now.entries) (current history.now) }
+    ensures touched { IfOk result (λ turn. IsTouched (batches history.now ++ batch.now ∷ []) homes.now.entries
+        (after_batch (current history.now) batch.now) turn.0.entries) }
+    ensures outcomes { IfOk result (λ turn. turn.1.items ≡ outcomes batch.now.library (current history.now) batch.now.ops) }
+{
+    let ops = batch.ops.as_slice();
+    let mut outcomes = Vec::with_capacity(alloc, ops.len())?;
+    let mut touched = BTreeMap::new(alloc);
+    let turn = history.len();
+    for (i, op) in ops.iter().enumerate() {
+        let place = Place { turn, op: i };
+        let outcome = touch_op(alloc, homes, &mut touched, &batch.library, place, op)?;
+        outcomes.push(outcome)?;
+    }
+    Ok((touched, outcomes))
+}
+
+/// The plan of a turn of this batch, for a catalogue with that history, those homes and those blocks, where the batch's loads
+/// come to these parts; and what came of each of its operations. Counts the match tests. Memory where it runs out.
+pub fn planned_parts<L: Ledger>(
+    alloc: Global,
+    history: &[HistoryEntry],
+    homes: &BTreeMap<RecordId, Home>,
+    blocks: &Blocks<Edition>,
+    batch: &Batch,
+    parts: Vec<Edition>,
+    steps: &mut Steps<L>,
+) -> Result<(Plan, Vec<Outcome>), Memory>
+    requires current { StandFor (batches history.now) (places_in homes.now.entries) (current history.now) }
+    requires resolved { IsResolution edition_match join (bases history.now) (values_of_blocks (blocks_in blocks.now.blocks)) }
+    requires housed { AreHoused blocks.now.blocks homes.now.entries }
+    requires parts { IsResolution edition_match join (net batch.now) parts.items }
+    ensures planned { IfOk result (λ turn. IsPlanned (batches history.now ++ batch.now ∷ []) homes.now.entries
+        blocks.now.blocks (after_batch (current history.now) batch.now) turn.0.change.closed.items
+        turn.0.change.opened.items turn.0.touched.entries) }
+    ensures outcomes { IfOk result (λ turn. turn.1.items ≡ outcomes batch.now.library (current history.now) batch.now.ops) }
+    ensures cost { (number : ℕ)
+        → IsReachOfParts batch.now.library (current history.now) batch.now.ops parts.items number
+        → steps.new ≤ steps.old + number }
+{
+    let (touched, outcomes) = touch_all(alloc, history, homes, batch)?;
+    let Plan { change, touched: _ } = without_named(alloc, history, homes, blocks, batch, steps)?;
+    let change = insert_parts(alloc, blocks, change, parts, steps)?;
+    Ok((Plan { change, touched }, outcomes))
+}

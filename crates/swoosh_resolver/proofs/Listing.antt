@@ -1,0 +1,118 @@
+-- Values in a row, and the index of their keys, when one is put last or taken out.
+use Rattle.std.proofs.Common.{◌≡◌, ℕ, zero, suc, ◌-◌, ◌<◌, ◌≤◌, Bool, true, List, [], ◌∷◌, ◌++◌, Option, None, Some, length, get_or, take, refl, sym, ◌∙◌, ap, subst, inl, inr, arith}
+use Rattle.std.specs.Prelude.{◌↔◌, ◌⊎◌, Contains, map, slice_set, swap_remove}
+use Rattle.std.proofs.lemmas.List.{map-append, length-map, length-set, get_or-set_same, get_or-set_other}
+use Rattle.feature_index.specs.Postings.{Posting, numbers_of}
+use Rattle.swoosh_resolver.specs.Tables.{Entry, ArePosted, AreListed, block_at, blocks_in, put}
+use Rattle.swoosh_resolver.specs.Insertions.{passes}
+use Rattle.swoosh_resolver.proofs.Opening.{reposted, posted-put, put-past, put-within, one_or_not}
+
+module _ {X : Type 0} where
+  -- the value at a place, and none past them
+  pub listed-at : (xs : List X) (n : ℕ) (x : X) → n < length xs → x ≡ get_or xs n x → block_at (map Some xs) n ≡ Some x
+  listed-at [] n x h e = absurd (omega arith)
+  listed-at (y ∷ ys) zero x h e = ap Some (sym e)
+  listed-at (y ∷ ys) (suc n) x h e = listed-at ys n x (omega arith) e
+
+  pub listed-past : (xs : List X) (n : ℕ) → length xs ≤ n → block_at (map Some xs) n ≡ None
+  listed-past [] n h = refl
+  listed-past (y ∷ ys) zero h = absurd (omega arith)
+  listed-past (y ∷ ys) (suc n) h = listed-past ys n (omega arith)
+
+  -- all values are blocks
+  pub blocks-listed : (xs : List X) → blocks_in (map Some xs) ≡ xs
+  blocks-listed [] = refl
+  blocks-listed (x ∷ xs) = ap (λ ys. x ∷ ys) (blocks-listed xs)
+
+  -- where a test passes, a value stands that passes it
+  pub passing-listed : (test : X → Bool) (xs : List X) (n : ℕ) → passes test (block_at (map Some xs) n) ≡ true → (n < length xs) × ((d : X) → test (get_or xs n d) ≡ true)
+  passing-listed test [] n h = absurd cc
+  passing-listed test (x ∷ xs) zero h = (omega arith, λ d. h)
+  passing-listed test (x ∷ xs) (suc n) h = let (below, is) = passing-listed test xs n h in (omega arith, is)
+
+  shortened : (m : ℕ) (xs : List X) → length xs ≡ suc m → (n : ℕ) → block_at (slice_set (map Some xs) m None) n ≡ block_at (map Some (take m xs)) n
+  shortened m [] e n = absurd (omega arith)
+  shortened zero (x ∷ []) e zero = refl
+  shortened zero (x ∷ []) e (suc n) = refl
+  shortened zero (x ∷ y ∷ ys) e n = absurd (omega arith)
+  shortened (suc m) (x ∷ xs) e zero = refl
+  shortened (suc m) (x ∷ xs) e (suc n) = shortened m xs (omega arith) n
+
+  swapped-at : (m : ℕ) (xs : List X) (i : ℕ) (d : X) → length xs ≡ suc m → i < suc m → (n : ℕ)
+      → block_at (slice_set (slice_set (map Some xs) i (Some (get_or xs m d))) m None) n ≡ block_at (map Some (take m (slice_set xs i (get_or xs m d)))) n
+  swapped-at m [] i d e h n = absurd (omega arith)
+  swapped-at zero (x ∷ []) zero d e h zero = refl
+  swapped-at zero (x ∷ []) zero d e h (suc n) = refl
+  swapped-at zero (x ∷ []) (suc i) d e h n = absurd (omega arith)
+  swapped-at zero (x ∷ y ∷ ys) i d e h n = absurd (omega arith)
+  swapped-at (suc m) (x ∷ xs) zero d e h zero = refl
+  swapped-at (suc m) (x ∷ xs) zero d e h (suc n) = shortened m xs (omega arith) n
+  swapped-at (suc m) (x ∷ xs) (suc i) d e h zero = refl
+  swapped-at (suc m) (x ∷ xs) (suc i) d e h (suc n) = swapped-at m xs i d (omega arith) (omega arith) n
+
+  module _ (L : List (Option X)) (m : ℕ) (x : X) (within : m < length L) where
+    -- what is emptied last may have been written before
+    emptied : (n : ℕ) → block_at (slice_set L m None) n ≡ block_at (slice_set (slice_set L m (Some x)) m None) n
+    emptied n = elim (one_or_not n m) as (λ _. block_at (slice_set L m None) n ≡ block_at (slice_set (slice_set L m (Some x)) m None) n) [
+      | inl same ↦ (let len = length-set L m (Some x) in
+          rw same (get_or-set_same L m None None within ∙ sym (get_or-set_same (slice_set L m (Some x)) m None None (omega arith))))
+      | inr ne ↦ get_or-set_other L m n None None ne ∙ sym (get_or-set_other (slice_set L m (Some x)) m n None None ne ∙ get_or-set_other L m n (Some x) None ne)
+    ]
+
+    -- and a place may be emptied before it is written
+    rewritten : (i : ℕ) → i < m → (n : ℕ) → block_at (slice_set (slice_set (slice_set L i None) m None) i (Some x)) n ≡ block_at (slice_set (slice_set L i (Some x)) m None) n
+    rewritten i im n =
+        let one = length-set L i None in
+        let two = length-set (slice_set L i None) m None in
+        let three = length-set L i (Some x) in
+        elim (one_or_not n i) as (λ _. block_at (slice_set (slice_set (slice_set L i None) m None) i (Some x)) n ≡ block_at (slice_set (slice_set L i (Some x)) m None) n) [
+          | inl same ↦ rw same (get_or-set_same (slice_set (slice_set L i None) m None) i (Some x) None (omega arith)
+              ∙ sym (get_or-set_other (slice_set L i (Some x)) m i None None (λ e. omega arith) ∙ get_or-set_same L i (Some x) None (omega arith)))
+          | inr ne ↦ get_or-set_other (slice_set (slice_set L i None) m None) i n (Some x) None ne
+              ∙ elim (one_or_not n m) as (λ _. block_at (slice_set (slice_set L i None) m None) n ≡ block_at (slice_set (slice_set L i (Some x)) m None) n) [
+                | inl same ↦ rw same (get_or-set_same (slice_set L i None) m None None (omega arith) ∙ sym (get_or-set_same (slice_set L i (Some x)) m None None (omega arith)))
+                | inr ne' ↦ get_or-set_other (slice_set L i None) m n None None ne' ∙ get_or-set_other L i n None None ne
+                    ∙ sym (get_or-set_other (slice_set L i (Some x)) m n None None ne' ∙ get_or-set_other L i n (Some x) None ne)
+              ]
+        ]
+
+module _ {R K : Type 0} {eq : K → K → Bool} {has_key : R → K → Type 0} where
+  posted-same : (L M : List (Option (Entry R K))) (p : List (K × Posting)) → ((n : ℕ) → block_at L n ≡ block_at M n) → ArePosted eq has_key L p → ArePosted eq has_key M p
+  posted-same L M p same posted = record {
+    stands = λ k n. subst (λ o. Contains (numbers_of eq p k) n ↔ ((e : Entry R K) × (o ≡ Some e) × has_key e.value k)) (same n) (posted.stands k n);
+  }
+
+  -- a value is put last
+  pub listed-pushed : (xs : List (Entry R K)) (e : Entry R K) (old new : List (K × Posting)) → AreListed eq has_key xs old
+      → ((k : K) (m : ℕ) → Contains (numbers_of eq new k) m ↔ (Contains (numbers_of eq old k) m ⊎ (has_key e.value k × (m ≡ length xs))))
+      → AreListed eq has_key (xs ++ e ∷ []) new
+  listed-pushed xs e old new listed changed =
+      let len = length-map xs Some in
+      let put' = posted-put (map Some xs) old listed new (length xs) e (listed-past xs (length xs) (omega arith)) (omega arith) changed in
+      rw (map-append Some xs (e ∷ [])) (subst (λ L. ArePosted eq has_key L new) (put-past (map Some xs) (length xs) e (omega arith)) put')
+
+  module _ (xs : List (Entry R K)) (i : ℕ) (d : Entry R K) (m : ℕ) (len : length xs ≡ suc m) where
+    -- the last value is taken out
+    pub unlisted-last : (p : List (K × Posting)) → i ≡ m → ArePosted eq has_key (slice_set (map Some xs) i None) p → AreListed eq has_key (swap_remove xs i d) p
+    unlisted-last p same posted =
+        let mapped : length (map {B = Option (Entry R K)} Some xs) ≡ length xs = length-map xs Some in
+        let is : length xs - 1 ≡ m = omega arith in
+        rw is (posted-same (slice_set (map Some xs) i None) _ p
+        (λ n. subst (λ i. block_at (slice_set (map Some xs) i None) n ≡ block_at (map Some (take m (slice_set xs i (get_or xs m d)))) n) (sym same)
+        (emptied (map Some xs) m (get_or xs m d) (omega arith) n ∙ swapped-at m xs m d len (omega arith) n))
+        posted)
+
+    -- another is taken out, and the last is put in its place
+    pub unlisted-moved : (p : List (K × Posting)) → i < m → ArePosted eq has_key (put (slice_set (slice_set (map Some xs) i None) m None) i (get_or xs m d)) p → AreListed eq has_key (swap_remove xs i d) p
+    unlisted-moved p less posted =
+        let mapped : length (map {B = Option (Entry R K)} Some xs) ≡ length xs = length-map xs Some in
+        let is : length xs - 1 ≡ m = omega arith in
+        let one = length-set (map Some xs) i None in
+        let two = length-set (slice_set (map Some xs) i None) m None in
+        rw is (posted-same (slice_set (slice_set (slice_set (map Some xs) i None) m None) i (Some (get_or xs m d))) _ p
+        (λ n. rewritten (map Some xs) m (get_or xs m d) (omega arith) i less n ∙ swapped-at m xs i d len (omega arith) n)
+        (subst (λ L. ArePosted eq has_key L p) (put-within (slice_set (slice_set (map Some xs) i None) m None) i (get_or xs m d) (omega arith)) posted))
+
+  -- the numbers stay, and so the values are listed as before
+  pub relisted : (xs : List (Entry R K)) (old new : List (K × Posting)) → ((k : K) → numbers_of eq new k ≡ numbers_of eq old k) → AreListed eq has_key xs old → AreListed eq has_key xs new
+  relisted xs old new same listed = reposted (map Some xs) old new same listed

@@ -1,8 +1,0 @@
--- the numbers are those under the keys so far
-use Rattle.std.proofs.Common.{take}
-use Rattle.feature_index.specs.Postings.{numbers_of}
-use Rattle.swoosh_resolver.proofs.Keys.{AreGathered}
-use Rattle.swoosh_resolver.proofs.blocks.Blocks.candidates.Given as goal
-
-abbrev pub invariant-loop-key : goal.invariant-loop-key
-invariant-loop-key g l = AreGathered (numbers_of g.R.Key.PartialEq.eq l.self-inside.postings) (take l.key-index l.keys) l.numbers.items

@@ -1,0 +1,39 @@
+-- The taking apart of one member of the view of a change.
+use Rattle.std.specs.Prelude.{◌≡◌, ℕ, ◌++◌, ◌∷◌, List, [], Option, remove, slice_get}
+use Rattle.std.specs.List.Sorted.{IsPermutation}
+use Rattle.swoosh_resolver.specs.declared.change.Place.{Place}
+use Rattle.swoosh_resolver.specs.declared.change.Place.TheVariants.{Kept, Fresh}
+use Rattle.swoosh_resolver.specs.Tables.{Entry, block_at, values_of}
+use Rattle.swoosh_resolver.specs.Changes.{without, view_of}
+
+-- what stands at a place: the block under the number, where it is not closed, or the opened value at this position
+abbrev pub member_at : {X : Type 0} → List (Option X) → List ℕ → List X → Place → Option X
+member_at blocks closed opened (Kept n) = block_at (without blocks closed) n
+member_at blocks closed opened (Fresh i) = slice_get opened i
+
+-- the closed numbers, once the member at the place is taken out
+abbrev pub closed_after : List ℕ → Place → List ℕ
+closed_after closed (Kept n) = closed ++ n ∷ []
+closed_after closed (Fresh i) = closed
+
+-- the opened values, once the member at the place is taken out
+abbrev pub opened_after : {X : Type 0} → List X → Place → List X
+opened_after opened (Kept n) = opened
+opened_after opened (Fresh i) = remove opened i
+
+-- the members of the view but the one at the place
+abbrev pub others_of : {R K : Type 0} → List (Option (Entry R K)) → List ℕ → List (Entry R K) → Place → List R
+others_of blocks closed opened at = view_of blocks (closed_after closed at) (opened_after opened at)
+
+-- the values are opened last, in their order
+pub record Opens {R K : Type 0} (opened : List (Entry R K)) (values : List R) (opened' : List (Entry R K)) : Type 0 where
+  pub fresh : List (Entry R K)
+  pub last : opened' ≡ opened ++ fresh
+  pub are : values_of fresh ≡ values
+
+-- the member at the place is taken out of the change, the parts are opened last, and nothing else changed
+pub record Splits {R K : Type 0} (closed : List ℕ) (opened : List (Entry R K)) (at : Place) (parts : List R) (closed' : List ℕ) (opened' : List (Entry R K)) : Type 0 where
+  pub left : List (Entry R K)
+  pub closes : closed' ≡ closed_after closed at
+  pub stay : IsPermutation (opened_after opened at) left
+  pub opens : Opens left parts opened'

@@ -1,0 +1,91 @@
+//! The taking apart of a member of the view.
+ghost use Rattle.std.specs.Prelude.{◌≡◌, ◌∷◌, ◌++◌, IsSome, IfOk, IfSome, OnOk, option_copied, option_map};
+ghost use Rattle.std.specs.List.Sorted.{IsPermutation};
+ghost use Rattle.merge_laws.specs.Resolution.{AreApart};
+ghost use Rattle.swoosh_resolver.specs.Tables.{Entry};
+ghost use Rattle.swoosh_resolver.specs.Changes.{Fits, view_of};
+ghost use Rattle.swoosh_resolver.specs.Splits.{Splits, member_at, others_of, opened_after, closed_after, Opens};
+
+use crate::blocks::Blocks;
+use crate::change::{Change, Place};
+use crate::keyed::Keyed;
+use crate::opened::Opened;
+use merge_laws::resolvable::Resolvable;
+use std::alloc::Global;
+use union_base::memory::Memory;
+
+/// Opens the values, in their order. Memory where it runs out.
+fn open_values<R: Resolvable>(
+    alloc: Global,
+    opened: &mut Opened<R>,
+    values: Vec<R>,
+) -> Result<(), Memory>
+    ensures { OnOk result (Opens opened.old.items values.items opened.new.items) }
+{
+    for value in values {
+        opened.push(alloc, Keyed::of(alloc, value)?)?;
+    }
+    Ok(())
+}
+
+impl<R: Resolvable> Blocks<R> {
+    /// The member of the view at the place. None exactly where none stands there. Takes no memory.
+    pub fn member<'a>(&'a self, change: &'a Change<R>, at: Place) -> Option<&'a R>
+        ensures value { option_copied result ≡ option_map (λ e. e.value) (member_at self.now.blocks
+            change.now.closed.items change.now.opened.items at) }
+        ensures others { IfSome result (λ member. IsPermutation (view_of self.now.blocks
+            change.now.closed.items change.now.opened.items) (member.now ∷ others_of self.now.blocks
+            change.now.closed.items change.now.opened.items at)) }
+    {
+        match at {
+            Place::Kept(number) => self.open_block(change.closed.as_slice(), number),
+            Place::Fresh(place) => match change.opened.as_slice().get(place as usize) {
+                Some(keyed) => Some(&keyed.value),
+                None => None,
+            },
+        }
+    }
+
+    /// The change without the member at the place. Memory where it runs out.
+    fn taken_out(&self, alloc: Global, change: Change<R>, at: Place) -> Result<Change<R>, Memory>
+        requires { IsSome (member_at self.now.blocks change.closed.items change.opened.items at) }
+        ensures closed { IfOk result (λ new. new.closed.items ≡ closed_after change.closed.items at) }
+        ensures opened { IfOk result (λ new. IsPermutation (opened_after change.opened.items at) new.opened.items) }
+    {
+        let mut change = change;
+        match at {
+            Place::Kept(number) => {
+                change.closed.push(number)?;
+                Ok(change)
+            }
+            Place::Fresh(place) => {
+                change.opened.swap_remove(alloc, place as usize)?;
+                Ok(change)
+            }
+        }
+    }
+
+    /// The change with the member at the place taken apart: its view has the parts in place of this member, and all its
+    /// other members. No match is tested. Memory where it runs out.
+    pub fn plan_split(
+        &self,
+        alloc: Global,
+        change: Change<R>,
+        at: Place,
+        parts: Vec<R>,
+    ) -> Result<Change<R>, Memory>
+        requires fits { Fits R.meets self.now.blocks change.closed.items change.opened.items }
+        requires stands { IsSome (member_at self.now.blocks change.closed.items change.opened.items at) }
+        requires apart { AreApart R.meets (others_of self.now.blocks change.closed.items change.opened.items at
+            ++ parts.items) }
+        ensures fits { IfOk result (λ new. Fits R.meets self.now.blocks new.closed.items new.opened.items) }
+        ensures view { IfOk result (λ new. IsPermutation (others_of self.now.blocks change.closed.items
+            change.opened.items at ++ parts.items) (view_of self.now.blocks new.closed.items new.opened.items)) }
+        ensures splits { IfOk result (λ new. Splits change.closed.items change.opened.items at parts.items
+            new.closed.items new.opened.items) }
+    {
+        let mut change = self.taken_out(alloc, change, at)?;
+        open_values(alloc, &mut change.opened, parts)?;
+        Ok(change)
+    }
+}

@@ -1,0 +1,258 @@
+-- What sessions leave at the desk makes the union of their files.
+use Rattle.std.proofs.Common.{◌≡◌, ◌≢◌, ℕ, zero, suc, ◌+◌, ◌<◌, ◌≤◌, Bool, true, false, cond, ◌==◌, List, [], ◌∷◌, ◌++◌, length, refl, sym, ap, subst, ◌∙◌, arith, IsTrue}
+use Rattle.std.specs.Prelude.{map, filter, nat_lt, Option, Some, None, slice_get}
+use Rattle.std.specs.List.{list_all, list_any, flat_map, AllZip, AllByRecursion}
+use Rattle.std.proofs.lemmas.Bool.Decides.{nat_tests}
+use Rattle.std.proofs.lemmas.Option.{same_Some}
+use Rattle.catalogue_core.specs.declared.batch.Batch.{Batch}
+use Rattle.catalogue_core.specs.declared.history_entry.HistoryEntry.{HistoryEntry}
+use Rattle.catalogue_lock.specs.Ended.{Ended}
+use Rattle.catalogue_lock.specs.History.{changes_of, IsPrefix}
+use Rattle.catalogue_lock.specs.Rule.{EndedOk}
+use Rattle.iso2709_frame.specs.Frames.{frames}
+use Rattle.library_batches.specs.Batches.{AreBatches, IsBatchOf}
+use Rattle.library_batches.specs.Outcomes.{found_in}
+use Rattle.library_batches.specs.Streams.{Frame}
+use Rattle.load_sessions.specs.Entries.{entries_of}
+use Rattle.load_sessions.specs.Tallies.{found}
+use Rattle.union_base.specs.Both.{both_true, true_both}
+use Rattle.union_reports.specs.Reports.{report_text}
+use Rattle.union_words.specs.Words.{LibraryFile}
+use Rattle.union_sessions.proofs.OwnLaws.{IsApart, found-apart}
+use Rattle.union_sessions.specs.Deliveries.{Delivery, delivery, codes_of, AreDistinct, has_refused, Stream, delivered, batches_of, report_of, reports_of}
+use Rattle.union_sessions.specs.Inputs.{deliveries}
+use Rattle.union_sessions.specs.Interleavings.{batches_under, IsInterleaving}
+use Rattle.union_sessions.specs.Sessions.{Course, file_of_course, ended_of, AreNumbered, IsWhole, course_text}
+use Rattle.union_sessions.specs.Unions.{HasLoaded, HasUnited}
+use Rattle.union_sessions.specs.declared.loaded.Loaded.{Loaded}
+
+abbrev Contents : Type 0
+Contents = List ℕ → List ℕ
+
+abbrev Entries : Type 0
+Entries = List (ℕ × Batch)
+
+-- ---- lists
+
+pub each_at : {A : Type 0} (P : A → Type 0) (xs : List A) (n : ℕ) (x : A) → AllByRecursion P xs → slice_get xs n ≡ Some x → P x
+each_at P [] n x all at = absurd (none_some at)
+  where
+    none_some : None ≡ Some x → ⊥
+    none_some at = cc
+each_at P (y ∷ xs) zero x all at = subst P (same_Some y x at) all.0
+each_at P (y ∷ xs) (suc n) x all at = each_at P xs n x all.1 at
+
+get_mapped : {A B : Type 0} (f : A → B) (xs : List A) (n : ℕ) (x : A) → slice_get xs n ≡ Some x → slice_get (map f xs) n ≡ Some (f x)
+get_mapped f [] n x at = cc
+get_mapped f (y ∷ xs) zero x at = ap (λ z. Some (f z)) (same_Some y x at)
+get_mapped f (y ∷ xs) (suc n) x at = get_mapped f xs n x at
+
+pub element : {A : Type 0} (xs : List A) (n : ℕ) → n < length xs → (x : A) × (slice_get xs n ≡ Some x)
+element [] n below = absurd (omega (arith, below))
+element (x ∷ xs) zero below = (x, refl)
+element (x ∷ xs) (suc n) below = element xs n (omega (arith, below))
+
+pub first_of_both : {A : Type 0} (P : A → Type 0) (xs ys : List A) → AllByRecursion P (xs ++ ys) → AllByRecursion P xs
+first_of_both P [] ys all = tt
+first_of_both P (x ∷ xs) ys all = (all.0, first_of_both P xs ys all.1)
+
+unmapped : {A B : Type 0} (P : B → Type 0) (f : A → B) (xs : List A) → AllByRecursion P (map f xs) → AllByRecursion (λ x. P (f x)) xs
+unmapped P f [] all = tt
+unmapped P f (x ∷ xs) all = (all.0, unmapped P f xs all.1)
+
+same_length : {A B : Type 0} (f : A → B) (xs : List A) → length (map f xs) ≡ length xs
+same_length f [] = refl
+same_length f (x ∷ xs) = ap suc (same_length f xs)
+
+is-equal : (m n : ℕ) → m ≡ n → (m == n) ≡ true
+is-equal m n h = grind (arith, nat_tests)
+
+is-below : (m n : ℕ) → m < n → nat_lt m n ≡ true
+is-below m n h = grind (arith, nat_tests)
+
+-- ---- numbers are places
+
+number_at : (k : ℕ) (courses : List Course) (n : ℕ) (c : Course) → AreNumbered k courses → slice_get courses n ≡ Some c → c.number ≡ k + n
+number_at k [] n c numbers at = cc
+number_at k (first ∷ courses) zero c numbers at =
+    ap (λ (c : Course). c.number) (sym (same_Some first c at)) ∙ (numbers.0 ∙ omega arith)
+number_at k (first ∷ courses) (suc n) c numbers at = number_at (suc k) courses n c numbers.1 at ∙ omega arith
+
+place_is : (courses : List Course) (n : ℕ) (c : Course) → AreNumbered 0 courses → slice_get courses n ≡ Some c → c.number ≡ n
+place_is courses n c numbers at = number_at 0 courses n c numbers at ∙ omega arith
+
+-- different places, different libraries
+apart_at : (courses : List Course) (i j : ℕ) (c d : Course) → AreDistinct (map (λ (c : Course). c.library) courses) → slice_get courses i ≡ Some c
+    → slice_get courses j ≡ Some d → i ≢ j → c.library ≢ d.library
+apart_at [] i j c d distinct at_i at_j differ = absurd (none_some at_i)
+  where
+    none_some : None ≡ Some c → ⊥
+    none_some at = cc
+apart_at (first ∷ courses) zero zero c d distinct at_i at_j differ = absurd (differ refl)
+apart_at (first ∷ courses) zero (suc j) c d distinct at_i at_j differ =
+    subst (λ (c : Course). c.library ≢ d.library) (same_Some first c at_i)
+    (each_at (λ code. first.library ≢ code) (map (λ (c : Course). c.library) courses) j d.library distinct.0
+    (get_mapped (λ (c : Course). c.library) courses j d at_j))
+apart_at (first ∷ courses) (suc i) zero c d distinct at_i at_j differ =
+    subst (λ (d : Course). c.library ≢ d.library) (same_Some first d at_j)
+    (λ same. each_at (λ code. first.library ≢ code) (map (λ (c : Course). c.library) courses) i c.library distinct.0
+    (get_mapped (λ (c : Course). c.library) courses i c at_i) (sym same))
+apart_at (first ∷ courses) (suc i) (suc j) c d distinct at_i at_j differ =
+    apart_at courses i j c d distinct.1 at_i at_j (λ same. differ (ap suc same))
+
+-- ---- whose an entry is
+
+-- the batch is of the library at the place that is the entry's number
+pub record IsOwned (courses : List Course) (entry : ℕ × Batch) : Type 0 where
+  pub course : Course
+  pub at : slice_get courses entry.0 ≡ Some course
+  pub library : entry.1.library ≡ course.library
+
+batches-own : (library : List ℕ) (blocks : List (List Frame)) (batches : List Batch) → AllZip (IsBatchOf library) blocks batches
+    → AllByRecursion (λ batch. batch.library ≡ library) batches
+batches-own library [] [] zip = tt
+batches-own library [] (batch ∷ batches) zip = absurd zip
+batches-own library (block ∷ blocks) [] zip = absurd zip
+batches-own library (block ∷ blocks) (batch ∷ batches) zip = (zip.0.library_is, batches-own library blocks batches zip.1)
+
+-- entries of that number are of the library
+own_entries : (library : List ℕ) (number : ℕ) (entries : Entries) → AllByRecursion (λ batch. batch.library ≡ library) (changes_of number entries)
+    → AllByRecursion (λ entry. entry.0 ≡ number → entry.1.library ≡ library) entries
+own_entries library number [] own = tt
+own_entries library number (entry ∷ entries) own =
+    elim (entry.0 == number) as (λ t. (entry.0 ≡ number → t ≡ true)
+    → AllByRecursion (λ batch. batch.library ≡ library) (map (λ (e : ℕ × Batch). e.1) (cond t (entry ∷ filter (λ (e : ℕ × Batch). e.0 == number) entries) (filter (λ (e : ℕ × Batch). e.0 == number) entries)))
+    → AllByRecursion (λ entry. entry.0 ≡ number → entry.1.library ≡ library) (entry ∷ entries)) [
+      | true ↦ λ tested own. ((λ is. own.0), own_entries library number entries own.1)
+      | false ↦ λ tested own. ((λ is. absurd (false_true (tested is))), own_entries library number entries own)
+    ] (is-equal entry.0 number) own
+  where
+    false_true : false ≡ true → ⊥
+    false_true e = cc
+
+owned_entries : (courses : List Course) (entries : Entries)
+    → ((n : ℕ) (c : Course) → slice_get courses n ≡ Some c → AllByRecursion (λ entry. entry.0 ≡ n → entry.1.library ≡ c.library) entries)
+    → AllByRecursion (λ entry. entry.0 < length courses) entries → AllByRecursion (IsOwned courses) entries
+owned_entries courses [] own below = tt
+owned_entries courses (entry ∷ entries) own below =
+    let here = element courses entry.0 below.0 in (
+      record { course = here.0; at = here.1; library = (own entry.0 here.0 here.1).0 refl },
+      owned_entries courses entries (λ n c at. (own n c at).1) below.1,
+    )
+
+-- so of each course they are apart
+apart_entries : (courses : List Course) (n : ℕ) (c : Course) (entries : Entries) → AreDistinct (map (λ (c : Course). c.library) courses)
+    → slice_get courses n ≡ Some c → AllByRecursion (IsOwned courses) entries → AllByRecursion (IsApart c.library n) entries
+apart_entries courses n c [] distinct at owned = tt
+apart_entries courses n c (entry ∷ entries) distinct at owned = (
+  record {
+    own = λ is. owned.0.library ∙ ap (λ (c : Course). c.library) (same_Some owned.0.course c (sym owned.0.at ∙ (ap (slice_get courses) is ∙ at)));
+    other = λ differ same. apart_at courses entry.0 n owned.0.course c distinct owned.0.at at differ (sym owned.0.library ∙ same);
+  },
+  apart_entries courses n c entries distinct at owned.1,
+)
+
+-- ---- the union
+
+-- the streams of whole courses
+abbrev pub streams_of : (contents : Contents) (courses : List Course) → AllByRecursion (IsWhole contents) courses → List Stream
+streams_of contents [] whole = []
+streams_of contents (c ∷ courses) whole =
+    record { library = c.library; frames = frames (contents c.path); batches = c.own; are = whole.0 } ∷ streams_of contents courses whole.1
+
+streams-delivered : (contents : Contents) (courses : List Course) (whole : AllByRecursion (IsWhole contents) courses)
+    → map delivered (streams_of contents courses whole) ≡ deliveries contents (map file_of_course courses)
+streams-delivered contents [] whole = refl
+streams-delivered contents (c ∷ courses) whole =
+    ap (λ (all : List Delivery). delivery c.library (frames (contents c.path)) ∷ all) (streams-delivered contents courses whole.1)
+
+streams-batches : (contents : Contents) (courses : List Course) (whole : AllByRecursion (IsWhole contents) courses)
+    → map batches_of (streams_of contents courses whole) ≡ map (λ (c : Course). c.own) courses
+streams-batches contents [] whole = refl
+streams-batches contents (c ∷ courses) whole = ap (λ (all : List (List Batch)). c.own ∷ all) (streams-batches contents courses whole.1)
+
+streams-reports : (contents : Contents) (courses : List Course) (whole : AllByRecursion (IsWhole contents) courses)
+    → AllByRecursion (λ c. found c.seen c.number ≡ found_in [] c.own) courses
+    → flat_map (course_text contents) courses ≡ reports_of (streams_of contents courses whole)
+streams-reports contents [] whole brought = refl
+streams-reports contents (c ∷ courses) whole brought =
+    ap (λ outcomes. report_text c.library (frames (contents c.path)) outcomes ++ flat_map (course_text contents) courses) brought.0
+    ∙ ap (λ (rest : List ℕ). report_text c.library (frames (contents c.path)) (found_in [] c.own) ++ rest) (streams-reports contents courses whole.1 brought.1)
+
+codes-same : (contents : Contents) (courses : List Course)
+    → codes_of (deliveries contents (map file_of_course courses)) ≡ map (λ (c : Course). c.library) courses
+codes-same contents [] = refl
+codes-same contents (c ∷ courses) = ap (λ (codes : List (List ℕ)). c.library ∷ codes) (codes-same contents courses)
+
+under-entries : (n : ℕ) (history : List HistoryEntry) → batches_under n history ≡ changes_of n (entries_of history)
+under-entries n [] = refl
+under-entries n (entry ∷ history) =
+    elim (entry.pass == n) as (λ t. map (λ (e : HistoryEntry). e.batch) (cond t (entry ∷ filter (λ (e : HistoryEntry). e.pass == n) history) (filter (λ (e : HistoryEntry). e.pass == n) history))
+    ≡ map (λ (e : ℕ × Batch). e.1) (cond t ((entry.pass, entry.batch) ∷ filter (λ (e : ℕ × Batch). e.0 == n) (entries_of history)) (filter (λ (e : ℕ × Batch). e.0 == n) (entries_of history))))
+    [ true ↦ ap (λ (rest : List Batch). entry.batch ∷ rest) (under-entries n history) | false ↦ under-entries n history ]
+
+numbers-below : (k : ℕ) (history : List HistoryEntry) → AllByRecursion (λ entry. entry.0 < k) (entries_of history)
+    → list_all (λ entry. nat_lt entry.pass k) history ≡ true
+numbers-below k [] below = refl
+numbers-below k (entry ∷ history) below =
+    true_both (nat_lt entry.pass k) (list_all (λ (entry : HistoryEntry). nat_lt entry.pass k) history) (is-below entry.pass k below.0) (numbers-below k history below.1)
+
+-- each course's batches stand under its place
+course_at : (courses : List Course) (n : ℕ) (batches : List Batch) → slice_get (map (λ (c : Course). c.own) courses) n ≡ Some batches
+    → (c : Course) × (slice_get courses n ≡ Some c) × (c.own ≡ batches)
+course_at [] n batches at = absurd (none_some at)
+  where
+    none_some : None ≡ Some batches → ⊥
+    none_some at = cc
+course_at (c ∷ courses) zero batches at = (c, refl, same_Some c.own batches at)
+course_at (c ∷ courses) (suc n) batches at = course_at courses n batches at
+
+-- for each place of a list
+pub each_place : {A : Type 0} (P : A → Type 0) (xs : List A) → ((n : ℕ) (x : A) → slice_get xs n ≡ Some x → P x) → AllByRecursion P xs
+each_place P [] holds = tt
+each_place P (x ∷ xs) holds = (holds 0 x refl, each_place P xs (λ n y at. holds (suc n) y at))
+
+pub united : (contents : Contents) (courses : List Course) (loaded : Loaded) → AreNumbered 0 courses
+    → AllByRecursion (EndedOk (entries_of loaded.catalogue)) (map ended_of courses)
+    → AllByRecursion (λ (e : ℕ × Batch). e.0 < length courses) (entries_of loaded.catalogue)
+    → AreDistinct (codes_of (deliveries contents (map file_of_course courses))) → AllByRecursion (IsWhole contents) courses
+    → loaded.reports.items ≡ flat_map (course_text contents) courses
+    → loaded.refused ≡ list_any has_refused (deliveries contents (map file_of_course courses))
+    → HasUnited (deliveries contents (map file_of_course courses)) loaded
+united contents courses loaded numbers ended low distinct whole reports refused =
+    let entries = entries_of loaded.catalogue in
+    let codes = map (λ (c : Course). c.library) courses in
+    let apart : AreDistinct codes = subst AreDistinct (codes-same contents courses) distinct in
+    let ends : AllByRecursion (λ c. EndedOk entries (ended_of c)) courses =
+    unmapped (EndedOk entries) ended_of courses ended in
+    let owned : AllByRecursion (IsOwned courses) entries = owned_entries courses entries
+    (λ n c at. own_entries c.library n entries
+    (subst (λ m. AllByRecursion (λ batch. batch.library ≡ c.library) (changes_of m entries)) (place_is courses n c numbers at)
+    (subst (AllByRecursion (λ batch. batch.library ≡ c.library)) (sym (each_at (λ c. EndedOk entries (ended_of c)) courses n c ends at).own)
+    (batches-own c.library _ c.own (each_at (IsWhole contents) courses n c whole at)))))
+    low in
+    let brought : AllByRecursion (λ c. found c.seen c.number ≡ found_in [] c.own) courses = each_place (λ c. found c.seen c.number ≡ found_in [] c.own) courses
+    (λ n c at.
+    let end : EndedOk entries (ended_of c) = each_at (λ c. EndedOk entries (ended_of c)) courses n c ends at in
+    let is : c.number ≡ n = place_is courses n c numbers at in
+    let seen : AllByRecursion (IsOwned courses) c.seen =
+    first_of_both (IsOwned courses) c.seen end.seen.0 (subst (AllByRecursion (IsOwned courses)) (sym end.seen.1) owned) in
+    found-apart c.library c.number c.seen (subst (λ m. AllByRecursion (IsApart c.library m) c.seen) (sym is) (apart_entries courses n c c.seen apart at seen))
+    ∙ ap (found_in []) end.own_seen) in
+    record {
+      refused = refused;
+      union = record {
+        streams = streams_of contents courses whole;
+        delivered = streams-delivered contents courses whole;
+        interleaving = subst (λ streams. IsInterleaving streams loaded.catalogue) (sym (streams-batches contents courses whole)) (record {
+          numbers = subst (λ k. list_all (λ entry. nat_lt entry.pass k) loaded.catalogue ≡ true) (sym (same_length (λ (c : Course). c.own) courses))
+              (numbers-below (length courses) loaded.catalogue low);
+          each = λ n batches at.
+              let c = course_at courses n batches at in
+              let end : EndedOk entries (ended_of c.0) = each_at (λ c. EndedOk entries (ended_of c)) courses n c.0 ends c.1 in
+              under-entries n loaded.catalogue
+              ∙ (ap (λ m. changes_of m entries) (sym (place_is courses n c.0 numbers c.1)) ∙ (end.own ∙ c.2));
+        });
+        reports = reports ∙ streams-reports contents courses whole brought;
+      };
+    }

@@ -1,0 +1,6 @@
+pub mod Deliveries
+pub mod Interleavings
+pub mod Unions
+pub mod Inputs
+pub mod Sessions
+pub mod Replies

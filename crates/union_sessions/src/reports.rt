@@ -1,0 +1,65 @@
+//! The reports of the libraries of a load, one after the other.
+ghost use Rattle.std.specs.Prelude.{◌≡◌, ◌++◌, ◌||◌, [], false, nat_lt, List, length, OnOk};
+ghost use Rattle.catalogue_core.specs.declared.outcome.Outcome.{Outcome};
+ghost use Rattle.library_batches.specs.Outcomes.{AreCounted};
+ghost use Rattle.library_batches.specs.Refused.{refused as refused_of};
+ghost use Rattle.library_batches.specs.Streams.{Frame};
+ghost use Rattle.load_sessions.specs.Sessions.{counts_of};
+ghost use Rattle.union_reports.specs.Reports.{report_text};
+
+use library_batches::outcome_counts::OutcomeCounts;
+use load_sessions::report::Report;
+use std::alloc::Global;
+use union_base::library_code::LibraryCode;
+use union_base::memory::Memory;
+use union_reports::reports::add_report;
+
+/// The text of the reports, and whether some frame is refused.
+#[derive(Drop)]
+pub struct Reports {
+    pub text: Vec<u8>,
+    pub refused: bool,
+}
+
+impl Reports {
+    /// No report. Takes no memory.
+    pub fn none(alloc: Global) -> Reports
+        ensures text { result.text.items ≡ [] }
+        ensures refused { result.refused ≡ false }
+    {
+        Reports {
+            text: Vec::new(alloc),
+            refused: false,
+        }
+    }
+
+    /// Adds the report of a library's session.
+    pub fn add(&mut self, library: &LibraryCode, report: &Report) -> Result<(), Memory>
+        ensures text { OnOk result ((all : List Frame) (found : List Outcome) → report.now.frames ≡ length all
+            → report.now.refused.items ≡ refused_of all → AreCounted found (counts_of report.now)
+            → self.new.text.items ≡ self.old.text.items ++ report_text library.now all found) }
+        ensures refused { OnOk result (self.new.refused ≡ (self.old.refused || nat_lt 0 (length report.now.refused.items))) }
+    {
+        add_report(
+            &mut self.text,
+            library.bytes(),
+            report.frames,
+            report.refused.as_slice(),
+            &counts_in(report),
+        )?;
+        self.refused = self.refused || !report.refused.is_empty();
+        Ok(())
+    }
+}
+
+/// The four counts of a report. Takes no memory.
+fn counts_in(report: &Report) -> OutcomeCounts
+    ensures { result ≡ counts_of report.now }
+{
+    OutcomeCounts {
+        added: report.added,
+        replaced: report.replaced,
+        removed: report.removed,
+        absent: report.absent,
+    }
+}

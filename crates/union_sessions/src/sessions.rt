@@ -1,0 +1,191 @@
+//! The loading of the files of a command's libraries by sessions at one desk, with questions beside the sessions and behind them.
+//!
+//! The files are opened in the order of the command, before any of them is read. Then there is a session for each, which makes
+//! its turns under the library's place as its number, and so many workers run them; an asker stands beside them. When all of
+//! these have ended, one pass more asks the late questions. Whatever the order of the turns, the catalogue's history has the
+//! batches of each library in their order and no others, and the reports stand in the order of the command. Each source is
+//! given back to its shelf. Memory grows with what is loaded.
+ghost use Rattle.std.specs.Prelude.{◌≡◌, ◌<◌, ◌≤◌, ◌+◌, [], IfOk, All, length};
+ghost use Rattle.std.specs.List.{AllByRecursion};
+ghost use Rattle.catalogue_lock.specs.Rule.{EndedOk};
+ghost use Rattle.catalogue_lock.specs.Tokens.{root_of, view, IsPassOf, IsRootOf};
+ghost use Rattle.union_words.specs.Meanings.{libraries_meaning};
+ghost use Rattle.load_sessions.specs.Askers.{Asks, IsAsker};
+ghost use Rattle.load_sessions.specs.Entries.{entries_of};
+ghost use Rattle.load_sessions.specs.Sessions.{IsReady, RunsEach};
+ghost use Rattle.union_sessions.specs.Inputs.{Gathers, deliveries};
+ghost use Rattle.union_sessions.specs.Replies.{AreReplies, HasAsked, left_by};
+ghost use Rattle.union_sessions.specs.Unions.{HasUnited};
+
+use crate::asking::{ask_late, end_asker, start_asker};
+use crate::loaded::Loaded;
+use crate::reports::Reports;
+use crate::session_ends::end_all;
+use crate::session_starts::start_sessions;
+use crate::watched::Watched;
+use catalogue_lock::desk::Desk;
+use catalogue_lock::root::Root;
+use catalogue_query::query::Query;
+use load_sessions::asker::Asker;
+use load_sessions::end::End;
+use load_sessions::running::run_sessions;
+use load_sessions::served::Served;
+use load_sessions::session::Session;
+use std::alloc::Global;
+use std::sync::Wait;
+use std::thread::Threads;
+use union_base::memory::Memory;
+use union_io::gate::Gate;
+use union_io::shelf::Shelf;
+use union_io::source::Source;
+use union_words::libraries::Libraries;
+use union_words::status::Status;
+
+/// A desk over an empty catalogue, with its root.
+fn open_desk(alloc: Global) -> Result<(Desk<Served>, Root<Served>), Memory>
+    ensures desk { IfOk result (λ opened. IsRootOf opened.1 opened.0) }
+    ensures made { IfOk result (λ opened. (root_of opened.1).made ≡ 0) }
+    ensures ended { IfOk result (λ opened. (root_of opened.1).ended ≡ []) }
+{
+    Desk::open(alloc, Served::empty(alloc)?)
+}
+
+/// Runs the sessions, by so many workers, and the asker beside them.
+fn run_all<R: Threads + Wait + Sync, S: Source + Send, G: Gate>(
+    rt: &R,
+    alloc: Global,
+    desk: &Desk<Served>,
+    sessions: &mut Vec<Session<S>>,
+    asker: &mut Asker,
+    workers: u32,
+    gate: &G,
+)
+    requires least { 1 ≤ workers }
+    requires most { workers ≤ 64 }
+    requires ready { All (IsReady desk.now.board.shared.table_id) sessions.old.items }
+    requires asker { IsAsker desk.now.board.shared.table_id asker.old }
+    ensures sessions { RunsEach S.name S.left S.faults desk.now.board.shared.table_id sessions.old.items sessions.new.items }
+    ensures asker { Asks desk.now.board.shared.table_id asker.old asker.new }
+{
+    run_sessions(
+        rt,
+        alloc,
+        desk,
+        sessions.as_mut_slice(),
+        Some(asker),
+        workers,
+        gate,
+    );
+}
+
+/// Ends the asker, asks the late questions, and closes the desk.
+fn close_desk<R: Wait>(
+    rt: &R,
+    alloc: Global,
+    desk: Desk<Served>,
+    mut root: Root<Served>,
+    asker: Asker,
+    reports: Reports,
+    late: Vec<Query>,
+) -> Result<Watched, Memory>
+    requires desk { IsRootOf root desk }
+    requires made { (root_of root).made ≡ length (root_of root).ended + 1 }
+    requires few { (root_of root).made < 4294967295 }
+    requires numbers { AllByRecursion (λ left. left.number + 1 < (root_of root).made) (root_of root).ended }
+    requires known { AllByRecursion (λ left. length left.seen ≤ (root_of root).floor) (root_of root).ended }
+    requires asker { IsPassOf asker.pass desk }
+    requires idle { (view asker.pass).own ≡ [] }
+    requires asked { asker.end ≡ End.Done → HasAsked 0 asker.questions.items asker.replies.items (left_by asker) }
+    ensures reports { IfOk result (λ watched. watched.loaded.reports ≡ reports.text) }
+    ensures refused { IfOk result (λ watched. watched.loaded.refused ≡ reports.refused) }
+    ensures ended { IfOk result (λ watched. AllByRecursion (EndedOk (entries_of watched.loaded.catalogue)) (root_of root).ended) }
+    ensures numbers { IfOk result (λ watched. AllByRecursion (λ entry. entry.0 + 1 < (root_of root).made) (entries_of watched.loaded.catalogue)) }
+    ensures beside { IfOk result (λ watched. AreReplies watched.loaded.catalogue 0 asker.questions.items watched.beside.items) }
+    ensures late { IfOk result (λ watched. AreReplies watched.loaded.catalogue (length watched.loaded.catalogue) late.items watched.late.items) }
+{
+    let beside = end_asker(&desk, &mut root, asker)?;
+    let late = ask_late(rt, alloc, &desk, &mut root, late)?;
+    let Served { catalogue } = desk.close(root);
+    Ok(Watched {
+        loaded: Loaded {
+            catalogue,
+            reports: reports.text,
+            refused: reports.refused,
+        },
+        beside,
+        late,
+    })
+}
+
+/// Opens the files of the libraries, loads them by a session each, run by so many workers, and asks.
+///
+/// The questions `beside` are asked in their order beside the sessions, or behind them with one worker; those in `late` when all
+/// sessions have ended. There is a reply to each: the replies `beside` are over beginnings of the catalogue's history that never
+/// get shorter, and the late ones over all of it.
+///
+/// # Errors
+///
+/// - `OpenFault`: this file, the first such, could not be opened. No later one was tried, and none was read.
+/// - `ReadFault`: a read of this file failed, the first such in the order of the command.
+/// - `TooLong`: this file, the first such, has more bytes than are read, and no read failed.
+/// - `Memory`: it ran out, also where it did so for a question.
+pub fn load_and_ask<R: Threads + Wait + Sync, F: Shelf, G: Gate>(
+    rt: &R,
+    alloc: Global,
+    libraries: &Libraries<'_>,
+    workers: u32,
+    beside: Vec<Query>,
+    late: Vec<Query>,
+    shelf: &mut F,
+    gate: &G,
+) -> Result<Watched, Status>
+    requires least { 1 ≤ workers }
+    requires most { workers ≤ 64 }
+    ensures gathers { Gathers result (libraries_meaning libraries.now)
+        (record { files = F.files shelf.old; before = F.faults shelf.old; after = F.faults shelf.new })
+        (λ watched contents. HasUnited (deliveries contents (libraries_meaning libraries.now)) watched.loaded) }
+    ensures beside { IfOk result (λ watched. AreReplies watched.loaded.catalogue 0 beside.items watched.beside.items) }
+    ensures late { IfOk result (λ watched. AreReplies watched.loaded.catalogue (length watched.loaded.catalogue) late.items watched.late.items) }
+{
+    let Ok((desk, mut root)) = open_desk(alloc) else {
+        return Err(Status::Memory);
+    };
+    let mut sessions = start_sessions(alloc, &desk, &mut root, libraries, shelf)?;
+    let mut asker = start_asker(alloc, &desk, &mut root, beside);
+    run_all(rt, alloc, &desk, &mut sessions, &mut asker, workers, gate);
+    let mut reports = Reports::none(alloc);
+    end_all(&desk, &mut root, libraries, sessions, &mut reports, shelf)?;
+    match close_desk(rt, alloc, desk, root, asker, reports, late) {
+        Ok(watched) => Ok(watched),
+        Err(Memory) => Err(Status::Memory),
+    }
+}
+
+/// Opens the files of the libraries, and loads them by a session each, run by so many workers: `load_and_ask` with no question.
+pub fn load_by_sessions<R: Threads + Wait + Sync, F: Shelf, G: Gate>(
+    rt: &R,
+    alloc: Global,
+    libraries: &Libraries<'_>,
+    workers: u32,
+    shelf: &mut F,
+    gate: &G,
+) -> Result<Loaded, Status>
+    requires least { 1 ≤ workers }
+    requires most { workers ≤ 64 }
+    ensures gathers { Gathers result (libraries_meaning libraries.now)
+        (record { files = F.files shelf.old; before = F.faults shelf.old; after = F.faults shelf.new })
+        (λ loaded contents. HasUnited (deliveries contents (libraries_meaning libraries.now)) loaded) }
+{
+    let none = Vec::new(alloc);
+    let watched = load_and_ask(
+        rt,
+        alloc,
+        libraries,
+        workers,
+        none,
+        Vec::new(alloc),
+        shelf,
+        gate,
+    )?;
+    Ok(watched.loaded)
+}

@@ -1,0 +1,5 @@
+pub mod Digits
+pub mod Acceptance
+pub mod DrawLaws
+pub mod BlockLaws
+pub mod SizeLaws

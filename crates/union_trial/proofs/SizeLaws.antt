@@ -1,0 +1,18 @@
+-- How many bytes the export has.
+use Rattle.std.proofs.Common.{◌≡◌, ℕ, ◌+◌, ◌≤◌, List, length, take, ap, ◌∙◌, length-append}
+use Rattle.std.specs.Prelude.{Some, slice_get}
+use Rattle.catalogue_core.specs.EditionKeys.{work_key_of}
+use Rattle.catalogue_core.specs.declared.edition.Edition.{Edition}
+use Rattle.catalogue_core.proofs.WalkLaws.{told-more}
+use Rattle.catalogue_export.specs.Editions.{edition_text, export_text}
+use Rattle.catalogue_export.proofs.ExportedProof.{exported-whole}
+
+-- an edition's record is a frame
+pub edition-size : (e : Edition) → length (edition_text e) ≤ 99999
+unfolding edition_text
+edition-size e = (exported-whole e.content (work_key_of e) e.sound).size
+
+-- one edition more
+pub size-more : (all : List Edition) (place : ℕ) (e : Edition) → slice_get all place ≡ Some e
+    → length (export_text (take (place + 1) all)) ≡ length (export_text (take place all)) + length (edition_text e)
+size-more all place e at = ap length (told-more edition_text all place e at) ∙ length-append (export_text (take place all)) (edition_text e)

@@ -1,0 +1,112 @@
+//! The loading of a library's stream.
+ghost use Rattle.std.specs.Prelude.{◌≡◌, ◌++◌, ◌∷◌, [], ◌<◌, ◌≤◌, IfOk, IsTrue, OnOk};
+ghost use Rattle.union_trial.specs.Blocks.{IsBlockOf};
+ghost use Rattle.union_trial.specs.Streams.{library_code, Loads, still_drawn, AreLoaded};
+
+use crate::drawing::LIBRARIES;
+use crate::generator::MOST_FRAMES;
+use crate::library_draws::LibraryDraws;
+use crate::operations::operation;
+use catalogue_core::batch::Batch;
+use catalogue_core::catalogue::Catalogue;
+use catalogue_core::op::{LARGEST_BATCH, Op};
+use load_sessions::preparing::prepare;
+use merge_laws::steps::Steps;
+use std::alloc::Global;
+use std::sync::ledger::Ledger;
+use std::thread::Threads;
+use union_base::library_code::LibraryCode;
+use union_base::memory::Memory;
+
+/// The code of the library at that place.
+fn library_code(place: u32) -> LibraryCode
+    requires { place < 3 }
+    ensures { result ≡ library_code place }
+{
+    LibraryCode::read(&[b'T', b'0' + place as u8]).unwrap()
+}
+
+/// The operations of the library's next frames, `LARGEST_BATCH` of them unless there are fewer. Each frame is written into
+/// the buffer.
+///
+/// Answers `Memory` where memory ran out.
+fn read_block(
+    alloc: Global,
+    library: &LibraryCode,
+    draws: &mut LibraryDraws,
+    frame: &mut Vec<u8>,
+) -> Result<Vec<Op>, Memory>
+    ensures { IfOk result (λ ops. IsBlockOf library.now (still_drawn draws.old) (still_drawn draws.new) ops.items) }
+{
+    let mut ops = Vec::new(alloc);
+    for _ in 0..LARGEST_BATCH {
+        match draws.next() {
+            Some(drawn) => {
+                let asked = operation(alloc, library, &drawn, frame)?;
+                ops.push(asked)?;
+            }
+            None => return Ok(ops),
+        }
+    }
+    Ok(ops)
+}
+
+/// Loads the stream of the library at that place, whose draws are still to come: applies its batches one after the other, each of
+/// which so many workers prepare. Counts the match tests of the turns.
+///
+/// Answers `Memory` where memory ran out. Some of the batches may be applied then.
+fn load_library<R: Threads + Sync, L: Ledger>(
+    rt: &R,
+    alloc: Global,
+    seed: u64,
+    count: u32,
+    place: u32,
+    workers: u32,
+    catalogue: &mut Catalogue,
+    steps: &mut Steps<L>,
+) -> Result<(), Memory>
+    requires some { 0 < count }
+    requires most { count ≤ MOST_FRAMES }
+    requires place { place < 3 }
+    requires some_worker { 1 ≤ workers }
+    requires most_workers { workers ≤ 64 }
+    ensures { OnOk result (Loads seed count place catalogue.old catalogue.new) }
+{
+    let library = library_code(place);
+    let mut draws = LibraryDraws::of(seed, count, place);
+    let mut frame = Vec::new(alloc);
+    'applying: loop {
+        let ops = read_block(alloc, &library, &mut draws, &mut frame)?;
+        if ops.is_empty() {
+            return Ok(());
+        }
+        let prepared = prepare(rt, alloc, Batch::of(library, ops), workers)?;
+        catalogue.apply_prepared(alloc, place, prepared, steps)?;
+    }
+}
+
+/// Loads the streams of the three libraries, one after the other, into a catalogue without history; so many workers prepare each
+/// batch. Counts the match tests of the turns.
+///
+/// Answers `Memory` where memory ran out.
+pub fn load_all<R: Threads + Sync, L: Ledger>(
+    rt: &R,
+    alloc: Global,
+    seed: u64,
+    count: u32,
+    workers: u32,
+    catalogue: &mut Catalogue,
+    steps: &mut Steps<L>,
+) -> Result<(), Memory>
+    requires some { 0 < count }
+    requires most { count ≤ MOST_FRAMES }
+    requires some_worker { 1 ≤ workers }
+    requires most_workers { workers ≤ 64 }
+    requires new { catalogue.old ≡ [] }
+    ensures { OnOk result (AreLoaded seed count 3 catalogue.new) }
+{
+    for place in 0..LIBRARIES {
+        load_library(rt, alloc, seed, count, place, workers, catalogue, steps)?;
+    }
+    Ok(())
+}

@@ -1,0 +1,54 @@
+//! The counting of a catalogue.
+ghost use Rattle.std.specs.Prelude.{◌≡◌, ◌≤◌, IfOk, List, length};
+ghost use Rattle.catalogue_core.specs.Histories.{AreEditionsOf};
+ghost use Rattle.catalogue_core.specs.declared.edition.Edition.{Edition as EditionModel};
+ghost use Rattle.catalogue_export.specs.Editions.{edition_text, export_text};
+ghost use Rattle.union_trial.specs.Measured.{AreMeasured};
+
+use crate::measures::Measures;
+use catalogue_core::catalogue::Catalogue;
+use catalogue_core::edition::Edition;
+use catalogue_export::editions::append_edition;
+use std::alloc::Global;
+use union_base::memory::Memory;
+
+/// How many bytes the edition's record has in the export. The record is made in place of what the buffer holds.
+fn record_size(alloc: Global, edition: &Edition, buffer: &mut Vec<u8>) -> Result<usize, Memory>
+    ensures value { IfOk result (λ size. size ≡ length (edition_text edition.now)) }
+    ensures bound { IfOk result (λ size. size ≤ 99999) }
+{
+    buffer.clear();
+    append_edition(alloc, edition, buffer)?;
+    Ok(buffer.len())
+}
+
+/// How many bytes the export of the catalogue has. The records are made one after the other, and none is kept.
+fn export_size(alloc: Global, catalogue: &Catalogue) -> Result<u128, Memory>
+    ensures { IfOk result (λ size. (all : List EditionModel) × AreEditionsOf catalogue.now all × (size ≡ length (export_text all))) }
+{
+    let mut buffer = Vec::new(alloc);
+    let mut size: u128 = 0;
+    let mut next = catalogue.first();
+    for _ in 0..catalogue.edition_count() {
+        if let Some(edition) = next {
+            size += record_size(alloc, edition, &mut buffer)? as u128;
+            next = catalogue.after(edition.least());
+        }
+    }
+    Ok(size)
+}
+
+/// Counts what the catalogue has.
+///
+/// Answers `Memory` where memory ran out.
+pub fn measured(alloc: Global, catalogue: &Catalogue) -> Result<Measures, Memory>
+    ensures { IfOk result (λ m. AreMeasured catalogue.now m) }
+{
+    let bytes = export_size(alloc, catalogue)?;
+    Ok(Measures {
+        records: catalogue.record_count(),
+        editions: catalogue.edition_count(),
+        works: catalogue.works().count(),
+        bytes,
+    })
+}

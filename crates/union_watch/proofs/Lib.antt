@@ -1,0 +1,6 @@
+pub mod AskLaws
+pub mod DigitLaws
+pub mod PieceLaws
+pub mod TurnLaws
+pub mod RunLaws
+pub mod ToldLaws

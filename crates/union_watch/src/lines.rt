@@ -1,0 +1,104 @@
+//! The lines of the text.
+//!
+//! Each function adds its text behind what stands in a buffer.
+ghost use Rattle.std.specs.Prelude.{◌≡◌, ◌++◌, ◌∷◌, [], map, drop, OnOk};
+ghost use Rattle.union_watch.specs.AskLines.{line_meaning};
+ghost use Rattle.union_watch.specs.Told.{shown_byte, shown, reply_line, told_first, left_behind, told_text_of};
+ghost use Rattle.union_watch.specs.TurnLines.{turn_of, turn_text, six_digits};
+
+use crate::ask_line::AskLine;
+use catalogue_core::history_entry::HistoryEntry;
+use catalogue_query::answer::Answer;
+use itoa::Buffer;
+use std::alloc::AllocError;
+use union_reports::lines::add_counted;
+use union_script::line_texts::{REFUSED_UNKNOWN, REFUSED_WORD, add_lines};
+
+/// The zeros in front of a number that has no digit.
+const ZEROS: &[u8] = b"000000";
+
+/// Adds a number in at least six digits.
+fn add_six_digits(text: &mut Vec<u8>, number: u64) -> Result<(), AllocError>
+    ensures { OnOk result (text.new.items ≡ text.old.items ++ six_digits number) }
+{
+    let mut buffer = Buffer::new();
+    let digits = buffer.format(number).as_bytes();
+    text.extend_from_slice(&ZEROS[digits.len().min(ZEROS.len())..])?;
+    text.extend_from_slice(digits)?;
+    Ok(())
+}
+
+/// Adds `turn T LIB N`.
+pub fn add_turn_line(text: &mut Vec<u8>, turn: u64, entry: &HistoryEntry) -> Result<(), AllocError>
+    ensures { OnOk result (text.new.items ≡ text.old.items ++ turn_text (turn_of turn entry.now)) }
+{
+    let batch = &entry.batch;
+    let count = batch.ops.as_slice().len() as u64;
+    text.extend_from_slice(b"turn ")?;
+    add_six_digits(text, turn)?;
+    add_counted(text, batch.library.bytes(), count)?;
+    text.push(b'\n')?;
+    Ok(())
+}
+
+/// A byte of a line as it is shown: a blank for a control character. Takes no memory.
+fn shown_byte(byte: u8) -> u8
+    ensures { result ≡ shown_byte byte }
+{
+    if byte < 0x20 || byte == 0x7F {
+        b' '
+    } else {
+        byte
+    }
+}
+
+/// Adds a line of the file, as it is shown.
+fn add_shown(text: &mut Vec<u8>, line: &[u8]) -> Result<(), AllocError>
+    ensures { OnOk result (text.new.items ≡ text.old.items ++ shown line.now) }
+{
+    for byte in line {
+        text.push(shown_byte(*byte))?;
+    }
+    Ok(())
+}
+
+/// Adds `reply T LINE`.
+fn add_reply_line(text: &mut Vec<u8>, over: u64, line: &[u8]) -> Result<(), AllocError>
+    ensures { OnOk result (text.new.items ≡ text.old.items ++ reply_line over line.now) }
+{
+    text.extend_from_slice(b"reply ")?;
+    add_six_digits(text, over)?;
+    text.push(b' ')?;
+    add_shown(text, line)?;
+    text.push(b'\n')?;
+    Ok(())
+}
+
+/// The replies that are still to be told.
+#[derive(Drop)]
+pub struct Replies<'a> {
+    pub left: &'a [(u64, Answer)],
+}
+
+/// Adds what is told of a line, with the first of the replies where it asks something.
+pub fn add_told(
+    text: &mut Vec<u8>,
+    line: &AskLine<'_>,
+    replies: &mut Replies<'_>,
+) -> Result<(), AllocError>
+    ensures told { OnOk result (text.new.items ≡ text.old.items ++ told_text_of (told_first (line_meaning line.now) replies.old.left.now)) }
+    ensures left { OnOk result (replies.new.left.now ≡ left_behind (line_meaning line.now) replies.old.left.now) }
+{
+    match line {
+        AskLine::Asks(line) => {
+            if let Some((reply, left)) = replies.left.split_first() {
+                add_reply_line(text, reply.0, line)?;
+                add_lines(text, reply.1.lines.as_slice())?;
+                replies.left = left;
+            }
+            Ok(())
+        }
+        AskLine::Unknown => text.extend_from_slice(REFUSED_UNKNOWN),
+        AskLine::Word => text.extend_from_slice(REFUSED_WORD),
+    }
+}

@@ -1,7 +1,0 @@
-use Rattle.std.proofs.Common.{take}
-use Rattle.work_clusters.specs.Steps.{TakesOut}
-use Rattle.work_clusters.proofs.steps.take_out.Given as goal
-
--- the pairs so far left
-abbrev pub invariant-loop-key : goal.invariant-loop-key
-invariant-loop-key l = TakesOut l.fn.entries l.entries (take l.key-index l.gone)
