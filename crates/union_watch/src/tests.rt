@@ -6,9 +6,11 @@ use catalogue_lock::machine::Machine;
 use catalogue_query::answer::Answer;
 use catalogue_query::query::Query;
 use library_batches::batch_reader::BatchReader;
+use load_sessions::preparing::prepare;
 use load_sessions::served::Served;
 use std::alloc::Global;
 use std::test::Fail;
+use std::thread::Threads;
 use union_base::bytes::Bytes;
 use union_base::library_code::LibraryCode;
 use union_base::memory::Memory;
@@ -32,7 +34,8 @@ const WATCHED: &[u8] =
     b"turn 000001 LIBA 3\nturn 000002 LIBB 1\nreply 000002 count\neditions 2 works 2 records 4\nrefused unknown\nreply 000002 title Red ships\nedition LIBA.a1\nrefused word\nreply 000002 title Red ships \nedition LIBA.a1\nreply 000002 work \xFF\nnone\nrefused unknown\nreply 000002 id LIBB  id \nedition LIBB.id\nby LIBB.id\nwork cat///LIBB.id\nrefused unknown\nreply 000002 holdings LIBB id\nnone\n";
 
 /// Applies the one batch of a library's stream.
-fn load(
+fn load<R: Threads + Sync>(
+    rt: &R,
     alloc: Global,
     served: &mut Served,
     number: u32,
@@ -43,7 +46,8 @@ fn load(
     let mut source = SureSource::of(Bytes::of(alloc, stream)?, 100);
     let mut reader = BatchReader::open(alloc, &library, 1_000)?;
     if let Some(batch) = reader.next(alloc, &mut source)? {
-        served.apply(alloc, number, batch)?;
+        let prepared = prepare(rt, alloc, batch, 1)?;
+        served.apply(alloc, number, prepared)?;
     }
     Ok(())
 }
@@ -71,8 +75,8 @@ fn sink(alloc: Global, limit: usize) -> Result<MemSink, Memory> {
 fn lines_of_all_kinds_are_told(rt: HostRuntime) -> Result<(), Fail> {
     let alloc = rt.alloc();
     let mut served = Served::empty(alloc)?;
-    load(alloc, &mut served, 0, b"LIBA", BRIDGE)?;
-    load(alloc, &mut served, 1, b"LIBB", ONE)?;
+    load(&rt, alloc, &mut served, 0, b"LIBA", BRIDGE)?;
+    load(&rt, alloc, &mut served, 1, b"LIBB", ONE)?;
     let file = AskFile::read(alloc, ASKS)?;
     assert!(rt; file.has_refusals());
     let late = replies(alloc, &served, file.questions.as_slice(), 2)?;
@@ -98,7 +102,7 @@ fn replies_beside_stand_before_late_ones(rt: HostRuntime) -> Result<(), Fail> {
     assert!(rt; !file.has_refusals());
     let questions = Questions::divide(alloc, 2, file.questions)?;
     let beside = replies(alloc, &served, questions.beside.as_slice(), 0)?;
-    load(alloc, &mut served, 0, b"LIBB", ONE)?;
+    load(&rt, alloc, &mut served, 0, b"LIBB", ONE)?;
     let late = replies(alloc, &served, questions.late.as_slice(), 1_234_567)?;
     let mut out = sink(alloc, 4_096)?;
     write_watch(
