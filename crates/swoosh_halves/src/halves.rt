@@ -5,7 +5,8 @@ ghost use Rattle.std.specs.Prelude.{◌≡◌, ◌<◌, ◌≤◌, ◌++◌, IfO
 ghost use Rattle.std.specs.Thread.{IsSync, IsSend};
 ghost use Rattle.merge_laws.specs.Resolution.{AreApart, IsResolution};
 
-use merge_laws::laws::{resolution_goes_on, resolution_is_apart};
+use crate::strangers::parted_by_keys;
+use merge_laws::laws::resolution_goes_on;
 use merge_laws::resolvable::Resolvable;
 use merge_laws::steps::Steps;
 use merge_laws::swoosh::resolve_onto;
@@ -30,26 +31,18 @@ fn resolved_by<L: Ledger, R: Resolvable>(
     resolve_onto(apart, more, &mut steps)
 }
 
-/// The resolution of values of which no two match, and of more values.
-fn resolved_onto<R: Resolvable>(apart: Vec<R>, more: Vec<R>) -> Result<Vec<R>, Memory>
-    requires { AreApart R.meets apart.items }
-    ensures { IfOk result (λ all. IsResolution R.meets R.join (apart.items ++ more.items) all.items) }
-{
-    resolved_by::<Brand, R>(apart, more, Blank::new(1))
-}
-
-/// The resolution of the list.
+/// The resolution of the list: the strangers among its values are not tested against one another.
 fn resolved<R: Resolvable>(list: Vec<R>) -> Result<Vec<R>, Memory>
     ensures { IfOk result (λ all. IsResolution R.meets R.join list.items all.items) }
 {
-    let none = Vec::new(*list.allocator());
-    resolved_onto(none, list)
+    let (strangers, others) = parted_by_keys(list)?;
+    resolved_by::<Brand, R>(strangers, others, Blank::new(1))
 }
 
 /// The resolution of the list by 1 to 64 workers, in an order that is not fixed. Each half of the list is resolved by half of
-/// the workers, in a thread of its own where one can be made; one worker resolves as `merge_laws::swoosh::resolve_plain`
-/// does. Its contract does not bound the match tests. Memory where it runs out.
-// Another thread may use a bound only where its type is Send, so the keys are Send too, though no key is made here.
+/// the workers, in a thread of its own where one can be made; one worker makes no thread. Its contract does not bound the match
+/// tests. Memory where it runs out.
+// Another thread may use a bound only where its type is Send, so the keys, which each worker makes for itself, are Send too.
 #[cycle(halves)]
 pub fn resolve_halves<Rt: Threads + Sync, R: Resolvable + Send>(
     rt: &Rt,
@@ -65,7 +58,6 @@ where
     if workers == 1 || list.len() < 2 {
         return resolved(list);
     }
-    resolution_is_apart::<R>();
     resolution_goes_on::<R>();
     let mut front = list;
     let back = front.split_off(front.len() / 2)?;
@@ -80,5 +72,7 @@ where
         ensures { IfOk result (λ all. IsResolution R.meets R.join back.items all.items) }
     { resolve_halves(rt, back, others) };
     let (one, other) = join(rt, resolve_front, resolve_back);
-    resolved_onto(one?, other?)
+    let mut blocks = one?;
+    blocks.append(&mut other?)?;
+    resolved(blocks)
 }

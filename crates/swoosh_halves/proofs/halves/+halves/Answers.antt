@@ -4,13 +4,6 @@ use Rattle.std.proofs.lemmas.Result.{IfOk-at_ok, IfOk-weaker}
 use Rattle.merge_laws.specs.Resolution.{IsResolution}
 use Rattle.swoosh_halves.proofs.halves.+halves.Goals as goal
 
--- the blocks of the first half do not match one another
-pub resolved_onto-requires : goal.resolved_onto-requires
-resolved_onto-requires g t c =
-    let front = c.split_off.new.self.items in
-    c.resolution_is_apart.ensures front c.in_ok-one.field-0.items
-    (IfOk-at_ok (λ all. IsResolution g.R.Resolvable.meets g.R.Join.join front all.items) {r = c.join-one.result.0} c.in_ok-one.was c.join-one.ensures.first)
-
 -- what the blocks of the halves resolve to, the list does
 pub returns : goal.returns
 returns g t c =
@@ -19,13 +12,13 @@ returns g t c =
     let list = c.args.list.items in
     let front = c.split_off.new.self.items in
     let back = c.in_ok-back.back.items in
-    let one = c.in_ok-one.field-0.items in
+    let one = c.in_ok-blocks.blocks.items in
     let other = c.in_ok-other.field-0.items in
     let whole : front ++ back ≡ list = ap₂ ◌++◌ c.in_ok-back.ensures.items c.in_ok-back.ensures.tail ∙ take-append-drop _ list in
-    IfOk-weaker c.resolved_onto.result (λ all. IsResolution match merge (one ++ other) all.items) (λ all. IsResolution match merge list all.items)
+    IfOk-weaker c.resolved-2.result (λ all. IsResolution match merge c.append.new.self.items all.items) (λ all. IsResolution match merge list all.items)
     (λ all blocks. subst (λ l. IsResolution match merge l all.items) whole
     (c.resolution_goes_on.ensures.with_list front back one other all.items
-    (IfOk-at_ok (λ found. IsResolution match merge front found.items) {r = c.join-one.result.0} c.in_ok-one.was c.join-one.ensures.first)
+    (IfOk-at_ok (λ found. IsResolution match merge front found.items) {r = c.join-one.result.0} c.in_ok-blocks.was c.join-one.ensures.first)
     (IfOk-at_ok (λ found. IsResolution match merge back found.items) {r = c.join-one.result.1} c.in_ok-other.was c.join-one.ensures.second)
-    blocks))
-    c.resolved_onto.ensures
+    (rw c.in_ok-append.ensures.items at blocks)))
+    c.resolved-2.ensures
