@@ -12,25 +12,11 @@
 set -eu
 
 [ $# -ge 3 ] || { sed -n '4p' "$0" >&2; exit 2; }
-[ -x "$1" ] || { echo "not a program: $1" >&2; exit 2; }
-[ -x /usr/bin/time ] || { echo "no /usr/bin/time" >&2; exit 2; }
-program=$1
+. "$(dirname "$0")/common.sh"
 maker=$2
 peer=$3
 shift 3
 [ $# -ge 1 ] || set -- 10000 20000 40000 80000
-work=$(mktemp -d)
-trap 'rm -rf "$work"' EXIT INT TERM
-
-records() { tr -cd '\035' | wc -c; }
-
-# The time and memory of a command, whose output goes to a file: `user system kilobytes`.
-spent() {
-    status=0
-    /usr/bin/time -q -f '%U %S %M' -o "$work/spent" "$@" >"$work/out" 2>"$work/notes" || status=$?
-    [ "$status" -le 1 ] || { cat "$work/notes" >&2; exit 1; }
-    cat "$work/spent"
-}
 
 for size in "$@"; do
     rm -rf "$work/libraries"
@@ -45,8 +31,8 @@ for size in "$@"; do
     made=$(records <"$work/out")
     theirs=$(spent python3 "$peer" "$work/union" "$work"/libraries/*.mrc)
     echo "$(cat "$work"/libraries/*.mrc | records) $made $(records <"$work/union") $ours $theirs" | awk '{
-        ours = $4 + $5; theirs = $7 + $8
-        printf "%d records in: %d out, %.2f s, %d MB; peer %d out, %.2f s, %d MB; ", $1, $2, ours, $6 / 1024, $3, theirs, $9 / 1024
-        printf "ratios of peer to program: time %.2f, memory %.2f\n", theirs / (ours > 0.01 ? ours : 0.01), $9 / $6
+        ours = $5 + $6; theirs = $9 + $10
+        printf "%d records in: %d out, %.2f s, %d MB; peer %d out, %.2f s, %d MB; ", $1, $2, ours, $7 / 1024, $3, theirs, $11 / 1024
+        printf "ratios of peer to program: time %.2f, memory %.2f\n", theirs / (ours > 0.01 ? ours : 0.01), $11 / $7
     }'
 done

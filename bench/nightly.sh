@@ -14,24 +14,10 @@
 set -eu
 
 [ $# -ge 2 ] || { sed -n '4p' "$0" >&2; exit 2; }
-[ -x "$1" ] || { echo "not a program: $1" >&2; exit 2; }
-[ -x /usr/bin/time ] || { echo "no /usr/bin/time" >&2; exit 2; }
-program=$1
+. "$(dirname "$0")/common.sh"
 maker=$2
 shift 2
 [ $# -ge 1 ] || set -- 10000 20000 40000 80000
-work=$(mktemp -d)
-trap 'rm -rf "$work"' EXIT INT TERM
-
-records() { tr -cd '\035' | wc -c; }
-
-# The time and memory of a script, whose answers go to a file: `user system kilobytes`.
-spent() {
-    status=0
-    /usr/bin/time -q -f '%U %S %M' -o "$work/spent" "$program" script "$1" >"$work/answers" 2>"$work/notes" || status=$?
-    [ "$status" -le 1 ] || { cat "$work/notes" >&2; exit 1; }
-    cat "$work/spent"
-}
 
 for size in "$@"; do
     rm -rf "$work/libraries"
@@ -46,11 +32,11 @@ for size in "$@"; do
     done
     { cat "$work/loads"; echo count; } >"$work/first"
     { cat "$work/loads" "$work/later"; echo count; } >"$work/all"
-    first=$(spent "$work/first")
-    all=$(spent "$work/all")
-    echo "$(cat "$work"/libraries/*.upd.mrc | records) $(cat "$work"/libraries/*.mrc | records) $first $all $(tail -n 1 "$work/answers")" | awk '{
-        first = $3 + $4; all = $6 + $7; night = all - first
-        printf "%d later records of %d: %.2f s for them, %.2f s for everything, %d MB; ", $1, $2, night, all, $8 / 1024
-        printf "everything again is %.1f times the night; %s %s %s %s %s %s\n", all / (night > 0.01 ? night : 0.01), $9, $10, $11, $12, $13, $14
+    first=$(spent "$program" script "$work/first")
+    all=$(spent "$program" script "$work/all")
+    echo "$(cat "$work"/libraries/*.upd.mrc | records) $(cat "$work"/libraries/*.mrc | records) $first $all $(tail -n 1 "$work/out")" | awk '{
+        first = $4 + $5; all = $8 + $9; night = all - first
+        printf "%d later records of %d: %.2f s for them, %.2f s for everything, %d MB; ", $1, $2, night, all, $10 / 1024
+        printf "everything again is %.1f times the night; %s %s %s %s %s %s\n", all / (night > 0.01 ? night : 0.01), $11, $12, $13, $14, $15, $16
     }'
 done
