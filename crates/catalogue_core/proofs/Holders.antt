@@ -11,7 +11,6 @@ use Rattle.merge_laws.proofs.Resolutions.{apart-from_resolution}
 use Rattle.match_features.specs.MemberLaws.{member-from_has}
 use Rattle.field_merge.specs.Kept.{id_cmp}
 use Rattle.field_merge.specs.KeptLaws.{id_total}
-use Rattle.catalogue_core.specs.Joining.{join}
 use Rattle.catalogue_core.specs.JoinLaws.{edition_join_laws}
 use Rattle.catalogue_core.specs.Matching.{match}
 use Rattle.catalogue_core.specs.MatchLaws.{edition_match_laws}

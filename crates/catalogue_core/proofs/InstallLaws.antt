@@ -1,18 +1,17 @@
 -- What a catalogue keeps once a plan is installed.
-use Rattle.std.proofs.Common.{◌≡◌, ◌≢◌, ℕ, ◌+◌, ◌<◌, ◌≤◌, Bool, true, false, cond, IsTrue, List, [], ◌∷◌, ◌++◌, length, get_or, Contains, AllPairs, refl, sym, ap, subst, ◌∙◌, inl, inr, arith}
-use Rattle.std.specs.Prelude.{◌⊎◌, ◌↔◌, fold, map, filter_map, slice_index, slice_get, slice_set, Option, Some, None, is_some, unwrap_or}
+use Rattle.std.proofs.Common.{◌≡◌, ◌≢◌, ℕ, ◌<◌, true, false, cond, IsTrue, List, [], ◌∷◌, ◌++◌, length, Contains, refl, sym, ap, subst, ◌∙◌, inl, inr, arith}
+use Rattle.std.specs.Prelude.{◌⊎◌, fold, slice_get, slice_set, Option, Some, None, is_some, unwrap_or}
 use Rattle.std.specs.Option.{option_map}
 use Rattle.std.specs.List.{list_any, cons_option}
 use Rattle.std.specs.List.Sorted.{IsPermutation, IsStrictlySortedBy}
 use Rattle.std.specs.BTreeMap.{is_at}
-use Rattle.std.specs.Map.{lookup, keys_of, values_of as values}
+use Rattle.std.specs.Map.{keys_of, values_of as values}
 use Rattle.std.proofs.lemmas.List.{map-append}
 use Rattle.std.proofs.lemmas.List.Sums.{fold-append}
 use Rattle.std.proofs.lemmas.List.Elements.{Contains-append_left, Contains-append_right, Contains-append_cases}
 use Rattle.std.proofs.Math.Decide.{dec_lt}
 use Rattle.std.proofs.lemmas.List.Sorted.{IsPermutation-sym, IsPermutation-map, Contains-permutation}
 use Rattle.std.proofs.lemmas.Option.{slice_get_within, get_or_from_slice_get}
-use Rattle.union_base.specs.SortedLists.{has}
 use Rattle.union_base.specs.declared.record_id.RecordId.{RecordId}
 use Rattle.union_base.specs.IdLaws.{ids_apart}
 use Rattle.merge_laws.specs.Resolution.{IsResolution, DoNotMatch, AreApart}
@@ -23,12 +22,12 @@ use Rattle.field_merge.specs.Kept.{id_cmp}
 use Rattle.field_merge.specs.KeptLaws.{id_total}
 use Rattle.swoosh_resolver.specs.Changes.{AreNumbers, AreOpened, number_at, view_of, without}
 use Rattle.swoosh_resolver.specs.Tables.{block_at, blocks_in, values_of}
-use Rattle.swoosh_resolver.proofs.Places.{block-closed, block-kept, block-from_open, taken-from_set, number-from_block, closed-from_found, open-from_missed}
+use Rattle.swoosh_resolver.proofs.Places.{block-closed, block-kept, block-from_open, taken-from_set, number-from_block}
 use Rattle.work_clusters.specs.MemberLaws.{AreAfter, changed-members, works_of-permutation}
 use Rattle.work_clusters.specs.Works.{works_of, changed}
 use Rattle.catalogue_core.specs.EditionKeys.{work_key_of, work_pairs, closed_pairs}
 use Rattle.catalogue_core.specs.Histories.{MapOf, at_id, is_current, after_batch, bases, current}
-use Rattle.catalogue_core.specs.Homes.{Block, AreHoused, has_contributor, place_of, places_in, standing, admitted, moved, housed_all}
+use Rattle.catalogue_core.specs.Homes.{Block, has_contributor, place_of, places_in, standing, admitted, moved, housed_all}
 use Rattle.catalogue_core.specs.Ids.{least}
 use Rattle.catalogue_core.specs.Joining.{join}
 use Rattle.catalogue_core.specs.JoinLaws.{edition_join_laws}
@@ -43,13 +42,12 @@ use Rattle.catalogue_core.specs.declared.history_entry.HistoryEntry.{HistoryEntr
 use Rattle.catalogue_core.specs.declared.home.Home.{Home}
 use Rattle.catalogue_core.specs.declared.place.Place.{Place}
 use Rattle.catalogue_core.proofs.Apart.{match-from_contributor, match-from_least}
-use Rattle.catalogue_core.proofs.HomeLaws.{some-from_test, none-from_test, admitted-keeps, admitted-lets, admitted-only, ordered-admitted, moved_at, at-moved, ordered-moved, ordered-housed_all, place-housed_all, block-housed_all}
-use Rattle.catalogue_core.proofs.Housing.{same-some}
+use Rattle.catalogue_core.proofs.HomeLaws.{some-from_test, admitted-keeps, admitted-lets, admitted-only, ordered-admitted, moved_at, at-moved, ordered-moved, ordered-housed_all, place-housed_all, block-housed_all}
 use Rattle.catalogue_core.proofs.Looking.{member-from_any, any-from_member, bears-resolution, bears-current}
-use Rattle.catalogue_core.proofs.MapLaws.{same, one-id, same-itself, same-maps, id-of_value}
-use Rattle.catalogue_core.proofs.Placing.{lookup-values, values-values}
+use Rattle.catalogue_core.proofs.MapLaws.{same, one-id, same-itself, same-maps}
+use Rattle.catalogue_core.proofs.Placing.{lookup-values}
 use Rattle.catalogue_core.proofs.PlanLaws.{mapped-from_member, member-from_mapped}
-use Rattle.catalogue_core.proofs.TurnLaws.{ordered-current, found-home}
+use Rattle.catalogue_core.proofs.TurnLaws.{ordered-current}
 
 -- ---- blocks
 

@@ -1,22 +1,20 @@
 -- The editions of a catalogue, as a walk along the homes meets them.
 use Rattle.std.proofs.Common.{◌≡◌, ◌≢◌, ℕ, Bool, true, false, cond, ◌&&◌, IsTrue, List, [], ◌∷◌, length, Contains, AllPairs, refl, sym, ap, subst, ◌∙◌, inl, inr, arith}
-use Rattle.std.specs.Prelude.{map, filter, filter_map, find, not, is_none, Option, Some, None, is_some}
+use Rattle.std.specs.Prelude.{filter, find, not, is_none, Option, Some, None, is_some}
 use Rattle.std.specs.Option.{option_map, option_and_then}
 use Rattle.std.specs.List.{list_all, AllByRecursion, cons_option}
 use Rattle.std.specs.List.Sorted.{IsPermutation, IsStrictlySortedBy}
 use Rattle.std.specs.declared.cmp.Ordering.{Ordering}
 use Rattle.std.specs.declared.cmp.Ordering.TheVariants.{Less, Equal, Greater}
 use Rattle.std.specs.Ordering.{is_lt, is_eq}
-use Rattle.std.specs.BTreeMap.{is_at}
-use Rattle.std.specs.Map.{keys_of, values_of as values}
+use Rattle.std.specs.Map.{keys_of}
 use Rattle.std.proofs.lemmas.List.{length-map}
 use Rattle.std.proofs.lemmas.List.Kept.{AllPairs-cons}
-use Rattle.std.proofs.lemmas.List.Sorted.{length_permutation, IsPermutation-map, IsPermutation-sym, Contains-permutation}
+use Rattle.std.proofs.lemmas.List.Sorted.{length_permutation, IsPermutation-map}
 use Rattle.union_base.specs.Both.{both_true, true_both}
-use Rattle.union_base.specs.SortedLists.{has, is_ascending}
+use Rattle.union_base.specs.SortedLists.{is_ascending}
 use Rattle.union_base.specs.declared.record_id.RecordId.{RecordId}
 use Rattle.union_base.specs.IdLaws.{ids_apart}
-use Rattle.merge_laws.specs.Resolution.{IsResolution}
 use Rattle.merge_laws.proofs.Places.{Contains-head, Contains-tail, Contains-cases, All-from_members, IsPermutation-from_members, AllPairs-none, same-from_related}
 use Rattle.merge_laws.proofs.Resolutions.{apart-from_resolution, once-in_resolution, IsResolution-permutation, IsResolution-from_apart}
 use Rattle.match_features.specs.MemberLaws.{member-from_has, has-from_member}
@@ -28,11 +26,10 @@ use Rattle.work_clusters.specs.MemberLaws.{works_of-permutation}
 use Rattle.work_clusters.specs.Works.{works_of}
 use Rattle.catalogue_core.specs.EditionKeys.{work_key_of, work_pairs}
 use Rattle.catalogue_core.specs.Histories.{MapOf, at_id, is_current, bases, current, AreEditionsOf}
-use Rattle.catalogue_core.specs.Homes.{Block, AreHoused, has_contributor, places_in, named, named_in}
+use Rattle.catalogue_core.specs.Homes.{Block, has_contributor, places_in, named, named_in}
 use Rattle.catalogue_core.specs.Ids.{least, edition_cmp}
-use Rattle.catalogue_core.specs.Joining.{join}
 use Rattle.catalogue_core.specs.JoinLaws.{edition_join_laws}
-use Rattle.catalogue_core.specs.Keeping.{batches, loaded_at, StandFor}
+use Rattle.catalogue_core.specs.Keeping.{batches, loaded_at}
 use Rattle.catalogue_core.specs.Kept.{IsKept}
 use Rattle.catalogue_core.specs.Matching.{match}
 use Rattle.catalogue_core.specs.MatchLaws.{edition_match_laws}

@@ -1,10 +1,10 @@
 -- What the steps of a plan keep: a record is withdrawn from it, or an edition is inserted into it.
-use Rattle.std.proofs.Common.{◌≡◌, ℕ, ◌+◌, ◌*◌, ◌<◌, ◌≤◌, Bool, true, false, cond, ◌||◌, IsTrue, List, [], ◌∷◌, ◌++◌, length, Contains, AllPairs, refl, sym, ap, subst, ◌∙◌, inl, inr, arith}
-use Rattle.std.specs.Prelude.{◌⊎◌, ◌↔◌, Option, Some, None, is_some, unwrap_or, filter_map, count_by}
+use Rattle.std.proofs.Common.{◌≡◌, ℕ, ◌+◌, ◌*◌, ◌≤◌, Bool, true, false, cond, ◌||◌, IsTrue, List, [], ◌∷◌, ◌++◌, length, Contains, refl, sym, ap, subst, ◌∙◌, inl, inr, arith}
+use Rattle.std.specs.Prelude.{◌↔◌, Option, Some, None, is_some, unwrap_or, filter_map, count_by}
 use Rattle.std.specs.Option.{option_map, option_and_then, option_flatten}
 use Rattle.std.specs.List.{list_any, cons_option}
 use Rattle.std.specs.List.Sorted.{IsPermutation, IsStrictlySortedBy}
-use Rattle.std.specs.BTreeMap.{is_at, insert_entry}
+use Rattle.std.specs.BTreeMap.{insert_entry}
 use Rattle.std.specs.Map.{remove_entry, keys_of, values_of}
 use Rattle.std.proofs.lemmas.Nat.{mul-le}
 use Rattle.std.proofs.lemmas.List.Elements.{Contains-append_left, Contains-append_right, Contains-append_cases}
@@ -26,7 +26,7 @@ use Rattle.swoosh_resolver.specs.Changes.{Fits, view_of}
 use Rattle.swoosh_resolver.specs.Splits.{member_at, others_of}
 use Rattle.swoosh_resolver.specs.declared.change.Place.{Place as Seat}
 use Rattle.swoosh_resolver.proofs.Splitting.{taken-at}
-use Rattle.catalogue_core.specs.Histories.{MapOf, at_id, is_current, bases}
+use Rattle.catalogue_core.specs.Histories.{MapOf, at_id, is_current}
 use Rattle.catalogue_core.specs.Homes.{Block, has_contributor, place_of}
 use Rattle.catalogue_core.specs.Ids.{least}
 use Rattle.catalogue_core.specs.Joining.{join}
@@ -39,7 +39,6 @@ use Rattle.catalogue_core.specs.Reaches.{IsReachOfInsertion, IsReachOfWithdrawal
 use Rattle.catalogue_core.specs.declared.batch.Batch.{Batch}
 use Rattle.catalogue_core.specs.declared.edition.Edition.{Edition}
 use Rattle.catalogue_core.specs.declared.home.Home.{Home}
-use Rattle.catalogue_core.specs.declared.op.Op.{Op}
 use Rattle.catalogue_core.specs.declared.op.Op.TheVariants.{Load, Withdraw}
 use Rattle.catalogue_core.specs.declared.place.Place.{Place}
 use Rattle.catalogue_core.proofs.Growing.{grown-insert}

@@ -1,17 +1,16 @@
 -- A record that shares no index key with any other.
-use Rattle.std.proofs.Common.{◌≡◌, ℕ, ◌+◌, ◌*◌, Bool, true, false, cond, ◌||◌, IsTrue, List, [], ◌∷◌, ◌++◌, length, Contains, refl, sym, ap, ◌∙◌, inl, inr, arith}
+use Rattle.std.proofs.Common.{◌≡◌, ℕ, ◌+◌, ◌*◌, Bool, true, false, IsTrue, List, [], ◌∷◌, ◌++◌, length, Contains, sym, ap, ◌∙◌, inl, inr, arith}
 use Rattle.std.specs.Prelude.{◌⊎◌, count_by}
 use Rattle.std.proofs.lemmas.List.Elements.{Contains-append_cases}
 use Rattle.std.proofs.lemmas.List.Sums.{length-filter}
 use Rattle.union_base.specs.declared.record_id.RecordId.{RecordId}
-use Rattle.merge_laws.specs.Reach.{near, reach}
-use Rattle.merge_laws.specs.Resolution.{Derives, member, merged, IsResolution}
-use Rattle.merge_laws.proofs.Places.{Contains-head, Contains-tail, Contains-cases}
+use Rattle.merge_laws.specs.Reach.{near}
+use Rattle.merge_laws.specs.Resolution.{Derives, member, merged}
+use Rattle.merge_laws.proofs.Places.{Contains-cases}
 use Rattle.merge_laws.proofs.Resolutions.{IsResolution-push}
 use Rattle.match_features.specs.MemberLaws.{member-from_has}
 use Rattle.union_base.specs.IdLaws.{ids_apart}
 use Rattle.field_merge.specs.KeptLaws.{id_total}
-use Rattle.catalogue_core.specs.Homes.{has_contributor}
 use Rattle.catalogue_core.specs.Joining.{join}
 use Rattle.catalogue_core.specs.JoinLaws.{edition_join_laws}
 use Rattle.catalogue_core.specs.Matching.{match, share}

@@ -1,11 +1,11 @@
 -- The operations of a turn, planned one after the other.
-use Rattle.std.proofs.Common.{◌≡◌, ℕ, zero, suc, ◌+◌, ◌<◌, ◌≤◌, Bool, true, IsTrue, List, [], ◌∷◌, ◌++◌, length, get_or, drop, refl, sym, ap, subst, ◌∙◌, add-one, append_assoc, arith}
-use Rattle.std.specs.Prelude.{fold, Option, Some, None, slice_get}
+use Rattle.std.proofs.Common.{◌≡◌, ℕ, zero, suc, ◌+◌, ◌<◌, ◌≤◌, Bool, true, List, [], ◌∷◌, ◌++◌, length, get_or, drop, refl, sym, ap, subst, ◌∙◌, add-one, append_assoc, arith}
+use Rattle.std.specs.Prelude.{fold, Option, Some, slice_get}
 use Rattle.std.specs.Option.{option_map, option_and_then}
 use Rattle.std.specs.List.{list_all}
 use Rattle.std.specs.List.Sorted.{IsStrictlySortedBy}
-use Rattle.std.specs.BTreeMap.{is_at, insert_entry}
-use Rattle.std.specs.Map.{lookup, remove_entry, keys_of, values_of as values}
+use Rattle.std.specs.BTreeMap.{is_at}
+use Rattle.std.specs.Map.{lookup, keys_of}
 use Rattle.std.proofs.Math.ListN.{drop_of_length-le}
 use Rattle.std.proofs.Math.Seq.{drop-cons}
 use Rattle.std.proofs.lemmas.List.{append-nil}
@@ -33,7 +33,7 @@ use Rattle.catalogue_core.specs.declared.op.Op.TheVariants.{Load, Withdraw}
 use Rattle.catalogue_core.specs.declared.outcome.Outcome.{Outcome}
 use Rattle.catalogue_core.specs.declared.place.Place.{Place}
 use Rattle.catalogue_core.proofs.Looking.{single-turns}
-use Rattle.catalogue_core.proofs.MapLaws.{same, ordered-inserted, ordered-removed}
+use Rattle.catalogue_core.proofs.MapLaws.{ordered-inserted, ordered-removed}
 use Rattle.catalogue_core.proofs.Placing.{lookup-values, batch-last, length-batches, stand-grown}
 
 -- ---- the ids of a history are in order

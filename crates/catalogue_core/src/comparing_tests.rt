@@ -39,12 +39,12 @@ const STATUS: usize = 5;
 /// What a library delivers: a record of that number with these two system numbers and that
 /// title, or its withdrawal.
 #[derive(Clone, Copy)]
-struct Delivery {
-    number: u64,
-    first: u64,
-    second: u64,
-    title: u64,
-    withdrawn: bool,
+pub struct Delivery {
+    pub number: u64,
+    pub first: u64,
+    pub second: u64,
+    pub title: u64,
+    pub withdrawn: bool,
 }
 
 /// Writes four digits.
@@ -81,7 +81,7 @@ fn op_of_frame(alloc: Global, code: &LibraryCode, frame: &[u8]) -> Result<Op, Fa
 }
 
 /// The operation that the delivered record asks for.
-fn op_in(alloc: Global, code: &LibraryCode, delivery: Delivery) -> Result<Op, Fail>
+pub fn op_in(alloc: Global, code: &LibraryCode, delivery: Delivery) -> Result<Op, Fail>
     ensures { IfOk result (λ op. IsTrue (is_own_op code.now op)) }
 {
     let mut frame = FRAME;
@@ -96,7 +96,7 @@ fn op_in(alloc: Global, code: &LibraryCode, delivery: Delivery) -> Result<Op, Fa
 }
 
 /// The batch of a library with these three operations.
-fn batch_of(alloc: Global, place: usize, deliveries: &[Delivery; 3]) -> Result<Batch, Fail> {
+pub fn batch_of(alloc: Global, place: usize, deliveries: &[Delivery; 3]) -> Result<Batch, Fail> {
     let code = library(place)?;
     let [first, second, third] = *deliveries;
     let mut ops = Vec::new(alloc);
@@ -143,7 +143,7 @@ impl Draws {
 }
 
 /// Whether both are the same edition, by their contributors and how many fields they have, or both are none.
-fn same(one: Option<&Edition>, other: Option<&Edition>) -> bool {
+pub fn same(one: Option<&Edition>, other: Option<&Edition>) -> bool {
     match (one, other) {
         (Some(a), Some(b)) => {
             a.content.contributors.as_slice() == b.content.contributors.as_slice()
@@ -174,7 +174,7 @@ fn same_walks(catalogue: &Catalogue, plain: &PlainCatalogue) -> bool {
 }
 
 /// Whether the two have the same works.
-fn same_works(one: &Works, other: &Works) -> bool {
+pub fn same_works(one: &Works, other: &Works) -> bool {
     let mut key = one.after(None);
     for _ in 0..one.count() {
         match key {

@@ -44,6 +44,8 @@ mod plain_turn;
 mod plan;
 mod planning;
 pub mod prepared;
+#[cfg(test)]
+mod prepared_tests;
 pub mod records;
 #[cfg(test)]
 mod tests;

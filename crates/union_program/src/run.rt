@@ -198,13 +198,14 @@ fn run_watch<R: Threads + Wait + Sync, F: Shelf, O: Sink, N: Sink, G: Gate>(
 ///
 /// `check LIB=PATH` tells which frames of a library's file are refused; `export LIB=PATH ..` exports the union catalogue of
 /// the libraries' current records on `out` and reports on `notes`, and `works LIB=PATH ..` lists its works in place of the
-/// export; `watch --ask=PATH LIB=PATH ..` shows the libraries' turns in the order in which they were made, and the answers to the
-/// questions of a file, on `out`, and reports on `notes`; `script PATH` runs the lines of a script and writes on `out` alone;
-/// `trial SEED COUNT WORKERS` generates records, loads them and writes the measures of the catalogue on `out`; `--help` and
-/// `--version` write a text of the program's own on `out`.
+/// export; `watch --ask=PATH LIB=PATH ..` shows the libraries' turns in the order in which they were made, and the answers to
+/// the questions of a file, on `out`, and reports on `notes`; `script PATH` runs the lines of a script and writes on `out`
+/// alone; `trial SEED COUNT WORKERS` generates records, loads them and writes the measures of the catalogue on `out`; `--help`
+/// and `--version` write a text of the program's own on `out`.
 ///
-/// Behind `export` and `works`, and behind the file of questions of `watch`, the option `--workers=N` says how many workers load
-/// the libraries, each by a session of its own; `gate` is told before and after each turn of a session. Waits for the workers.
+/// Behind `export` and `works`, and behind the file of questions of `watch`, the option `--workers=N` says how many workers
+/// load the libraries, each by a session of its own; `gate` is told before and after each turn of a session. Waits for the
+/// workers.
 pub fn union_run<R: Threads + Wait + Sync, F: Shelf, O: Sink, N: Sink, G: Gate>(
     rt: &R,
     alloc: Global,

@@ -1,4 +1,4 @@
-use Rattle.std.proofs.Common.{rules, ◌≡◌, List, length, sym, ap, subst, ◌∙◌}
+use Rattle.std.proofs.Common.{rules, ◌≡◌, List, sym, ap, ◌∙◌}
 use Rattle.std.specs.Prelude.{Result, Ok}
 use Rattle.swoosh_resolver.specs.Tables.{values_of}
 use Rattle.work_clusters.specs.declared.change.WorkChange.{WorkChange}

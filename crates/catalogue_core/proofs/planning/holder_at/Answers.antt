@@ -3,7 +3,6 @@ use Rattle.std.specs.Prelude.{slice_get}
 use Rattle.std.specs.List.{list_any}
 use Rattle.catalogue_core.specs.Homes.{Block, has_contributor}
 use Rattle.catalogue_core.proofs.Housing.{view-none}
-use Rattle.catalogue_core.proofs.PlanLaws.{withdrawn}
 use Rattle.catalogue_core.proofs.planning.holder_at.Goals as goal
 
 pub returns-in-Some-opened_holder-clause-found : goal.returns-in-Some-opened_holder-clause-found

@@ -1,13 +1,12 @@
-use Rattle.std.proofs.Common.{◌≡◌, ℕ, ◌+◌, ◌≤◌, ◌++◌, ◌∷◌, [], true, false, cond, sym, ap, subst, ◌∙◌, arith}
+use Rattle.std.proofs.Common.{◌≡◌, ◌++◌, ◌∷◌, [], true, false, cond, sym, ap, subst, ◌∙◌, arith}
 use Rattle.std.specs.Prelude.{is_some}
 use Rattle.std.specs.Map.{remove_entry, values_of}
-use Rattle.catalogue_core.specs.Histories.{MapOf, is_current}
+use Rattle.catalogue_core.specs.Histories.{is_current}
 use Rattle.catalogue_core.specs.Homes.{place_of}
 use Rattle.catalogue_core.specs.Ids.{least}
 use Rattle.catalogue_core.specs.Keeping.{batches}
 use Rattle.catalogue_core.specs.Plans.{IsPlanned}
 use Rattle.catalogue_core.specs.Reaches.{IsReachOfInsertion, IsReachOfWithdrawal}
-use Rattle.catalogue_core.specs.declared.edition.Edition.{Edition}
 use Rattle.catalogue_core.specs.declared.outcome.Outcome.TheVariants.{Replaced, Added}
 use Rattle.catalogue_core.proofs.MapLaws.{same}
 use Rattle.catalogue_core.proofs.PlanLaws.{current-from_place, not-current, inserted-again, replacement-paid, insertion-paid}

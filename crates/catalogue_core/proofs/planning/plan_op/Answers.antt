@@ -1,4 +1,4 @@
-use Rattle.std.proofs.Common.{sym, subst}
+use Rattle.std.proofs.Common.{subst}
 use Rattle.catalogue_core.specs.Reaches.{IsReachOfOp}
 use Rattle.catalogue_core.proofs.planning.plan_op.Goals as goal
 

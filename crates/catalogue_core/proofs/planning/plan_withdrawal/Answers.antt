@@ -1,9 +1,8 @@
-use Rattle.std.proofs.Common.{◌≡◌, ℕ, ◌++◌, ◌∷◌, [], true, false, sym, ap, subst, ◌∙◌}
+use Rattle.std.proofs.Common.{◌≡◌, ◌++◌, ◌∷◌, [], true, false, sym, ap, subst, ◌∙◌}
 use Rattle.std.specs.Prelude.{is_some}
 use Rattle.std.specs.Map.{remove_entry, values_of}
 use Rattle.union_base.specs.declared.record_id.RecordId.{RecordId}
-use Rattle.catalogue_core.specs.Histories.{MapOf, is_current}
-use Rattle.catalogue_core.specs.Homes.{place_of}
+use Rattle.catalogue_core.specs.Histories.{is_current}
 use Rattle.catalogue_core.specs.Keeping.{batches}
 use Rattle.catalogue_core.specs.Plans.{IsPlanned}
 use Rattle.catalogue_core.specs.Reaches.{IsReachOfWithdrawal}

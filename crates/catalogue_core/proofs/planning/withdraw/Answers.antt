@@ -1,5 +1,3 @@
-use Rattle.std.proofs.Common.{◌++◌, ◌∷◌, [], ◌∙◌}
-use Rattle.catalogue_core.specs.Keeping.{batches}
 use Rattle.catalogue_core.proofs.PlanLaws.{left-apart, left-resolved, left-paid, plan-withdrawn}
 use Rattle.swoosh_resolver.specs.Changes.{view_of}
 use Rattle.catalogue_core.proofs.planning.withdraw.Goals as goal

@@ -1,9 +1,8 @@
 use Rattle.std.proofs.Common.{◌≡◌, sym, ap, ◌∙◌}
-use Rattle.std.specs.Prelude.{Option, Some, None}
+use Rattle.std.specs.Prelude.{Some, None}
 use Rattle.std.specs.Option.{option_map, option_and_then, option_copied}
 use Rattle.catalogue_core.specs.Histories.{at_id, current}
 use Rattle.catalogue_core.specs.Keeping.{batches, loaded_at}
-use Rattle.catalogue_core.specs.declared.history_entry.HistoryEntry.{HistoryEntry}
 use Rattle.catalogue_core.specs.declared.home.Home.{Home}
 use Rattle.catalogue_core.proofs.NamedLaws.{base-is}
 use Rattle.catalogue_core.proofs.catalogue.Catalogue.base.Goals as goal

@@ -1,11 +1,10 @@
-use Rattle.std.proofs.Common.{◌≡◌, true, false, List, sym, ap, subst, ◌∙◌}
+use Rattle.std.proofs.Common.{◌≡◌, List, sym, ap, subst, ◌∙◌}
 use Rattle.std.specs.Prelude.{Option, Some, None, is_none, is_some, not}
 use Rattle.std.specs.Option.{option_map, option_copied}
 use Rattle.catalogue_core.specs.Histories.{at_id, is_current, current, AreEditionsOf}
 use Rattle.catalogue_core.specs.Homes.{Block, named_in}
 use Rattle.catalogue_core.specs.Walks.{holder_of}
 use Rattle.catalogue_core.specs.declared.edition.Edition.{Edition}
-use Rattle.catalogue_core.specs.declared.home.Home.{Home}
 use Rattle.catalogue_core.proofs.Looking.{none-copied}
 use Rattle.catalogue_core.proofs.NamedLaws.{named-editions, holder-is, holder-none, home-current}
 use Rattle.catalogue_core.proofs.catalogue.Catalogue.holder.Goals as goal
