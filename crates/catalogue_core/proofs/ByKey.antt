@@ -1,6 +1,6 @@
 -- The editions that have an index key, as the index of the blocks finds them.
 use Rattle.std.proofs.Common.{◌≡◌, ◌≢◌, Bor, ℕ, zero, suc, ◌+◌, ◌<◌, Bool, true, false, cond, IsTrue, List, [], ◌∷◌, ◌++◌, length, get_or, take, map, All, Contains, AllPairs, refl, sym, ap, subst, ◌∙◌, inl, inr, arith}
-use Rattle.std.specs.Prelude.{◌↔◌, filter, filter_map, Option, Some, None}
+use Rattle.std.specs.Prelude.{◌↔◌, filter, filter_map, Option, Some, None, Result, Ok, Err, IfOk}
 use Rattle.std.specs.Option.{option_map}
 use Rattle.std.specs.Cmp.Lexicographic.{nat_list_cmp_total}
 use Rattle.std.specs.List.{list_all, cons_option}
@@ -109,6 +109,11 @@ sorted-seen (x ∷ rest) up k d low within =
     let seen = x ∷ rest in
     let below : k + 1 < length seen = omega (arith, length-map seen (λ (e : Bor Edition). e.now)) in
     rw (get_or-map (λ (e : Bor Edition). e.now) seen (k + 1) x d below, get_or-map (λ (e : Bor Edition). e.now) seen k x d (omega arith)) (up k x low below)
+
+-- what follows from two clauses of one call
+pub both-ok : {X E : Type 0} (r : Result X E) (P Q R : X → Type 0) → ((x : X) → P x → Q x → R x) → IfOk r P → IfOk r Q → IfOk r R
+both-ok (Ok x) P Q R more p q = more x p q
+both-ok (Err e) P Q R more p q = tt
 
 -- ---- what stands under some numbers
 
