@@ -18,26 +18,6 @@ use Rattle.catalogue_core.specs.declared.history_entry.HistoryEntry.{HistoryEntr
 use Rattle.catalogue_core.proofs.Holders.{one-holder}
 use Rattle.catalogue_query.specs.Answers.{has_contributor}
 
--- the front of a list with one value more
-next-of : {X : Type 0} (xs : List X) (place : ℕ) (x : X) → slice_get xs place ≡ Some x → take (place + 1) xs ≡ take place xs ++ x ∷ []
-next-of xs place x at =
-    take_more xs place x (slice_get_within xs place x at) ∙ ap (λ y. take place xs ++ y ∷ []) (get_or_from_slice_get xs place x x at)
-
-module _ {X A : Type 0} (p : X → Bool) (f : X → List A) where
-  told-one : (x : X) → flat_map f (filter p (x ∷ [])) ≡ cond (p x) (f x) []
-  told-one x =
-      elim (p x) as (λ b. flat_map f (cond b (x ∷ []) []) ≡ cond b (f x) [])
-      [ true ↦ flat_map-cons f x [] ∙ append-nil (f x) | false ↦ refl ]
-
-  -- what is told of the values that pass, with one more looked at
-  pub told-more : (xs : List X) (place : ℕ) (x : X) → slice_get xs place ≡ Some x
-      → flat_map f (filter p (take (place + 1) xs)) ≡ flat_map f (filter p (take place xs)) ++ cond (p x) (f x) []
-  told-more xs place x at =
-      ap (λ ys. flat_map f (filter p ys)) (next-of xs place x at)
-      ∙ ap (flat_map f) (filter-append p (take place xs) (x ∷ []))
-      ∙ flat_map-append f (filter p (take place xs)) (filter p (x ∷ []))
-      ∙ ap (λ ys. flat_map f (filter p (take place xs)) ++ ys) (told-one x)
-
 -- what is told of the one that is found
 told-found : {X A : Type 0} (f : X → List A) (found : Option X) → option_map_or f found [] ≡ flat_map f (option_to_list found)
 told-found f None = refl

@@ -21,7 +21,8 @@ use Rattle.catalogue_query.specs.Lines.{edition_line}
 use Rattle.catalogue_query.specs.Answers.{is_asked, told, told_of, work_keys}
 use Rattle.catalogue_query.specs.declared.query.Query.TheVariants.{Work}
 
-same_text : (key text : List ℕ) → is_key key text ≡ is_text text key
+-- a key is a text where the two are equal, byte by byte
+pub same_text : (key text : List ℕ) → is_key key text ≡ is_text text key
 same_text key text =
     ap is_eq (key_total.antisymm key text) ∙ elim (key_cmp text key) as (λ r. is_eq (ordering_reverse r) ≡ is_eq r) [ Less ↦ refl | Equal ↦ refl | Greater ↦ refl ]
     ∙ sym (texts_ties text key)
