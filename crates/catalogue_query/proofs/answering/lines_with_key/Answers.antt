@@ -1,4 +1,4 @@
-use Rattle.std.proofs.Common.{Bor, List, map, sym, ap, ◌∙◌, arith}
+use Rattle.std.proofs.Common.{Bor, map, sym, ap, ◌∙◌, arith}
 use Rattle.std.proofs.lemmas.List.{take_all}
 use Rattle.std.proofs.lemmas.Simd.{map-map}
 use Rattle.catalogue_core.specs.Ids.{least}
