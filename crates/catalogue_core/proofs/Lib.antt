@@ -11,6 +11,7 @@ mod PlanLaws
 mod TurnLaws
 mod InstallLaws
 mod NamedLaws
+mod ByKey
 mod Strangers
 mod Runs
 pub mod SameEditions

@@ -130,7 +130,7 @@ module _ (history : List HistoryEntry) (homes : MapOf Home) (blocks : List (Opti
       let (home, found, is) = k.housed.only n e (least e.value) at (has-from_member id_total ids_apart e.value.content.contributors (least e.value) (least-stands e.value)) in
       mapped-from_member (named blocks) homes (least e.value, home) e.value (entry-of_id homes (least e.value) home found) (named-by_least blocks home e (ap (block_at blocks) is ∙ at))
 
-  walk-order : IsPermutation (values_of (blocks_in blocks)) (named_in blocks homes)
+  pub walk-order : IsPermutation (values_of (blocks_in blocks)) (named_in blocks homes)
   walk-order =
       IsPermutation-from_members (values_of (blocks_in blocks)) (named_in blocks homes)
       (once-in_resolution edition_join_laws edition_match_laws (bases history) (values_of (blocks_in blocks)) k.resolved)

@@ -13,6 +13,7 @@ pub mod RecordLaws
 pub mod Records
 pub mod RecordsLaws
 pub mod Ids
+pub mod IndexKeys
 pub mod EditionKeys
 pub mod Resolutions
 pub mod Batches

@@ -7,12 +7,13 @@
 //! Beside the history it keeps the editions in blocks under numbers, with an index of their keys, and under the id of each
 //! current record its home: where in the history it was loaded, and the number of its block. A turn counts at most the reach of
 //! its batch (`specs/Reaches.antt`), whatever the size of the catalogue.
-ghost use Rattle.std.specs.Prelude.{◌≡◌, ◌≤◌, ◌+◌, ◌<◌, ◌^◌, ◌++◌, ◌∷◌, [], ℕ, List, length, not, is_none, IfOk, OnOk, OnErr, Some, slice_get};
+ghost use Rattle.std.specs.Prelude.{◌≡◌, ◌≤◌, ◌+◌, ◌<◌, ◌^◌, ◌++◌, ◌∷◌, [], ℕ, List, length, map, filter, not, is_none, IfOk, OnOk, OnErr, Some, slice_get};
 ghost use Rattle.std.specs.Option.{option_copied};
 ghost use Rattle.catalogue_core.specs.declared.edition.Edition.{Edition as EditionModel};
 ghost use Rattle.work_clusters.specs.Works.{works_of};
 ghost use Rattle.catalogue_core.specs.EditionKeys.{work_pairs};
 ghost use Rattle.catalogue_core.specs.Histories.{current, bases, at_id, is_current, outcomes, AreEditionsOf};
+ghost use Rattle.catalogue_core.specs.IndexKeys.{has_key};
 ghost use Rattle.catalogue_core.specs.Net.{net};
 ghost use Rattle.catalogue_core.specs.PreparedReaches.{IsReachOfParts};
 ghost use Rattle.catalogue_core.specs.Reaches.{IsReachOf};
@@ -20,6 +21,7 @@ ghost use Rattle.catalogue_core.specs.Resolutions.{IsOrderedResolution};
 ghost use Rattle.catalogue_core.specs.Walks.{first_of, first_behind, holder_of};
 
 use crate::batch::Batch;
+use crate::by_key;
 use crate::edition::Edition;
 use crate::history_entry::HistoryEntry;
 use crate::home::Home;
@@ -30,6 +32,7 @@ use crate::parts_turn::apply_parts;
 use crate::prepared::Prepared;
 use crate::turn::planned;
 use crate::walk::first_named;
+use match_features::keys::FeatureKey;
 use merge_laws::steps::Steps;
 use std::alloc::Global;
 use std::collections::BTreeMap;
@@ -173,6 +176,17 @@ impl Catalogue {
             Some(home) => self.blocks.block(home.block),
             None => None,
         }
+    }
+
+    /// The editions that have the index key, in order of their least contributors. It is looked up, so it takes time by the number
+    /// of editions that it answers, and not by how many there are.
+    ///
+    /// Answers `Memory` where memory ran out.
+    pub fn with_key(&self, alloc: Global, key: &FeatureKey) -> Result<Vec<&Edition>, Memory>
+        ensures { IfOk result (λ found. (all : List EditionModel) × AreEditionsOf self.now all
+            × (map (λ e. e.now) found.items ≡ filter (has_key key.now) all)) }
+    {
+        by_key::with_key(alloc, &self.blocks, key)
     }
 
     /// The current record of that id, as its edition: None exactly where it is not current. Takes no memory.

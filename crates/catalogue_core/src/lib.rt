@@ -15,6 +15,7 @@
 #![tactic(auto)]
 
 pub mod batch;
+mod by_key;
 pub mod catalogue;
 #[cfg(test)]
 mod catalogue_tests;

@@ -1,4 +1,5 @@
 pub mod CutLaws
+pub mod KeyLaws
 pub mod TellingLaws
 pub mod TitleLaws
 pub mod WorkLaws

@@ -1,5 +1,5 @@
 -- The editions of a work, and how many works there are.
-use Rattle.std.proofs.Common.{◌≡◌, ℕ, suc, Bool, true, false, cond, ◌&&◌, List, [], ◌∷◌, length, map, filter, refl, sym, ap, ◌∙◌}
+use Rattle.std.proofs.Common.{◌≡◌, ℕ, suc, Bool, true, false, cond, List, [], ◌∷◌, length, map, filter, refl, sym, ap, ◌∙◌}
 use Rattle.std.specs.declared.cmp.Ordering.TheVariants.{Less, Equal, Greater}
 use Rattle.std.specs.Ordering.{is_eq, is_lt, ordering_reverse}
 use Rattle.std.specs.Cmp.Lexicographic.{texts_ties}
@@ -10,7 +10,7 @@ use Rattle.union_base.specs.IdLaws.{ids_apart}
 use Rattle.union_base.specs.SortedLists.{is_ascending, set_of}
 use Rattle.union_base.specs.declared.record_id.RecordId.{RecordId}
 use Rattle.union_base.proofs.SortedListLaws.{same_ascending, is_ascending-union}
-use Rattle.work_clusters.specs.Works.{key_cmp, id_cmp, is_key, ids_with, keys_in, works_of, ids_under}
+use Rattle.work_clusters.specs.Works.{key_cmp, id_cmp, is_key, works_of, ids_under}
 use Rattle.work_clusters.specs.WorksLaws.{key_total, id_total, has-set_of, ids_under-works_of, keys_of-works_of}
 use Rattle.catalogue_core.specs.Ids.{least, edition_cmp}
 use Rattle.catalogue_core.specs.EditionKeys.{work_key_of, work_pairs}
@@ -21,7 +21,8 @@ use Rattle.catalogue_query.specs.Lines.{edition_line}
 use Rattle.catalogue_query.specs.Answers.{is_asked, told, told_of, work_keys}
 use Rattle.catalogue_query.specs.declared.query.Query.TheVariants.{Work}
 
-same_text : (key text : List ℕ) → is_key key text ≡ is_text text key
+-- a key is a text where the two are equal, byte by byte
+pub same_text : (key text : List ℕ) → is_key key text ≡ is_text text key
 same_text key text =
     ap is_eq (key_total.antisymm key text) ∙ elim (key_cmp text key) as (λ r. is_eq (ordering_reverse r) ≡ is_eq r) [ Less ↦ refl | Equal ↦ refl | Greater ↦ refl ]
     ∙ sym (texts_ties text key)

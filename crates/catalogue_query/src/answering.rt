@@ -1,21 +1,25 @@
 //! What a catalogue answers to a query.
 //!
-//! The edition that has a record is looked up, and so are the editions of a work; the counts are read. For an ISBN, a control
-//! pair or a title the walk over the editions looks at each, so such an answer takes time by their number.
+//! All are looked up: the edition that has a record, the editions that have an ISBN, a control pair or a title, and those of a
+//! work; the counts are read. So an answer takes time by what it tells, and not by how many editions there are.
 ghost use Rattle.std.specs.Prelude.{◌≡◌, List, map, filter, flat_map, IfOk};
 ghost use Rattle.catalogue_core.specs.Histories.{current, AreEditionsOf};
+ghost use Rattle.catalogue_core.specs.Ids.{least};
+ghost use Rattle.catalogue_core.specs.IndexKeys.{has_key};
 ghost use Rattle.catalogue_core.specs.declared.edition.Edition.{Edition as EditionModel};
-ghost use Rattle.catalogue_query.specs.declared.query.Query.TheVariants.{Work, Count};
+ghost use Rattle.catalogue_query.specs.declared.query.Query.TheVariants.{Isbn, Control, Title, Work, Count};
 ghost use Rattle.catalogue_query.specs.Lines.{edition_line};
 ghost use Rattle.catalogue_query.specs.Answers.{has_contributor, told, told_of, lines_of, or_none, answer_lines};
 
 use crate::answer::Answer;
 use crate::lines::{count_line, edition_line};
 use crate::query::Query;
-use crate::telling::{add_asked, add_told};
+use crate::telling::add_told;
 use catalogue_core::catalogue::Catalogue;
+use match_features::keys::FeatureKey;
 use std::alloc::Global;
 use union_base::bytes::Bytes;
+use union_base::copied::Copied;
 use union_base::memory::Memory;
 use union_base::record_id::RecordId;
 use union_base::sequence::Sequence;
@@ -62,9 +66,11 @@ fn lines_of(alloc: Global, catalogue: &Catalogue, query: &Query) -> Result<Vec<B
     match query {
         Query::Id(id) => lines_of_holder(alloc, catalogue, query, id),
         Query::Holdings(id) => lines_of_holder(alloc, catalogue, query, id),
+        Query::Isbn(digits) => lines_of_isbn(alloc, catalogue, digits),
+        Query::Control(source, number) => lines_of_control(alloc, catalogue, source, number),
+        Query::Title(form) => lines_of_title(alloc, catalogue, form),
         Query::Work(key) => lines_of_work(alloc, catalogue, key),
         Query::Count => count_lines(alloc, catalogue),
-        _ => lines_of_asked(alloc, catalogue, query),
     }
 }
 
@@ -85,6 +91,58 @@ fn lines_of_holder(
     Ok(lines)
 }
 
+/// What is told of the editions that have the ISBN.
+fn lines_of_isbn(
+    alloc: Global,
+    catalogue: &Catalogue,
+    digits: &[u8; 13],
+) -> Result<Vec<Bytes>, Memory>
+    ensures { IfOk result (λ lines. (all : List EditionModel) × AreEditionsOf catalogue.now all
+        × (lines.items ≡ told_of (Isbn digits.now) (current catalogue.now) all)) }
+{
+    lines_with_key(alloc, catalogue, &FeatureKey::Isbn(*digits))
+}
+
+/// What is told of the editions that have the control pair.
+fn lines_of_control(
+    alloc: Global,
+    catalogue: &Catalogue,
+    source: &Bytes,
+    number: &Bytes,
+) -> Result<Vec<Bytes>, Memory>
+    ensures { IfOk result (λ lines. (all : List EditionModel) × AreEditionsOf catalogue.now all
+        × (lines.items ≡ told_of (Control source.now number.now) (current catalogue.now) all)) }
+{
+    let key = FeatureKey::Control(source.copied(alloc)?, number.copied(alloc)?);
+    lines_with_key(alloc, catalogue, &key)
+}
+
+/// What is told of the editions that have the title.
+fn lines_of_title(alloc: Global, catalogue: &Catalogue, form: &Bytes) -> Result<Vec<Bytes>, Memory>
+    ensures { IfOk result (λ lines. (all : List EditionModel) × AreEditionsOf catalogue.now all
+        × (lines.items ≡ told_of (Title form.now) (current catalogue.now) all)) }
+{
+    let key = FeatureKey::Title(form.copied(alloc)?);
+    lines_with_key(alloc, catalogue, &key)
+}
+
+/// The line of each edition that has the index key.
+fn lines_with_key(
+    alloc: Global,
+    catalogue: &Catalogue,
+    key: &FeatureKey,
+) -> Result<Vec<Bytes>, Memory>
+    ensures { IfOk result (λ lines. (all : List EditionModel) × AreEditionsOf catalogue.now all
+        × (lines.items ≡ map (λ e. edition_line (least e)) (filter (has_key key.now) all))) }
+{
+    let editions = catalogue.with_key(alloc, key)?;
+    let mut lines = Vec::with_capacity(alloc, editions.len())?;
+    for edition in &editions {
+        lines.push(edition_line(alloc, edition.least())?)?;
+    }
+    Ok(lines)
+}
+
 /// What is told of the editions of the work.
 fn lines_of_work(alloc: Global, catalogue: &Catalogue, key: &Bytes) -> Result<Vec<Bytes>, Memory>
     ensures { IfOk result (λ lines. (all : List EditionModel) × AreEditionsOf catalogue.now all
@@ -100,22 +158,6 @@ fn edition_lines(alloc: Global, ids: &[RecordId]) -> Result<Vec<Bytes>, Memory>
     let mut lines = Vec::with_capacity(alloc, ids.len())?;
     for id in ids {
         lines.push(edition_line(alloc, id)?)?;
-    }
-    Ok(lines)
-}
-
-/// What the query is told of the editions that it asks for.
-fn lines_of_asked(alloc: Global, catalogue: &Catalogue, query: &Query) -> Result<Vec<Bytes>, Memory>
-    ensures { IfOk result (λ lines. (all : List EditionModel) × AreEditionsOf catalogue.now all
-        × (lines.items ≡ told_of query.now (current catalogue.now) all)) }
-{
-    let mut lines = Vec::new(alloc);
-    let mut next = catalogue.first();
-    for _ in 0..catalogue.edition_count() {
-        if let Some(edition) = next {
-            add_asked(alloc, &mut lines, catalogue, query, edition)?;
-            next = catalogue.after(edition.least());
-        }
     }
     Ok(lines)
 }

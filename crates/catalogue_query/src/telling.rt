@@ -1,10 +1,9 @@
 //! What a query is told of an edition that it asks for.
-ghost use Rattle.std.specs.Prelude.{◌≡◌, ◌++◌, [], if◌then◌else◌, map, OnOk};
+ghost use Rattle.std.specs.Prelude.{◌≡◌, ◌++◌, map, OnOk};
 ghost use Rattle.catalogue_core.specs.Histories.{current};
 ghost use Rattle.catalogue_query.specs.Lines.{by_line, hold_line};
-ghost use Rattle.catalogue_query.specs.Answers.{is_asked, identity_lines, record_lines, holding_lines, told};
+ghost use Rattle.catalogue_query.specs.Answers.{identity_lines, record_lines, holding_lines, told};
 
-use crate::asked::is_asked;
 use crate::lines::{by_line, edition_line, hold_line, work_line};
 use crate::query::Query;
 use catalogue_core::catalogue::Catalogue;
@@ -15,23 +14,6 @@ use std::alloc::Global;
 use union_base::bytes::Bytes;
 use union_base::memory::Memory;
 use union_base::record_id::RecordId;
-
-/// Adds what the query is told of the edition, where it asks for it.
-pub(crate) fn add_asked(
-    alloc: Global,
-    lines: &mut Vec<Bytes>,
-    catalogue: &Catalogue,
-    query: &Query,
-    edition: &Edition,
-) -> Result<(), Memory>
-    ensures { OnOk result (lines.new.items ≡ lines.old.items
-        ++ (if is_asked query.now edition.now then told query.now (current catalogue.now) edition.now else [])) }
-{
-    if is_asked(alloc, query, edition)? {
-        add_told(alloc, lines, catalogue, query, edition)?;
-    }
-    Ok(())
-}
 
 /// Adds what the query is told of the edition.
 pub(crate) fn add_told(
