@@ -1,5 +1,5 @@
 -- The editions that have an index key, as the index of the blocks finds them.
-use Rattle.std.proofs.Common.{◌≡◌, ◌≢◌, Bor, ℕ, zero, suc, ◌+◌, ◌<◌, Bool, true, false, cond, IsTrue, List, [], ◌∷◌, ◌++◌, length, get_or, take, map, All, Contains, AllPairs, refl, sym, ap, subst, ◌∙◌, inl, inr, arith}
+use Rattle.std.proofs.Common.{◌≡◌, ◌≢◌, Bor, ℕ, zero, suc, ◌+◌, ◌<◌, Bool, true, false, cond, List, [], ◌∷◌, ◌++◌, length, get_or, take, map, Contains, AllPairs, refl, sym, ap, subst, ◌∙◌, inl, inr, arith}
 use Rattle.std.specs.Prelude.{◌↔◌, filter, filter_map, Option, Some, None, Result, Ok, Err, IfOk}
 use Rattle.std.specs.Option.{option_map}
 use Rattle.std.specs.Cmp.Lexicographic.{nat_list_cmp_total}
@@ -13,7 +13,7 @@ use Rattle.std.proofs.lemmas.List.Sorted.{Contains-permutation, IsPermutation-sy
 use Rattle.union_base.specs.Both.{both_true, true_both}
 use Rattle.union_base.specs.SortedLists.{is_ascending}
 use Rattle.union_base.specs.Ties.{texts_apart}
-use Rattle.merge_laws.specs.Resolution.{IsResolution, DoNotMatch, member}
+use Rattle.merge_laws.specs.Resolution.{DoNotMatch, member}
 use Rattle.merge_laws.proofs.Places.{Contains-head, Contains-tail, Contains-cases, All-from_members, AllPairs-first, AllPairs-none, AllPairs-permutation, AllPairs-rest, IsPermutation-from_members}
 use Rattle.merge_laws.proofs.Resolutions.{IsDominated-refl, apart-from_resolution, once-in_resolution, IsResolution-from_apart}
 use Rattle.feature_index.specs.Postings.{Ascends}
@@ -26,7 +26,6 @@ use Rattle.swoosh_resolver.proofs.Places.{block-from_value, number-from_block}
 use Rattle.catalogue_core.specs.Homes.{Block}
 use Rattle.catalogue_core.specs.Ids.{edition_cmp}
 use Rattle.catalogue_core.specs.IndexKeys.{has_key}
-use Rattle.catalogue_core.specs.Joining.{join}
 use Rattle.catalogue_core.specs.JoinLaws.{edition_join_laws}
 use Rattle.catalogue_core.specs.Matching.{match, HasFeatureKey}
 use Rattle.catalogue_core.specs.MatchLaws.{edition_match_laws}

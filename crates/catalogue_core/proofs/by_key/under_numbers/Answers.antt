@@ -1,4 +1,4 @@
-use Rattle.std.proofs.Common.{map, Bor, List, [], ◌∷◌, ◌++◌, Some, None, sym, ap, ◌∙◌, append-nil}
+use Rattle.std.proofs.Common.{Bor, [], ◌∷◌, ◌++◌, Some, None, sym, ap, ◌∙◌, append-nil}
 use Rattle.std.specs.Option.{option_copied}
 use Rattle.std.proofs.lemmas.List.{map-append}
 use Rattle.catalogue_core.specs.declared.edition.Edition.{Edition}

@@ -1,4 +1,4 @@
-use Rattle.std.proofs.Common.{Bor, List, map, subst}
+use Rattle.std.proofs.Common.{Bor, map, subst}
 use Rattle.std.specs.List.Sorted.{IsPermutation}
 use Rattle.catalogue_core.specs.declared.edition.Edition.{Edition}
 use Rattle.catalogue_core.proofs.ByKey.{both-ok, kept-from_sorted}
