@@ -11,6 +11,7 @@ use catalogue_export::export::export;
 use catalogue_export::export_fail::ExportFail;
 use catalogue_export::works_text::works_text;
 use std::alloc::Global;
+use std::mem::forget;
 use union_base::memory::Memory;
 use union_base::record_id::RecordId;
 use union_io::failed::Failed;
@@ -45,6 +46,7 @@ fn with_left_lines(
 
 /// Writes the reports, and a line for each edition of which fields were left out. Where memory ran out, the line that says so
 /// is written in their place.
+// The catalogue is not taken apart: the program ends behind this, and the system takes all its memory back at once.
 pub fn write_reports<N: Sink>(
     alloc: Global,
     loaded: Loaded,
@@ -55,8 +57,14 @@ pub fn write_reports<N: Sink>(
         (record { old = N.written notes.old; new = N.written notes.new; before = N.faults notes.old; after = N.faults notes.new })
         result }
 {
-    let end = end_by(loaded.refused);
-    match with_left_lines(alloc, loaded.reports, left) {
+    let Loaded {
+        catalogue,
+        reports,
+        refused,
+    } = loaded;
+    forget(catalogue);
+    let end = end_by(refused);
+    match with_left_lines(alloc, reports, left) {
         Ok(text) => match put_all(notes, text.as_slice()) {
             Ok(()) => end,
             Err(Failed) => Status::WriteFault,

@@ -13,6 +13,7 @@ use catalogue_core::catalogue::Catalogue;
 use merge_laws::steps::Steps;
 use std::alloc::Global;
 use std::marker::Brand;
+use std::mem::forget;
 use std::sync::ledger::{Blank, Ledger};
 use union_base::bytes::Bytes;
 use union_base::memory::Memory;
@@ -40,7 +41,10 @@ fn run_counted<L: Ledger, F: Shelf, O: Sink>(
         Ok(catalogue) => {
             let steps: Steps<L> = Steps::open(blank);
             let mut union = Union { catalogue, steps };
-            run_lines(alloc, script, &mut union, shelf, out)
+            let ended = run_lines(alloc, script, &mut union, shelf, out);
+            // The program ends behind this, and the system takes all its memory back at once.
+            forget(union);
+            ended
         }
         Err(Memory) => Err(Status::Memory),
     }

@@ -12,6 +12,7 @@ use itoa::Buffer;
 use merge_laws::steps::Steps;
 use std::alloc::{AllocError, Global};
 use std::marker::Brand;
+use std::mem::forget;
 use std::sync::ledger::{Blank, Ledger};
 use std::thread::Threads;
 use union_base::memory::Memory;
@@ -67,6 +68,8 @@ fn text_by<R: Threads + Sync, L: Ledger>(
     let mut steps: Steps<L> = Steps::open(blank);
     load_all(rt, alloc, seed, count, workers, &mut catalogue, &mut steps)?;
     let measures = measured(alloc, &catalogue)?;
+    // The program ends behind this, and the system takes all its memory back at once.
+    forget(catalogue);
     let mut text = Vec::new(alloc);
     add_line(&mut text, count, &measures)?;
     Ok(text)
