@@ -27,7 +27,7 @@ for size in "$@"; do
         number=$((number + 1))
         set -- "$@" "L$number=$file"
     done
-    ours=$(spent "$program" export "$@")
+    ours=$(spent "$program" export --workers=1 "$@")
     made=$(records <"$work/out")
     theirs=$(spent python3 "$peer" "$work/union" "$work"/libraries/*.mrc)
     echo "$(cat "$work"/libraries/*.mrc | records) $made $(records <"$work/union") $ours $theirs" | awk '{
