@@ -8,9 +8,7 @@ use Rattle.std.proofs.lemmas.List.Elements.{All-nil, All-cons}
 use Rattle.union_base.specs.Both.{both_true, true_both}
 use Rattle.union_base.specs.SortedLists.{is_ascending}
 use Rattle.union_base.specs.FieldOrder.{field_cmp}
-use Rattle.union_base.specs.declared.subfield.Subfield.{Subfield}
-use Rattle.union_base.specs.declared.body.Body.{Body}
-use Rattle.union_base.specs.declared.body.Body.TheVariants.{Control, Data}
+use Rattle.union_base.specs.Bodies.{Subfield, Body, Control, Data, subfields_of}
 use Rattle.union_base.specs.declared.field.Field.{Field}
 use Rattle.union_base.specs.declared.record_id.RecordId.{RecordId}
 use Rattle.marc_fields.specs.Spelling.{is_short}
@@ -19,7 +17,7 @@ use Rattle.marc_parts.specs.Loads.{is_utf8_subfield, is_utf8_body, is_utf8_field
 use Rattle.field_merge.specs.Contents.{is_main_entry}
 use Rattle.field_merge.specs.Kept.{id_cmp}
 use Rattle.field_merge.specs.declared.slot.Slot.{Slot}
-use Rattle.workset_keys.specs.Names.{HasTexts, subfields_of}
+use Rattle.workset_keys.specs.Names.{HasTexts}
 use Rattle.catalogue_core.specs.Sound.{is_id, is_storable, is_slot, is_slot_or_none}
 use Rattle.catalogue_core.specs.SoundLaws.{AreSoundParts, sound_parts}
 use Rattle.catalogue_core.specs.Ids.{first_id, least}

@@ -10,7 +10,7 @@ use Rattle.std.proofs.lemmas.List.Folds.{list_all-append}
 use Rattle.union_base.specs.Both.{both_true, true_both}
 use Rattle.union_base.specs.Fields.{is_text_byte, is_text}
 use Rattle.union_base.specs.LibraryCodes.{is_library_code, may_stand}
-use Rattle.union_base.specs.declared.subfield.Subfield.{Subfield}
+use Rattle.union_base.specs.Bodies.{Subfield, subfields_of}
 use Rattle.union_base.specs.declared.field.Field.{Field}
 use Rattle.union_base.specs.declared.record_id.RecordId.{RecordId}
 use Rattle.marc_leader.specs.Codes.{is_printable}
@@ -21,7 +21,7 @@ use Rattle.naco_normal.specs.Normal.{Mark, comma_sign, is_letter_or_number, is_k
 use Rattle.naco_normal.specs.Words.{blank, is_empty, joined_words, joined}
 use Rattle.naco_normal.proofs.WordsLemmas.{joined_words-cons}
 use Rattle.naco_normal.specs.Heading.{chosen, main_code, part_forms, form_with_comma, form_without_comma, form_skipping, skipped, heading_of, title_of}
-use Rattle.workset_keys.specs.Names.{subfields_of, first_indicator, second_indicator, skip_of, name_of, name_codes, title130_of, title245_of}
+use Rattle.workset_keys.specs.Names.{first_indicator, second_indicator, skip_of, name_of, name_codes, title130_of, title245_of}
 use Rattle.workset_keys.specs.WorkKeys.{is_uniform_title, main_name, main_title, uniform_title, lesser, least_name, or_else, key_by_title, key_without_name, own_name, work_key}
 use Rattle.ucd_category.proofs.Computing.{ucd_category}
 use Rattle.catalogue_core.specs.ListLaws.{all-weaker}

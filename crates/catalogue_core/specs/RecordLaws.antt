@@ -9,8 +9,7 @@ use Rattle.union_base.specs.Both.{both_true, true_both}
 use Rattle.union_base.specs.FieldOrder.{field_cmp}
 use Rattle.union_base.specs.Fields.{is_text, is_tag, is_control_tag, is_field}
 use Rattle.union_base.specs.LibraryCodes.{is_library_code}
-use Rattle.union_base.specs.declared.body.Body.{Body}
-use Rattle.union_base.specs.declared.body.Body.TheVariants.{Control, Data}
+use Rattle.union_base.specs.Bodies.{Body, Control, Data}
 use Rattle.union_base.specs.declared.field.Field.{Field}
 use Rattle.marc_leader.specs.Codes.{Codes, is_printable, are_printable}
 use Rattle.marc_fields.specs.Spelling.{is_short}

@@ -71,8 +71,8 @@ fn meets(catalogue: &Catalogue, editions: &[Edition]) -> bool {
     for edition in editions {
         match at {
             Some(found) => {
-                let same = found.content.contributors.as_slice()
-                    == edition.content.contributors.as_slice();
+                let same = found.content().contributors.as_slice()
+                    == edition.content().contributors.as_slice();
                 if !same {
                     return false;
                 }

@@ -146,8 +146,8 @@ impl Draws {
 pub fn same(one: Option<&Edition>, other: Option<&Edition>) -> bool {
     match (one, other) {
         (Some(a), Some(b)) => {
-            a.content.contributors.as_slice() == b.content.contributors.as_slice()
-                && a.content.united.as_slice().len() == b.content.united.as_slice().len()
+            a.content().contributors.as_slice() == b.content().contributors.as_slice()
+                && a.content().united.as_slice().len() == b.content().united.as_slice().len()
         }
         (None, None) => true,
         _ => false,

@@ -113,7 +113,7 @@ pub fn house_all(homes: &mut BTreeMap<RecordId, Home>, opened: &[Keyed<Edition>]
     for (place, keyed) in opened.iter().enumerate() {
         house(
             homes,
-            keyed.value.content.contributors.as_slice(),
+            keyed.value.content().contributors.as_slice(),
             numbers[place],
         );
     }

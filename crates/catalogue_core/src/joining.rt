@@ -2,7 +2,7 @@
 ghost use Rattle.catalogue_core.specs.Joining.{join};
 ghost use Rattle.catalogue_core.specs.JoinLaws.{edition_join_laws};
 
-use crate::edition::Edition;
+use crate::edition::{Edition, EditionParts};
 use merge_laws::join::Join;
 use std::alloc::Global;
 use union_base::memory::Memory;
@@ -11,17 +11,15 @@ impl Join for Edition {
     ghost join = { join };
 
     fn joined(&self, alloc: Global, other: &Edition) -> Result<Edition, Memory> {
-        Ok(Edition {
-            features: self.features.joined(alloc, &other.features)?,
-            content: self.content.joined(alloc, &other.content)?,
-        })
+        let parts = EditionParts {
+            features: self.features().joined(alloc, other.features())?,
+            content: self.content().joined(alloc, other.content())?,
+        };
+        Edition::of(alloc, parts)
     }
 
-    fn copied(&self, alloc: Global) -> Result<Edition, Memory> {
-        Ok(Edition {
-            features: self.features.copied(alloc)?,
-            content: Join::copied(&self.content, alloc)?,
-        })
+    fn copied(&self, _alloc: Global) -> Result<Edition, Memory> {
+        self.shared()
     }
 
     ghost join_laws = { edition_join_laws };

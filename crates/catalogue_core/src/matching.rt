@@ -24,11 +24,11 @@ impl Resolvable for Edition {
 
     fn matches<L: Ledger>(&self, other: &Edition, steps: &mut Steps<L>) -> bool {
         steps.tick();
-        self.features.meets(&other.features)
+        self.features().meets(other.features())
     }
 
     fn index_keys(&self, alloc: Global) -> Result<Vec<FeatureKey>, Memory> {
-        feature_keys(alloc, &self.features)
+        feature_keys(alloc, self.features())
     }
 
     fn copy_key(alloc: Global, key: &FeatureKey) -> Result<FeatureKey, Memory> {

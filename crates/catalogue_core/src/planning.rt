@@ -186,7 +186,7 @@ fn left_behind(
     let Some(edition) = blocks.member(&plan.change, at) else {
         unreachable!()
     };
-    let ids = edition.content.contributors.as_slice();
+    let ids = edition.content().contributors.as_slice();
     let left = bases_beside(alloc, history, batch, homes, &plan.touched, id, ids)?;
     Ok((at, left))
 }

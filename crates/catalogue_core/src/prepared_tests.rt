@@ -84,7 +84,7 @@ fn are_those_of(editions: &[Edition], records: &[(&[u8; 4], &[u8; 5])]) -> bool 
 
 /// Whether the edition has this title alone, in normal form.
 fn has_title(edition: &Edition, title: &[u8]) -> bool {
-    match edition.features.titles.as_slice() {
+    match edition.features().titles.as_slice() {
         [only] => only.bytes() == title,
         _ => false,
     }
@@ -146,7 +146,7 @@ fn same_walks(one: &Catalogue, other: &Catalogue, sizes: &[usize]) -> bool {
         }
         match at {
             Some(edition) => {
-                if edition.content.contributors.as_slice().len() != *size {
+                if edition.content().contributors.as_slice().len() != *size {
                     return false;
                 }
                 at = one.after(edition.least());

@@ -9,7 +9,7 @@ ghost use Rattle.marc_parts.specs.Parts.{control_number};
 ghost use Rattle.marc_parts.specs.Loads.{is_loadable};
 ghost use Rattle.catalogue_core.specs.Records.{IsEditionOf, edition};
 
-use crate::edition::Edition;
+use crate::edition::{Edition, EditionParts};
 use crate::laws::accepted_can_be_loaded;
 use crate::op::Op;
 use field_merge::making::content_of;
@@ -34,10 +34,11 @@ pub fn edition_of(alloc: Global, library: &LibraryCode, rec: &Record) -> Result<
 {
     rec.leader.prints();
     let _code = library.bytes();
-    Ok(Edition {
+    let parts = EditionParts {
         features: features_of(alloc, library, rec)?,
         content: content_of(alloc, library, rec)?,
-    })
+    };
+    Edition::of(alloc, parts)
 }
 
 /// The record's control number: its field 001 without the blanks at its ends (MARC 21, 001), empty where there is none.

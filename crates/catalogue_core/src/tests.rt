@@ -126,7 +126,7 @@ fn bridges(alloc: Global, order: &[&[u8]]) -> Result<bool, Fail> {
     Ok(
         found.len() == 1
             && is_named(edition, b"a1")
-            && is_made_of(&edition.content, 3, 2, b"c1")
+            && is_made_of(edition.content(), 3, 2, b"c1")
             && has_key(alloc, edition, b"hill, ann/red ships")?,
     )
 }
@@ -183,8 +183,8 @@ fn merged_with_later(alloc: Global, full: &Edition) -> Result<Edition, Fail> {
 fn better_rank(rt: HostRuntime) -> Result<(), Fail> {
     let merge = full_and_later(rt.alloc())?;
     assert!(rt; is_named(&merge, b"x1"));
-    assert!(rt; is_made_of(&merge.content, 2, 1, b"x1"));
-    assert!(rt; merge.content.f240.is_some());
+    assert!(rt; is_made_of(merge.content(), 2, 1, b"x1"));
+    assert!(rt; merge.content().f240.is_some());
     assert!(rt; has_key(rt.alloc(), &merge, b"cat///LIBA.x1")?);
     Ok(())
 }
@@ -203,7 +203,7 @@ fn keys_of_a_record(rt: HostRuntime) -> Result<(), Fail> {
 fn copy_of_an_edition(rt: HostRuntime) -> Result<(), Fail> {
     let edition = edition_in(rt.alloc(), "LIBA", TEN)?;
     let copy = edition.copied(rt.alloc())?;
-    assert!(rt; is_named(&copy, b"r1") && is_made_of(&copy.content, 1, 1, b"r1"));
+    assert!(rt; is_named(&copy, b"r1") && is_made_of(copy.content(), 1, 1, b"r1"));
     Ok(())
 }
 

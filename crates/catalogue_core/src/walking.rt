@@ -35,7 +35,7 @@ pub fn first_behind<'a>(editions: &'a [Edition], id: &RecordId) -> Option<&'a Ed
 pub fn has_contributor(edition: &Edition, id: &RecordId) -> bool
     ensures { result ≡ has id_cmp edition.now.content.contributors id.now }
 {
-    let ids = edition.content.contributors.as_slice();
+    let ids = edition.content().contributors.as_slice();
     ids.iter().any(|other| id.cmp(other).is_eq())
 }
 

@@ -27,7 +27,7 @@ pub fn work_key_of(alloc: Global, edition: &Edition) -> Result<Bytes, Memory>
     ensures value { IfOk result (λ key. key ≡ work_key_of edition.now) }
     ensures text { IfOk result (λ key. IsTrue (is_text key)) }
 {
-    let run = added_run(edition.content.united.as_slice());
+    let run = added_run(edition.content().united.as_slice());
     if are_added_entries(run) {
         key_with(alloc, edition, run)
     } else {
@@ -42,7 +42,7 @@ fn key_with(alloc: Global, edition: &Edition, added: &[Field]) -> Result<Bytes, 
     ensures value { IfOk result (λ key. key ≡ work_key_of edition.now) }
     ensures text { IfOk result (λ key. IsTrue (is_text key)) }
 {
-    let content = &edition.content;
+    let content = edition.content();
     work_key(
         alloc,
         field_in(&content.f1xx),

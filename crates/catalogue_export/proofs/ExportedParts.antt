@@ -6,7 +6,7 @@ use Rattle.std.proofs.lemmas.Bool.{and_parts, and_from, not-true, or_parts, or_l
 use Rattle.std.proofs.lemmas.List.Folds.{list_all-append}
 use Rattle.std.proofs.lemmas.Slice.Eq.{bytes_eq-Decides}
 use Rattle.union_base.specs.Fields.{is_field}
-use Rattle.union_base.specs.declared.body.Body.{Body}
+use Rattle.union_base.specs.Bodies.{Body}
 use Rattle.union_base.specs.declared.field.Field.{Field}
 use Rattle.union_base.specs.declared.record_id.RecordId.{RecordId}
 use Rattle.marc_parts.specs.Parts.{has_tag}

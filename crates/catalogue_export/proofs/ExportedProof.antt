@@ -8,7 +8,7 @@ use Rattle.std.proofs.lemmas.Bool.Decides.{nat_tests}
 use Rattle.std.proofs.lemmas.Slice.Eq.{bytes_eq-Decides}
 use Rattle.std.proofs.lemmas.Str.{IsUtf8-from_is_utf8, is_utf8-from_IsUtf8, IsUtf8-nil, IsUtf8-append, IsUtf8-from_ascii, IsUtf8-take}
 use Rattle.union_base.specs.LibraryCodes.{is_library_code, may_stand}
-use Rattle.union_base.specs.declared.body.Body.TheVariants.{Control, Data}
+use Rattle.union_base.specs.Bodies.{Control, Data}
 use Rattle.union_base.specs.declared.field.Field.{Field}
 use Rattle.union_base.specs.declared.record_id.RecordId.{RecordId}
 use Rattle.iso2709_frame.specs.Frames.{IsWhole}

@@ -1,10 +1,10 @@
 -- What the fields are that the catalogue writes itself.
-use Rattle.std.proofs.Common.{◌≡◌, ℕ, zero, suc, length, take, Bool, true, false, List, [], ◌∷◌, ◌++◌, refl, sym, ◌∙◌}
+use Rattle.std.proofs.Common.{◌≡◌, ℕ, zero, suc, ◌≤◌, length, take, Bool, true, false, not, ◌&&◌, List, [], ◌∷◌, ◌++◌, refl, sym, ◌∙◌}
 use Rattle.std.proofs.Math.Bool.{Bool-set}
 use Rattle.std.proofs.Common.{arith}
 use Rattle.std.proofs.lemmas.Bool.Decides.{nat_tests}
-use Rattle.union_base.specs.Fields.{is_field}
-use Rattle.union_base.specs.declared.body.Body.{Body}
+use Rattle.union_base.specs.Fields.{is_tag, is_control_tag, is_indicator, is_subfield, fits_tag, is_field}
+use Rattle.union_base.specs.Bodies.{Subfield, Body, Data}
 use Rattle.union_base.specs.declared.field.Field.{Field}
 use Rattle.std.specs.List.{list_all}
 use Rattle.std.proofs.lemmas.List.Folds.{list_all-append}
@@ -16,6 +16,7 @@ use Rattle.marc_leader.specs.Codes.{is_printable}
 use Rattle.workset_keys.specs.WorkKeys.{own_name}
 use Rattle.catalogue_core.specs.Sound.{is_id}
 use Rattle.catalogue_export.specs.Exported.{field_of, front_within, last_boundary}
+use Rattle.catalogue_export.proofs.FittingLaws.{is_le}
 use Rattle.std.specs.Prelude.{nat_le, if◌then◌else◌}
 
 field_of-cases : (tag : List ℕ) (body : Body) (b : Bool) (found : is_field tag body ≡ b) (fits : is_field tag body ≡ true)
@@ -85,3 +86,13 @@ is_text-front most text h =
       | true ↦ h
       | false ↦ is_text-take (last_boundary text most) text h
     ]
+
+-- what stands behind a data field's tag has a subfield, and each is one
+pub are_subfields-data : (tag : List ℕ) (ind1 ind2 : ℕ) (subfields : List Subfield) → is_field tag (Data ind1 ind2 subfields) ≡ true
+    → (1 ≤ length subfields) × (list_all is_subfield subfields ≡ true)
+are_subfields-data tag ind1 ind2 subfields h =
+    let fits = (both_true (is_tag tag) (fits_tag tag (Data ind1 ind2 subfields)) h).1 in
+    let behind = (both_true (not (is_control_tag tag)) _ fits).1 in
+    let parts = both_true (is_indicator ind1 && is_indicator ind2) _ behind in
+    let formed = both_true (nat_le 1 (length subfields)) (list_all is_subfield subfields) parts.1 in
+    (is_le 1 (length subfields) formed.0, formed.1)

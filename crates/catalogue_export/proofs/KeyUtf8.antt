@@ -9,13 +9,13 @@ use Rattle.std.proofs.lemmas.Str.{IsUtf8-from_is_utf8, is_utf8-from_IsUtf8, IsUt
 use Rattle.union_base.specs.Both.{both_true, true_both}
 use Rattle.union_base.specs.SortedLists.{is_ascending}
 use Rattle.union_base.specs.FieldOrder.{field_cmp}
-use Rattle.union_base.specs.declared.subfield.Subfield.{Subfield}
+use Rattle.union_base.specs.Bodies.{Subfield, subfields_of}
 use Rattle.union_base.specs.declared.field.Field.{Field}
 use Rattle.union_base.specs.declared.record_id.RecordId.{RecordId}
 use Rattle.naco_normal.specs.declared.form.Comma.TheVariants.{First, None as NoComma}
 use Rattle.naco_normal.specs.Words.{blank, is_empty, joined_words}
 use Rattle.naco_normal.specs.Heading.{chosen, main_code, part_forms, form_with_comma, form_without_comma, form_skipping, skipped, heading_of, title_of}
-use Rattle.workset_keys.specs.Names.{subfields_of, first_indicator, second_indicator, skip_of, name_of, name_codes, title130_of, title245_of}
+use Rattle.workset_keys.specs.Names.{first_indicator, second_indicator, skip_of, name_of, name_codes, title130_of, title245_of}
 use Rattle.workset_keys.specs.WorkKeys.{is_uniform_title, main_name, main_title, uniform_title, lesser, least_name, or_else, key_by_title, key_without_name, own_name, work_key}
 use Rattle.field_merge.specs.Kept.{id_cmp}
 use Rattle.catalogue_core.specs.Sound.{is_id}

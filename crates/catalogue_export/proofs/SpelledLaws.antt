@@ -7,10 +7,8 @@ use Rattle.std.specs.List.{flat_map, list_all}
 use Rattle.std.specs.Str.{IsUtf8, IsAscii, is_utf8}
 use Rattle.marc_leader.specs.declared.entry.Entry.{Entry}
 use Rattle.union_base.specs.Fields.{is_subfield, is_subfield_code, is_indicator, is_text, spelled_subfield, spelled as body_bytes, fits_tag, is_field, is_tag, is_control_tag}
-use Rattle.union_base.specs.declared.body.Body.{Body}
-use Rattle.union_base.specs.declared.body.Body.TheVariants.{Control, Data}
+use Rattle.union_base.specs.Bodies.{Subfield, Body, Control, Data}
 use Rattle.union_base.specs.declared.field.Field.{Field}
-use Rattle.union_base.specs.declared.subfield.Subfield.{Subfield}
 use Rattle.marc_fields.specs.Rows.{or_then, least_where_not}
 use Rattle.marc_fields.specs.Rules.{entry_in, texts_of, data_in, first_failure, head_failure, directory_failure, tiling_failure, shape_failure, data_failure, parts_failure}
 use Rattle.marc_fields.specs.Spelling.{leader_bytes, Spells, AreEntriesOf}

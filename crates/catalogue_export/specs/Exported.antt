@@ -2,9 +2,7 @@
 use Rattle.std.specs.Prelude.{ℕ, suc, zero, Bool, true, false, ◌||◌, nat_le, nat_lt, List, [], ◌∷◌, ◌++◌, ◌-◌, length, take, codes, refl, ◌≡◌, Option, None, Some, slice_index, if◌then◌else◌}
 use Rattle.std.specs.List.{flat_map}
 use Rattle.union_base.specs.Fields.{is_field}
-use Rattle.union_base.specs.declared.subfield.Subfield.{Subfield}
-use Rattle.union_base.specs.declared.body.Body.{Body}
-use Rattle.union_base.specs.declared.body.Body.TheVariants.{Control, Data}
+use Rattle.union_base.specs.Bodies.{Subfield, Body, Control, Data}
 use Rattle.union_base.specs.declared.field.Field.{Field}
 use Rattle.union_base.specs.declared.record_id.RecordId.{RecordId}
 use Rattle.marc_fields.specs.declared.marc_record.Record.{Record}

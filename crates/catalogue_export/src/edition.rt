@@ -40,7 +40,7 @@ pub fn edition_bytes(
     ensures text { Appends result into.old.items into.new.items (edition_bytes edition.now.content key.now) }
     ensures left { IfOk result (λ n. n ≡ left_out edition.now.content key.now) }
 {
-    append_content(alloc, &edition.content, key.bytes(), into)
+    append_content(alloc, edition.content(), key.bytes(), into)
 }
 
 /// Appends the record that is shown of an edition with this work key, and answers how many of its fields were left out of it,

@@ -1,7 +1,7 @@
 //! The fields that the catalogue writes itself.
 ghost use Rattle.std.specs.Prelude.{◌≡◌, ◌<◌, ◌≤◌, ◌∷◌, [], IfOk, IsTrue, codes, length};
 ghost use Rattle.union_base.specs.Fields.{is_field, is_text};
-ghost use Rattle.union_base.specs.declared.body.Body.TheVariants.{Control, Data};
+ghost use Rattle.union_base.specs.Bodies.{Control, Data};
 ghost use Rattle.workset_keys.specs.WorkKeys.{own_name};
 ghost use Rattle.catalogue_core.specs.Sound.{is_id};
 ghost use Rattle.catalogue_export.specs.Exported.{field_of, control_field, blank_field, subfield, last_boundary, begins_character, front_within, key_field, contributor_field};
@@ -13,7 +13,6 @@ use union_base::copied::Copied;
 use union_base::field::Field;
 use union_base::memory::Memory;
 use union_base::record_id::RecordId;
-use union_base::sequence::Sequence;
 use union_base::subfield::Subfield;
 use workset_keys::work_key::own_name;
 
@@ -52,19 +51,11 @@ pub(crate) fn key_field(alloc: Global, key: &[u8]) -> Result<Field, Memory>
     requires { IsTrue (is_text key.now) }
     ensures { IfOk result (λ f. key_field key.now ≡ f ∷ []) }
 {
-    let subfields = key_subfields(alloc, front_within(key, LONGEST_KEY))?;
-    Ok(made_blank(b"991", subfields))
-}
-
-fn key_subfields(alloc: Global, key: &[u8]) -> Result<Sequence<Subfield>, Memory>
-    ensures { IfOk result (λ all. all ≡ subfield 0x61 key.now ∷ []) }
-{
-    let mut subfields = Vec::with_capacity(alloc, 1)?;
-    subfields.push(Subfield {
+    let subfields = [Subfield {
         code: b'a',
-        text: Bytes::of(alloc, key)?,
-    })?;
-    Ok(Sequence::from(subfields))
+        text: front_within(key, LONGEST_KEY),
+    }];
+    made_blank(alloc, b"991", &subfields)
 }
 
 /// 993, a contributor: its library in $a and its control number there in $b.
@@ -72,23 +63,17 @@ pub(crate) fn contributor_field(alloc: Global, id: &RecordId) -> Result<Field, M
     requires { IsTrue (is_id id.now) }
     ensures { IfOk result (λ f. contributor_field id.now ≡ f ∷ []) }
 {
-    let subfields = contributor_subfields(alloc, id)?;
-    Ok(made_blank(b"993", subfields))
-}
-
-fn contributor_subfields(alloc: Global, id: &RecordId) -> Result<Sequence<Subfield>, Memory>
-    ensures { IfOk result (λ all. all ≡ subfield 0x61 id.now.library ∷ subfield 0x62 id.now.control ∷ []) }
-{
-    let mut subfields = Vec::with_capacity(alloc, 2)?;
-    subfields.push(Subfield {
-        code: b'a',
-        text: Bytes::of(alloc, id.library.bytes())?,
-    })?;
-    subfields.push(Subfield {
-        code: b'b',
-        text: id.control.copied(alloc)?,
-    })?;
-    Ok(Sequence::from(subfields))
+    let subfields = [
+        Subfield {
+            code: b'a',
+            text: id.library.bytes(),
+        },
+        Subfield {
+            code: b'b',
+            text: id.control.bytes(),
+        },
+    ];
+    made_blank(alloc, b"993", &subfields)
 }
 
 /// The longest front of the text of at most so many bytes that ends between two characters.
@@ -128,21 +113,15 @@ fn made_control(tag: &[u8; 3], text: Bytes) -> Field
 {
     Field {
         tag: *tag,
-        body: Body::Control { text },
+        body: Body::control(text),
     }
 }
 
 /// A data field with blank indicators.
-fn made_blank(tag: &[u8; 3], subfields: Sequence<Subfield>) -> Field
-    requires { IsTrue (is_field tag.now (Data 0x20 0x20 subfields)) }
-    ensures { field_of tag.now (Data 0x20 0x20 subfields) ≡ result ∷ [] }
+fn made_blank(alloc: Global, tag: &[u8; 3], subfields: &[Subfield<'_>]) -> Result<Field, Memory>
+    requires { IsTrue (is_field tag.now (Data 0x20 0x20 subfields.now)) }
+    ensures { IfOk result (λ f. field_of tag.now (Data 0x20 0x20 subfields.now) ≡ f ∷ []) }
 {
-    Field {
-        tag: *tag,
-        body: Body::Data {
-            ind1: b' ',
-            ind2: b' ',
-            subfields,
-        },
-    }
+    let body = Body::of_subfields(alloc, b' ', b' ', subfields)?;
+    Ok(Field { tag: *tag, body })
 }

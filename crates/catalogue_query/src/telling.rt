@@ -40,7 +40,7 @@ fn add_identity(alloc: Global, lines: &mut Vec<Bytes>, edition: &Edition) -> Res
     ensures { OnOk result (lines.new.items ≡ lines.old.items ++ identity_lines edition.now) }
 {
     lines.push(edition_line(alloc, edition.least())?)?;
-    add_contributors(alloc, lines, edition.content.contributors.as_slice())?;
+    add_contributors(alloc, lines, edition.content().contributors.as_slice())?;
     let key = work_key_of(alloc, edition)?;
     lines.push(work_line(alloc, key.bytes())?)?;
     Ok(())
@@ -64,7 +64,7 @@ fn add_holdings(
 ) -> Result<(), Memory>
     ensures { OnOk result (lines.new.items ≡ lines.old.items ++ holding_lines (current catalogue.now) edition.now) }
 {
-    for id in edition.content.contributors.as_slice() {
+    for id in edition.content().contributors.as_slice() {
         add_record(alloc, lines, catalogue, id)?;
     }
     Ok(())
@@ -82,7 +82,7 @@ fn add_record(
     let Some(base) = catalogue.base(id) else {
         return Ok(());
     };
-    let holdings = holdings_of(alloc, id, base.content.united.as_slice())?;
+    let holdings = holdings_of(alloc, id, base.content().united.as_slice())?;
     add_hold_lines(alloc, lines, &holdings)
 }
 

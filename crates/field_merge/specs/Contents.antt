@@ -5,7 +5,7 @@ use Rattle.std.specs.Option.{option_map, unwrap_or}
 use Rattle.union_base.specs.SortedLists.{set_of}
 use Rattle.union_base.specs.FieldOrder.{field_cmp}
 use Rattle.union_base.specs.declared.record_id.RecordId.{RecordId}
-use Rattle.union_base.specs.declared.body.Body.TheVariants.{Data}
+use Rattle.union_base.specs.Bodies.{Data}
 use Rattle.union_base.specs.declared.field.Field.{Field}
 use Rattle.marc_leader.specs.Codes.{Codes}
 use Rattle.marc_fields.specs.declared.marc_record.Record.{Record}

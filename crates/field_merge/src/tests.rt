@@ -14,7 +14,6 @@ use std::alloc::Global;
 use std::test::Fail;
 use union_base::field::Field;
 use union_base::library_code::LibraryCode;
-use union_base::spelled::Spelled;
 
 mod cases;
 
@@ -163,9 +162,7 @@ fn push_slot(text: &mut Vec<u8>, rank: &Rank, slot: Option<&Slot>) -> Result<(),
 
 fn push_field(text: &mut Vec<u8>, field: &Field) -> Result<(), Fail> {
     text.extend_from_slice(&field.tag)?;
-    for byte in Spelled::of(&field.body) {
-        text.push(byte)?;
-    }
+    text.extend_from_slice(field.body.spelling())?;
     Ok(())
 }
 

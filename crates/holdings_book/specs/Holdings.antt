@@ -1,9 +1,7 @@
 -- The holdings of a record: what its fields 852 tell (MARC 21, 852, Location).
 use Rattle.std.specs.Prelude.{ℕ, ◌==◌, List, [], map, find, codes}
 use Rattle.std.specs.Option.{option_map_or}
-use Rattle.union_base.specs.declared.subfield.Subfield.{Subfield}
-use Rattle.union_base.specs.declared.body.Body.{Body}
-use Rattle.union_base.specs.declared.body.Body.TheVariants.{Control, Data}
+use Rattle.union_base.specs.Bodies.{Subfield, Body, Control, Data}
 use Rattle.union_base.specs.declared.field.Field.{Field}
 use Rattle.union_base.specs.declared.record_id.RecordId.{RecordId}
 use Rattle.marc_parts.specs.Parts.{fields_under}

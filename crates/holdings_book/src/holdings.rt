@@ -1,5 +1,5 @@
 //! The holdings of one record.
-ghost use Rattle.std.specs.Prelude.{◌≡◌, ◌==◌, [], find, option_copied, IfOk};
+ghost use Rattle.std.specs.Prelude.{◌≡◌, IfOk};
 ghost use Rattle.holdings_book.specs.Holdings.{first_text, text_in, holding_of, holdings_of};
 
 use marc_parts::parts::{has_tag, how_many};
@@ -10,7 +10,7 @@ use union_base::copied::Copied;
 use union_base::field::Field;
 use union_base::memory::Memory;
 use union_base::record_id::RecordId;
-use union_base::subfield::Subfield;
+use union_base::subfields::Subfields;
 
 /// The tag of the fields that tell holdings (MARC 21, 852, Location).
 const LOCATION_TAG: [u8; 3] = *b"852";
@@ -69,23 +69,16 @@ fn holding_of(alloc: Global, id: &RecordId, body: &Body) -> Result<Holding, Memo
 fn text_in(code: u8, body: &Body) -> &[u8]
     ensures { result.now ≡ text_in code body.now }
 {
-    match body {
-        Body::Control { .. } => &[],
-        Body::Data { subfields, .. } => first_text(code, subfields.as_slice()),
-    }
+    first_text(code, body.subfields())
 }
 
-fn first_text(code: u8, subfields: &[Subfield]) -> &[u8]
-    ensures { result.now ≡ first_text code subfields.now }
+fn first_text<'a>(code: u8, subfields: Subfields<'a>) -> &'a [u8]
+    ensures { result.now ≡ first_text code subfields.entry }
 {
-    match first_with(code, subfields) {
-        Some(subfield) => subfield.text.bytes(),
-        None => &[],
+    for subfield in subfields {
+        if subfield.code == code {
+            return subfield.text;
+        }
     }
-}
-
-fn first_with(code: u8, subfields: &[Subfield]) -> Option<&Subfield>
-    ensures { option_copied result ≡ find (λ s. s.code == code) subfields.now }
-{
-    subfields.iter().find(|s| s.code == code)
+    &[]
 }

@@ -89,20 +89,13 @@ tile-inner bytes e is none =
     inner_from (text_of bytes e) (all_take (λ b. not (b == 0x1D)) (e.length - 1) (drop e.start bytes) (all_drop (λ b. not (b == 0x1D)) e.start bytes none))
     (tile-parts bytes e is).before
 
--- which of the two shapes is wrong
-shape_wrong : (control c d : Bool) → (if control then c else d) ≡ false → (not control || c) ≡ true → (control || d) ≡ false
-shape_wrong true c d wrong fit = cc
-shape_wrong false c d wrong fit = wrong
+-- the shape that is asked for
+shape_asked : (control c d : Bool) → (not control || c) ≡ true → (control || d) ≡ true → (if control then c else d) ≡ true
+shape_asked true c d control fit = control
+shape_asked false c d control fit = fit
 
-shape_right : (control c d : Bool) → (if control then c else d) ≡ true → (control || d) ≡ true
-shape_right true c d right = refl
-shape_right false c d right = right
-
-pub data-wrong : (bytes : List ℕ) (e : Entry) → has_shape e.tag (text_of bytes e) ≡ false → is_control_shaped bytes e ≡ true → is_data_shaped bytes e ≡ false
-data-wrong bytes e wrong fit = shape_wrong (is_control_tag e.tag) (has_control_shape (text_of bytes e)) (has_data_shape (text_of bytes e)) wrong fit
-
-pub data-right : (bytes : List ℕ) (e : Entry) → has_shape e.tag (text_of bytes e) ≡ true → is_data_shaped bytes e ≡ true
-data-right bytes e right = shape_right (is_control_tag e.tag) (has_control_shape (text_of bytes e)) (has_data_shape (text_of bytes e)) right
+pub shape-right : (bytes : List ℕ) (e : Entry) → is_control_shaped bytes e ≡ true → is_data_shaped bytes e ≡ true → has_shape e.tag (text_of bytes e) ≡ true
+shape-right bytes e control fit = shape_asked (is_control_tag e.tag) (has_control_shape (text_of bytes e)) (has_data_shape (text_of bytes e)) control fit
 
 -- a field that was read lies at its entry
 pub field-IsEntryOf : (bytes text : List ℕ) (e : Entry) (f : Field) → is_tile bytes e ≡ true → is_formed e ≡ true → text ≡ text_of bytes e

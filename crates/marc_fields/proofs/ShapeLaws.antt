@@ -1,33 +1,18 @@
 -- The bytes of a field and their shape.
-use Rattle.std.proofs.Common.{◌≡◌, ℕ, zero, suc, ◌<◌, ◌≤◌, Bool, true, false, not, ◌&&◌, List, [], ◌∷◌, ◌++◌, length, get_or, take, refl, sym, ◌∙◌, ap, subst, arith, append_assoc}
+use Rattle.std.proofs.Common.{◌≡◌, ℕ, suc, ◌<◌, Bool, true, false, not, ◌&&◌, List, [], ◌∷◌, ◌++◌, length, get_or, refl, sym, ◌∙◌, ap, subst, arith}
 use Rattle.std.proofs.Math.Seq.{take-length}
 use Rattle.std.proofs.lemmas.Bool.{and_parts, and_from}
 use Rattle.std.proofs.lemmas.Bool.Decides.{nat_tests}
-use Rattle.std.proofs.lemmas.Grind.{flat_map-append}
-use Rattle.std.proofs.lemmas.List.{append-nil}
 use Rattle.std.proofs.lemmas.List.Folds.{list_all-append, list_all_at}
 use Rattle.std.specs.List.{flat_map, list_all}
-use Rattle.std.specs.Prelude.{◌==◌, nat_le}
+use Rattle.std.specs.Prelude.{◌||◌, ◌==◌, nat_le, if◌then◌else◌}
 use Rattle.union_base.specs.Fields.{is_text, is_text_byte, is_subfield, is_subfield_code, spelled_subfield, spelled, fits_tag, is_tag, is_control_tag, is_indicator, is_field}
 use Rattle.union_base.specs.declared.field.Field.{Field}
-use Rattle.union_base.specs.declared.body.Body.{Body}
-use Rattle.union_base.specs.declared.body.Body.TheVariants.{Control, Data}
-use Rattle.union_base.specs.declared.subfield.Subfield.{Subfield}
-use Rattle.marc_fields.specs.Shapes.{is_inner, are_inner, are_coded, has_control_shape, has_data_shape, has_shape, IsFirstSubfield, AreSubfieldsOf, IsIndicated, IsControlOf, IsDataOf}
-
--- bytes none of which is a delimiter, seen place by place
-pub undelimited-take : (bytes : List ℕ) (n : ℕ) → n ≤ length bytes → ((k : ℕ) → k < n → (get_or bytes k 0 == 0x1F) ≡ true → ⊥)
-    → has_control_shape (take n bytes) ≡ true
-undelimited-take bytes zero below none = refl
-undelimited-take [] (suc n) below none = refl
-undelimited-take (b ∷ bytes) (suc n) below none =
-    let less : n ≤ length bytes = omega arith in
-    let here : (b == 0x1F) ≡ true → ⊥ = none 0 (omega arith) in
-    and_from _ _ (not_true (b == 0x1F) here) (undelimited-take bytes n less (λ k lt is. none (suc k) (omega arith) is))
-  where
-    not_true : (test : Bool) → (test ≡ true → ⊥) → not test ≡ true
-    not_true true h = absurd (h refl)
-    not_true false h = refl
+use Rattle.union_base.specs.Bodies.{Subfield, Body, Control, Data}
+use Rattle.union_base.specs.Readings.{text_in, subfield_of, subfields_in, body_in, IsSpelling}
+use Rattle.union_base.proofs.ReadingLaws.{body_in-control}
+use Rattle.union_base.proofs.SubfieldLaws.{undelimited-take}
+use Rattle.marc_fields.specs.Shapes.{is_inner, are_inner, begins_with_code, are_coded, has_control_shape, has_data_shape, has_shape, IsFirstSubfield}
 
 -- bytes without a delimiter in front ask nothing
 pub are_coded-append : (text rest : List ℕ) → has_control_shape text ≡ true → are_coded (text ++ rest) ≡ are_coded rest
@@ -37,7 +22,7 @@ are_coded-append (b ∷ text) rest none =
     rw (parts.0, are_coded-append text rest parts.1) refl
 
 -- a code is no delimiter
-pub code_undelimited : (code : ℕ) → is_subfield_code code ≡ true → not (code == 0x1F) ≡ true
+code_undelimited : (code : ℕ) → is_subfield_code code ≡ true → (code == 0x1F) ≡ false
 code_undelimited code fits = grind (arith, nat_tests)
 
 -- a subfield in front asks nothing more
@@ -75,33 +60,6 @@ inner-is_text (b ∷ text) is =
     let parts = and_parts (is_text_byte b) (is_text text) is in
     and_from _ _ (text_byte_inner b parts.0) (inner-is_text text parts.1)
 
--- the bytes of one more subfield
-pub subfields-more : (bytes rest next : List ℕ) (subfields new : List Subfield) (s : Subfield) → bytes ≡ flat_map spelled_subfield subfields ++ rest
-    → IsFirstSubfield rest s.code s.text next → new ≡ subfields ++ s ∷ [] → bytes ≡ flat_map spelled_subfield new ++ next
-subfields-more bytes rest next subfields new s parts first more =
-    let spell : flat_map spelled_subfield new ≡ flat_map spelled_subfield subfields ++ spelled_subfield s
-    = ap (flat_map spelled_subfield) more ∙ (flat_map-append spelled_subfield subfields (s ∷ []) ∙ ap (λ t. flat_map spelled_subfield subfields ++ t) (append-nil (spelled_subfield s))) in
-    parts ∙ (ap (λ t. flat_map spelled_subfield subfields ++ t) first.parts
-    ∙ (sym (append_assoc (flat_map spelled_subfield subfields) (spelled_subfield s) next) ∙ ap (λ t. t ++ next) (sym spell)))
-
--- the first subfield of inner bytes is one, and the rest are inner bytes
-pub first-are_inner : (rest next : List ℕ) (code : ℕ) (text : List ℕ) → are_inner rest ≡ true → IsFirstSubfield rest code text next
-    → (are_inner text ≡ true) × (are_inner next ≡ true)
-first-are_inner rest next code text inner first =
-    let all : are_inner (0x1F ∷ code ∷ (text ++ next)) ≡ true = subst (λ b. are_inner b ≡ true) first.parts inner in
-    let behind = and_parts (is_inner 0x1F) (are_inner (code ∷ (text ++ next))) all in
-    let tail = and_parts (is_inner code) (are_inner (text ++ next)) behind.1 in
-    and_parts (are_inner text) (are_inner next) (sym (list_all-append is_inner text next) ∙ tail.1)
-
-pub first-is_subfield : (rest next : List ℕ) (s : Subfield) → are_inner rest ≡ true → IsFirstSubfield rest s.code s.text next → is_subfield s ≡ true
-first-is_subfield rest next s inner first =
-    and_from _ _ first.code_fits (is_text-inner s.text (first-are_inner rest next s.code s.text inner first).0 first.undelimited)
-
-pub subfields-formed : (subfields new : List Subfield) (s : Subfield) → list_all is_subfield subfields ≡ true → is_subfield s ≡ true
-    → new ≡ subfields ++ s ∷ [] → list_all is_subfield new ≡ true
-subfields-formed subfields new s all one more =
-    ap (list_all is_subfield) more ∙ (list_all-append is_subfield subfields (s ∷ []) ∙ and_from _ _ all (and_from _ _ one refl))
-
 pub first-are_coded : (rest next : List ℕ) (code : ℕ) (text : List ℕ) → IsFirstSubfield rest code text next → are_coded rest ≡ are_coded next
 first-are_coded rest next code text first =
     ap are_coded first.parts ∙ are_coded-first code text next first.code_fits first.undelimited
@@ -115,38 +73,93 @@ are_coded-subfields (s ∷ subfields) formed =
     are_coded-first s.code s.text (flat_map spelled_subfield subfields) one.0 (undelimited-is_text s.text one.1)
     ∙ are_coded-subfields subfields parts.1
 
--- a control field that was read
-pub control-read : (bytes text : List ℕ) → text ≡ bytes → are_inner bytes ≡ true → has_control_shape bytes ≡ true → IsControlOf bytes (Control text)
-control-read bytes text same inner none = record {
-  shaped = none;
-  spelled = same;
-  fits = λ tag control. and_from _ _ control (subst (λ t. is_text t ≡ true) (sym same) (is_text-inner bytes inner none));
-}
+-- the text and the subfields that are read in bytes are the bytes, where a code follows each delimiter
+coded-spelled : (bytes : List ℕ) → are_coded bytes ≡ true → text_in bytes ++ flat_map spelled_subfield (subfields_in bytes) ≡ bytes
+coded-spelled [] coded = refl
+coded-spelled (b ∷ bytes) coded =
+    let parts = and_parts (not (b == 0x1F) || begins_with_code bytes) (are_coded bytes) coded in
+    step b bytes (b == 0x1F) refl parts.0 (coded-spelled bytes parts.1)
+  where
+    is_delimiter : (b : ℕ) → (b == 0x1F) ≡ true → b ≡ 0x1F
+    is_delimiter b is = grind (arith, nat_tests)
 
--- what is behind the indicators decides
-pub indicated-shape : (bytes rest : List ℕ) (ind1 ind2 : ℕ) → IsIndicated bytes ind1 ind2 rest → has_data_shape bytes ≡ are_coded rest
-indicated-shape bytes rest ind1 ind2 is = ap has_data_shape is.parts ∙ rw (is.first, is.second, is.begins) refl
+    subfield_text : (t : List ℕ) (code : ℕ) (text : List ℕ) → t ≡ code ∷ text → spelled_subfield (subfield_of t) ≡ 0x1F ∷ t
+    subfield_text t code text e = subst (λ u. spelled_subfield (subfield_of u) ≡ 0x1F ∷ u) (sym e) refl
 
-pub indicated-are_inner : (bytes rest : List ℕ) (ind1 ind2 : ℕ) → IsIndicated bytes ind1 ind2 rest → are_inner bytes ≡ true → are_inner rest ≡ true
-indicated-are_inner bytes rest ind1 ind2 is inner =
-    let all : are_inner (ind1 ∷ ind2 ∷ rest) ≡ true = subst (λ b. are_inner b ≡ true) is.parts inner in
-    (and_parts (is_inner ind2) (are_inner rest) (and_parts (is_inner ind1) (are_inner (ind2 ∷ rest)) all).1).1
+    step : (b : ℕ) (bytes : List ℕ) (test : Bool) → (b == 0x1F) ≡ test → (not test || begins_with_code bytes) ≡ true
+        → text_in bytes ++ flat_map spelled_subfield (subfields_in bytes) ≡ bytes
+        → (if test then [] else b ∷ text_in bytes) ++ flat_map spelled_subfield (if test then subfield_of (text_in bytes) ∷ subfields_in bytes else subfields_in bytes) ≡ b ∷ bytes
+    step b bytes false is begins rest = ap (λ t. b ∷ t) rest
+    step b [] true is begins rest = cc
+    step b (code ∷ behind) true is begins rest =
+        let other : text_in (code ∷ behind) ≡ code ∷ text_in behind = rw (code_undelimited code begins) refl in
+        ap (λ t. t ++ flat_map spelled_subfield (subfields_in (code ∷ behind))) (subfield_text (text_in (code ∷ behind)) code (text_in behind) other)
+        ∙ (ap (λ t. 0x1F ∷ t) rest ∙ ap (λ d. d ∷ code ∷ behind) (sym (is_delimiter b is)))
 
--- at least one is at least one
-some_is : (n : ℕ) → 1 ≤ n → nat_le 1 n ≡ true
-some_is n h = grind (arith, nat_tests)
+-- the text that is read in inner bytes is one
+text_in-is_text : (bytes : List ℕ) → are_inner bytes ≡ true → is_text (text_in bytes) ≡ true
+text_in-is_text [] inner = refl
+text_in-is_text (b ∷ bytes) inner =
+    let parts = and_parts (is_inner b) (are_inner bytes) inner in
+    step b bytes (b == 0x1F) refl parts.0 (text_in-is_text bytes parts.1)
+  where
+    step : (b : ℕ) (bytes : List ℕ) (test : Bool) → (b == 0x1F) ≡ test → is_inner b ≡ true → is_text (text_in bytes) ≡ true
+        → is_text (if test then [] else b ∷ text_in bytes) ≡ true
+    step b bytes true is inner rest = refl
+    step b bytes false is inner rest = and_from _ _ (text_byte b inner (ap not is)) rest
 
--- a data field that was read
-pub data-read : (bytes rest : List ℕ) (ind1 ind2 : ℕ) (read subfields : List Subfield) → subfields ≡ read → IsIndicated bytes ind1 ind2 rest
-    → AreSubfieldsOf rest read → IsDataOf bytes (Data ind1 ind2 subfields)
-data-read bytes rest ind1 ind2 read subfields same is are = record {
-  shaped = indicated-shape bytes rest ind1 ind2 is ∙ are.coded;
-  spelled = ap (λ s. ind1 ∷ ind2 ∷ flat_map spelled_subfield s) same ∙ (ap (λ t. ind1 ∷ ind2 ∷ t) (sym are.spelled) ∙ sym is.parts);
-  fits = λ tag other.
-      let formed : list_all is_subfield subfields ≡ true = rw same are.formed in
-      let some : nat_le 1 (length subfields) ≡ true = rw same (some_is (length read) are.some) in
-      rw (other, is.first, is.second, some, formed) refl;
-}
+-- and so are the subfields
+subfields_in-formed : (bytes : List ℕ) → are_coded bytes ≡ true → are_inner bytes ≡ true → list_all is_subfield (subfields_in bytes) ≡ true
+subfields_in-formed [] coded inner = refl
+subfields_in-formed (b ∷ bytes) coded inner =
+    let parts = and_parts (not (b == 0x1F) || begins_with_code bytes) (are_coded bytes) coded in
+    let inside = and_parts (is_inner b) (are_inner bytes) inner in
+    step b bytes (b == 0x1F) parts.0 inside.1 (subfields_in-formed bytes parts.1 inside.1)
+  where
+    formed : (t : List ℕ) (code : ℕ) (text : List ℕ) → t ≡ code ∷ text → is_subfield_code code ≡ true → is_text text ≡ true → is_subfield (subfield_of t) ≡ true
+    formed t code text e fits is = subst (λ u. is_subfield (subfield_of u) ≡ true) (sym e) (and_from _ _ fits is)
+
+    step : (b : ℕ) (bytes : List ℕ) (test : Bool) → (not test || begins_with_code bytes) ≡ true → are_inner bytes ≡ true → list_all is_subfield (subfields_in bytes) ≡ true
+        → list_all is_subfield (if test then subfield_of (text_in bytes) ∷ subfields_in bytes else subfields_in bytes) ≡ true
+    step b bytes false begins inner rest = rest
+    step b [] true begins inner rest = cc
+    step b (code ∷ behind) true begins inner rest =
+        let other : text_in (code ∷ behind) ≡ code ∷ text_in behind = rw (code_undelimited code begins) refl in
+        and_from _ _ (formed (text_in (code ∷ behind)) code (text_in behind) other begins (text_in-is_text behind (and_parts (is_inner code) (are_inner behind) inner).1)) rest
+
+-- bytes of the shape that a tag asks for spell a content that fits it
+pub shaped-spelled : (tag bytes : List ℕ) → are_inner bytes ≡ true → has_shape tag bytes ≡ true → (IsSpelling bytes) × (fits_tag tag (body_in bytes) ≡ true)
+shaped-spelled tag bytes inner shaped = by_tag (is_control_tag tag) refl shaped
+  where
+    one_more : (n : ℕ) → nat_le 1 (suc n) ≡ true
+    one_more n = grind (arith, nat_tests)
+
+    data_spelled : (bytes : List ℕ) → is_control_tag tag ≡ false → are_inner bytes ≡ true → has_data_shape bytes ≡ true → (IsSpelling bytes) × (fits_tag tag (body_in bytes) ≡ true)
+    data_spelled [] other inner shaped = cc
+    data_spelled (ind1 ∷ []) other inner shaped = cc
+    data_spelled (ind1 ∷ ind2 ∷ []) other inner shaped =
+        let parts = and_parts (is_indicator ind1 && is_indicator ind2) false shaped in
+        cc
+    data_spelled (ind1 ∷ ind2 ∷ b ∷ bytes) other inner shaped =
+        let both = and_parts (is_indicator ind1 && is_indicator ind2) ((b == 0x1F) && are_coded (b ∷ bytes)) shaped in
+        let coded = and_parts (b == 0x1F) (are_coded (b ∷ bytes)) both.1 in
+        let inside = and_parts (is_inner ind1) (are_inner (ind2 ∷ b ∷ bytes)) inner in
+        let behind = (and_parts (is_inner ind2) (are_inner (b ∷ bytes)) inside.1).1 in
+        let read : body_in (ind1 ∷ ind2 ∷ b ∷ bytes) ≡ Data ind1 ind2 (subfields_in (b ∷ bytes)) = rw coded.0 refl in
+        let none : text_in (b ∷ bytes) ≡ [] = rw coded.0 refl in
+        let whole : flat_map spelled_subfield (subfields_in (b ∷ bytes)) ≡ b ∷ bytes
+        = ap (λ t. t ++ flat_map spelled_subfield (subfields_in (b ∷ bytes))) (sym none) ∙ coded-spelled (b ∷ bytes) coded.1 in
+        let some : nat_le 1 (length (subfields_in (b ∷ bytes))) ≡ true = rw coded.0 (one_more (length (subfields_in bytes))) in (
+          ap spelled read ∙ ap (λ t. ind1 ∷ ind2 ∷ t) whole,
+          ap (fits_tag tag) read ∙ and_from _ _ (ap not other) (and_from _ _ both.0 (and_from _ _ some (subfields_in-formed (b ∷ bytes) coded.1 behind))),
+        )
+
+    by_tag : (control : Bool) → is_control_tag tag ≡ control → (if control then has_control_shape bytes else has_data_shape bytes) ≡ true → (IsSpelling bytes) × (fits_tag tag (body_in bytes) ≡ true)
+    by_tag true control shaped =
+        let is = is_text-inner bytes inner shaped in
+        let read = body_in-control bytes is in
+        (ap spelled read, ap (fits_tag tag) read ∙ and_from _ _ control is)
+    by_tag false other shaped = data_spelled bytes other inner shaped
 
 -- a delimiter at a place
 pub delimited-at : (bytes : List ℕ) (k : ℕ) → k < length bytes → (get_or bytes k 0 == 0x1F) ≡ true → has_control_shape bytes ≡ false

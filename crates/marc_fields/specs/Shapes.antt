@@ -1,10 +1,9 @@
 -- Which bytes spell a control field and which a data field (MARC 21, 'Variable fields').
-use Rattle.std.specs.Prelude.{◌≡◌, ℕ, ◌≤◌, Bool, true, false, not, ◌&&◌, ◌||◌, ◌==◌, List, [], ◌∷◌, ◌++◌, length, if◌then◌else◌}
-use Rattle.std.specs.List.{list_all, flat_map}
-use Rattle.union_base.specs.Fields.{delimiter, field_terminator, record_terminator, is_indicator, is_subfield_code, is_subfield, spelled_subfield, is_control_tag, spelled, fits_tag}
-use Rattle.union_base.specs.declared.body.Body.{Body}
+use Rattle.std.specs.Prelude.{◌≡◌, ℕ, Bool, true, false, not, ◌&&◌, ◌||◌, ◌==◌, List, [], ◌∷◌, ◌++◌, if◌then◌else◌}
+use Rattle.std.specs.List.{list_all}
+use Rattle.union_base.specs.Fields.{delimiter, field_terminator, record_terminator, is_indicator, is_subfield_code, is_control_tag, spelled}
+use Rattle.union_base.specs.Readings.{is_undelimited, is_end}
 use Rattle.union_base.specs.declared.field.Field.{Field}
-use Rattle.union_base.specs.declared.subfield.Subfield.{Subfield}
 
 -- the byte ends no field and no record
 abbrev pub is_inner : ℕ → Bool
@@ -16,7 +15,7 @@ are_inner bytes = list_all is_inner bytes
 
 -- a control field has no delimiter
 abbrev pub has_control_shape : List ℕ → Bool
-has_control_shape bytes = list_all (λ b. not (b == delimiter)) bytes
+has_control_shape bytes = is_undelimited bytes
 
 -- the bytes begin with a subfield code
 abbrev pub begins_with_code : List ℕ → Bool
@@ -47,11 +46,6 @@ has_data_shape [] = false
 abbrev pub has_shape : List ℕ → List ℕ → Bool
 has_shape tag bytes = (if is_control_tag tag then has_control_shape bytes else has_data_shape bytes)
 
--- the bytes are none, or the next subfield
-abbrev pub is_end : List ℕ → Bool
-is_end [] = true
-is_end (b ∷ rest) = b == delimiter
-
 -- the bytes are a subfield of that code and text, and the rest
 pub record IsFirstSubfield (bytes : List ℕ) (code : ℕ) (text rest : List ℕ) : Type 0 where
   pub parts : bytes ≡ delimiter ∷ code ∷ (text ++ rest)
@@ -59,37 +53,12 @@ pub record IsFirstSubfield (bytes : List ℕ) (code : ℕ) (text rest : List ℕ
   pub undelimited : has_control_shape text ≡ true
   pub ends : is_end rest ≡ true
 
--- the bytes spell those subfields, one at least
-pub record AreSubfieldsOf (bytes : List ℕ) (subfields : List Subfield) : Type 0 where
-  pub coded : are_coded bytes ≡ true
-  pub spelled : bytes ≡ flat_map spelled_subfield subfields
-  pub formed : list_all is_subfield subfields ≡ true
-  pub some : 1 ≤ length subfields
-
--- the body is a control field's, of these bytes
-pub record IsControlOf (bytes : List ℕ) (body : Body) : Type 0 where
-  pub shaped : has_control_shape bytes ≡ true
-  pub spelled : spelled body ≡ bytes
-  pub fits : (tag : List ℕ) → is_control_tag tag ≡ true → fits_tag tag body ≡ true
-
--- the body is a data field's, of these bytes
-pub record IsDataOf (bytes : List ℕ) (body : Body) : Type 0 where
-  pub shaped : has_data_shape bytes ≡ true
-  pub spelled : spelled body ≡ bytes
-  pub fits : (tag : List ℕ) → is_control_tag tag ≡ false → fits_tag tag body ≡ true
-
 -- the bytes are two indicators and then a delimiter
 pub record IsIndicated (bytes : List ℕ) (ind1 ind2 : ℕ) (rest : List ℕ) : Type 0 where
   pub parts : bytes ≡ ind1 ∷ ind2 ∷ rest
   pub first : is_indicator ind1 ≡ true
   pub second : is_indicator ind2 ≡ true
   pub begins : begins_with_delimiter rest ≡ true
-
--- the body is that of a field with the tag, of these bytes
-pub record IsBodyOf (tag bytes : List ℕ) (body : Body) : Type 0 where
-  pub shaped : has_shape tag bytes ≡ true
-  pub spelled : spelled body ≡ bytes
-  pub fits : fits_tag tag body ≡ true
 
 -- the field has that tag and these bytes
 pub record IsFieldOf (tag bytes : List ℕ) (f : Field) : Type 0 where

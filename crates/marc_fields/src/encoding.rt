@@ -2,7 +2,7 @@
 ghost use Rattle.std.specs.Prelude.{◌≡◌, ◌+◌, ◌*◌, ◌++◌, ◌∷◌, [], ◌≤◌, min, length, OnOk, OnErr, IfErr, Some, None, if◌then◌else◌, nat_le, IsTrue};
 ghost use Rattle.std.specs.List.{list_all, flat_map};
 ghost use Rattle.marc_leader.specs.Codes.{are_printable};
-ghost use Rattle.union_base.specs.Fields.{spelled, field_terminator, spelled_subfield};
+ghost use Rattle.union_base.specs.Fields.{spelled, field_terminator};
 ghost use Rattle.marc_fields.specs.Spelling.{stored, is_short, longest_frame, entry_bytes, entries_from, leader_bytes, frame_size, spelling, Spells};
 ghost use Rattle.marc_fields.specs.Appending.{Appends, too_long, IsCause};
 
@@ -11,9 +11,8 @@ use marc_leader::codes::LeaderCodes;
 use marc_leader::entry::{ENTRY_SIZE, Entry, write_entry};
 use marc_leader::leader::{LEADER_SIZE, Leader, write_leader};
 use std::alloc::AllocError;
-use union_base::body::{Body, DELIMITER, FIELD_TERMINATOR, RECORD_TERMINATOR};
+use union_base::body::{Body, FIELD_TERMINATOR, RECORD_TERMINATOR};
 use union_base::field::Field;
-use union_base::subfield::Subfield;
 
 /// The longest frame, in bytes: what the leader's five digits can say.
 pub const LONGEST_FRAME: usize = 99_999;
@@ -38,26 +37,11 @@ const FIELD_STOP: usize = LONGEST_FIELD + 1;
 /// One more than the longest frame: where counting a frame's bytes stops.
 const FRAME_STOP: usize = LONGEST_FRAME + 1;
 
-/// How many bytes the subfields have, behind so many others; at most one more than a field may have.
-fn subfields_size(before: usize, subfields: &[Subfield]) -> usize
-    requires { before ≤ 10000 }
-    ensures { result ≡ min (before + length (flat_map spelled_subfield subfields.now)) 10000 }
-{
-    let mut size = before;
-    for subfield in subfields {
-        size = (size + 2 + subfield.text.bytes().len()).min(FIELD_STOP);
-    }
-    size
-}
-
 /// How many bytes the field has with its terminator, at most one more than a field may have. Takes no memory.
 pub fn stored_size(body: &Body) -> usize
     ensures { result ≡ min (length (spelled body.now) + 1) 10000 }
 {
-    match body {
-        Body::Control { text } => (text.bytes().len() + 1).min(FIELD_STOP),
-        Body::Data { subfields, .. } => subfields_size(3, subfields.as_slice()),
-    }
+    (body.spelling().len() + 1).min(FIELD_STOP)
 }
 
 /// How many bytes the fields have, at most one more than a frame may have; None where a field is too long.
@@ -90,32 +74,11 @@ fn counted_size(entries: usize, bytes: usize) -> Option<usize>
     }
 }
 
-/// Appends the subfields.
-fn append_subfields(subfields: &[Subfield], into: &mut Vec<u8>) -> Result<(), AllocError>
-    ensures { Appends result into.old.items into.new.items (flat_map spelled_subfield subfields.now) }
-{
-    for subfield in subfields {
-        into.extend_from_slice(&[DELIMITER, subfield.code])?;
-        into.extend_from_slice(subfield.text.bytes())?;
-    }
-    Ok(())
-}
-
 /// Appends the field's bytes, without the terminator.
 fn append_body(body: &Body, into: &mut Vec<u8>) -> Result<(), AllocError>
     ensures { Appends result into.old.items into.new.items (spelled body.now) }
 {
-    match body {
-        Body::Control { text } => into.extend_from_slice(text.bytes()),
-        Body::Data {
-            ind1,
-            ind2,
-            subfields,
-        } => {
-            into.extend_from_slice(&[*ind1, *ind2])?;
-            append_subfields(subfields.as_slice(), into)
-        }
-    }
+    into.extend_from_slice(body.spelling())
 }
 
 /// Appends the fields, each with its terminator.

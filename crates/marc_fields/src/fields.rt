@@ -104,10 +104,7 @@ pub fn read_fields(alloc: Global, entries: &[Entry], bytes: &[u8]) -> Result<Vec
 {
     let mut fields = Vec::with_capacity(alloc, entries.len())?;
     for entry in entries {
-        match read_field(alloc, entry.tag, text_in(entry, bytes))? {
-            Some(field) => fields.push(field)?,
-            None => unreachable!(),
-        }
+        fields.push(read_field(alloc, entry.tag, text_in(entry, bytes))?)?;
     }
     Ok(fields)
 }

@@ -1,29 +1,15 @@
 //! The bytes of one field, read.
-ghost use Rattle.std.specs.Prelude.{◌≡◌, ◌++◌, ◌≤◌, ℕ, true, false, length, take, drop, IsTrue, IfOk, MatchOption};
-ghost use Rattle.std.specs.List.{list_all, flat_map};
+ghost use Rattle.std.specs.Prelude.{◌≡◌, false, IsTrue, IfOk, MatchOption};
 ghost use Rattle.union_base.specs.Fields.{is_tag};
-ghost use Rattle.marc_fields.specs.Shapes.{are_inner, are_coded, has_control_shape, begins_with_delimiter, is_end, IsFirstSubfield, AreSubfieldsOf, has_data_shape, IsControlOf, IsDataOf, IsIndicated, has_shape, IsBodyOf, IsFieldOf};
+ghost use Rattle.marc_fields.specs.Shapes.{are_inner, are_coded, has_control_shape, begins_with_delimiter, IsFirstSubfield, has_data_shape, IsIndicated, has_shape, IsFieldOf};
 
 use memchr::memchr;
 use std::alloc::Global;
-use union_base::body::{Body, DELIMITER, is_control_tag, is_indicator, is_subfield_code};
+use union_base::body::{Body, DELIMITER, is_indicator, is_subfield_code};
 use union_base::bytes::Bytes;
 use union_base::field::Field;
 use union_base::memory::Memory;
-use union_base::sequence::Sequence;
-use union_base::subfield::Subfield;
-
-/// How many bytes stand before the first delimiter, or how many there are.
-fn undelimited_size(bytes: &[u8]) -> usize
-    ensures within { result ≤ length bytes.now }
-    ensures before { has_control_shape (take result bytes.now) ≡ true }
-    ensures behind { is_end (drop result bytes.now) ≡ true }
-{
-    match memchr(DELIMITER, bytes) {
-        Some(place) => place,
-        None => bytes.len(),
-    }
-}
+use union_base::subfields::undelimited_size;
 
 /// The first subfield of bytes, and what follows it.
 #[derive(Clone, Copy)]
@@ -52,27 +38,6 @@ fn first_subfield(bytes: &[u8]) -> Option<FirstSubfield<'_>>
     })
 }
 
-/// The subfields that the bytes are; None where a delimiter has no code behind it.
-fn read_subfields(alloc: Global, bytes: &[u8]) -> Result<Option<Vec<Subfield>>, Memory>
-    requires begins { IsTrue (begins_with_delimiter bytes.now) }
-    requires inner { IsTrue (are_inner bytes.now) }
-    ensures { IfOk result (λ read. MatchOption read (are_coded bytes.now ≡ false) (λ subfields. AreSubfieldsOf bytes.now subfields.items)) }
-{
-    let mut subfields = Vec::new(alloc);
-    let mut rest = bytes;
-    while !rest.is_empty() {
-        let Some(first) = first_subfield(rest) else {
-            return Ok(None);
-        };
-        subfields.push(Subfield {
-            code: first.code,
-            text: Bytes::of(alloc, first.text)?,
-        })?;
-        rest = first.rest;
-    }
-    Ok(Some(subfields))
-}
-
 /// Whether a code follows each delimiter.
 fn have_codes(bytes: &[u8]) -> bool
     requires { IsTrue (begins_with_delimiter bytes.now) }
@@ -96,19 +61,6 @@ pub fn are_undelimited(bytes: &[u8]) -> bool
         Some(_place) => false,
         None => true,
     }
-}
-
-/// The body of a control field with these bytes; None where they have a delimiter.
-fn read_control(alloc: Global, bytes: &[u8]) -> Result<Option<Body>, Memory>
-    requires inner { IsTrue (are_inner bytes.now) }
-    ensures { IfOk result (λ read. MatchOption read (has_control_shape bytes.now ≡ false) (λ body. IsControlOf bytes.now body)) }
-{
-    if !are_undelimited(bytes) {
-        return Ok(None);
-    }
-    Ok(Some(Body::Control {
-        text: Bytes::of(alloc, bytes)?,
-    }))
 }
 
 /// What a data field has before and behind its indicators.
@@ -156,45 +108,17 @@ pub fn are_data(bytes: &[u8]) -> bool
     }
 }
 
-/// The body of a data field with these bytes; None where they have not the shape of one.
-fn read_data(alloc: Global, bytes: &[u8]) -> Result<Option<Body>, Memory>
-    requires inner { IsTrue (are_inner bytes.now) }
-    ensures { IfOk result (λ read. MatchOption read (has_data_shape bytes.now ≡ false) (λ body. IsDataOf bytes.now body)) }
-{
-    let Some(found) = split_indicators(bytes) else {
-        return Ok(None);
-    };
-    let Some(subfields) = read_subfields(alloc, found.rest)? else {
-        return Ok(None);
-    };
-    Ok(Some(Body::Data {
-        ind1: found.ind1,
-        ind2: found.ind2,
-        subfields: Sequence::from(subfields),
-    }))
-}
-
-/// The body of a field with that tag and these bytes; None where they have not the shape that the tag asks for.
-fn read_body(alloc: Global, tag: &[u8; 3], bytes: &[u8]) -> Result<Option<Body>, Memory>
-    requires inner { IsTrue (are_inner bytes.now) }
-    ensures { IfOk result (λ read. MatchOption read (has_shape tag.now bytes.now ≡ false) (λ body. IsBodyOf tag.now bytes.now body)) }
-{
-    if is_control_tag(tag) {
-        read_control(alloc, bytes)
-    } else {
-        read_data(alloc, bytes)
-    }
-}
-
-/// The field with that tag and these bytes, which are those between two terminators; None where they have not the shape
-/// that the tag asks for (MARC 21, 'Variable fields').
-pub fn read_field(alloc: Global, tag: [u8; 3], bytes: &[u8]) -> Result<Option<Field>, Memory>
+/// The field with that tag and these bytes, which are those between two terminators and have the shape that the tag asks for
+/// (MARC 21, 'Variable fields').
+pub fn read_field(alloc: Global, tag: [u8; 3], bytes: &[u8]) -> Result<Field, Memory>
     requires tag { IsTrue (is_tag tag) }
     requires inner { IsTrue (are_inner bytes.now) }
-    ensures { IfOk result (λ read. MatchOption read (has_shape tag bytes.now ≡ false) (λ field. IsFieldOf tag bytes.now field)) }
+    requires shaped { IsTrue (has_shape tag bytes.now) }
+    ensures { IfOk result (λ field. IsFieldOf tag bytes.now field) }
 {
-    let Some(body) = read_body(alloc, &tag, bytes)? else {
-        return Ok(None);
-    };
-    Ok(Some(Field { tag, body }))
+    let spelling = Bytes::of(alloc, bytes)?;
+    Ok(Field {
+        tag,
+        body: Body::spelled_by(spelling),
+    })
 }

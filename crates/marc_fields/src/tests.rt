@@ -6,8 +6,7 @@ use crate::rules::Rule;
 use marc_leader::codes::LeaderCodes;
 use std::alloc::Global;
 use std::test::Fail;
-use union_base::body::Body;
-use union_base::bytes::Bytes;
+use union_base::body::{Body, are_subfields};
 use union_base::copied::Copied;
 use union_base::field::Field;
 use union_base::sequence::Sequence;
@@ -799,13 +798,15 @@ fn frames_are_read_or_refused_by_rule_and_place(rt: HostRuntime) -> Result<(), F
 
 /// A general note with a text of so many bytes.
 fn note(alloc: Global, size: usize) -> Result<Field, Fail> {
-    let text = Bytes::from(vec![in alloc; b'a'; size]?);
-    let subfields = Sequence::from(vec![in alloc; Subfield { code: b'a', text }]?);
-    let body = Body::Data {
-        ind1: b' ',
-        ind2: b' ',
-        subfields,
-    };
+    let text = vec![in alloc; b'a'; size]?;
+    let subfields = [Subfield {
+        code: b'a',
+        text: text.as_slice(),
+    }];
+    if !are_subfields(&subfields) {
+        Err("no subfields")?;
+    }
+    let body = Body::of_subfields(alloc, b' ', b' ', &subfields)?;
     if body.is_field(b"500") {
         Ok(Field { tag: *b"500", body })
     } else {

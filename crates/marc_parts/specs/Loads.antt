@@ -3,9 +3,7 @@ use Rattle.std.specs.Prelude.{ℕ, Bool, ◌&&◌, ◌||◌, ◌==◌, nat_le, L
 use Rattle.std.specs.List.{list_all}
 use Rattle.std.specs.Str.{is_utf8}
 use Rattle.marc_leader.specs.Codes.{is_printable}
-use Rattle.union_base.specs.declared.subfield.Subfield.{Subfield}
-use Rattle.union_base.specs.declared.body.Body.{Body}
-use Rattle.union_base.specs.declared.body.Body.TheVariants.{Control, Data}
+use Rattle.union_base.specs.Bodies.{Subfield, Body, Control, Data}
 use Rattle.union_base.specs.declared.field.Field.{Field}
 use Rattle.marc_fields.specs.declared.marc_record.Record.{Record}
 use Rattle.marc_parts.specs.Parts.{how_many, text_under, control_number}

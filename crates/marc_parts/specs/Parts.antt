@@ -2,8 +2,7 @@
 use Rattle.std.specs.Prelude.{ℕ, List, [], Option, count_by, filter, find, codes, nat_eq, Bool}
 use Rattle.std.specs.Option.{option_map_or}
 use Rattle.std.specs.Cmp.Lexicographic.{pointwise}
-use Rattle.union_base.specs.declared.body.Body.{Body}
-use Rattle.union_base.specs.declared.body.Body.TheVariants.{Control, Data}
+use Rattle.union_base.specs.Bodies.{Body, Control, Data}
 use Rattle.union_base.specs.declared.field.Field.{Field}
 use Rattle.marc_fields.specs.declared.marc_record.Record.{Record}
 use Rattle.marc_parts.specs.Trimmed.{trimmed}

@@ -7,9 +7,9 @@ ghost use Rattle.marc_parts.specs.Loads.{is_utf8_subfield, is_utf8_body, is_utf8
 
 use crate::parts::{control_number, how_many, text_under};
 use marc_fields::marc_record::Record;
-use union_base::body::Body;
+use union_base::body::{Body, Parts};
 use union_base::field::Field;
-use union_base::subfield::Subfield;
+use union_base::subfields::Subfields;
 
 /// The longest control number, in bytes (this project's own).
 pub const LONGEST_CONTROL_NUMBER: usize = 64;
@@ -84,16 +84,21 @@ fn are_utf8_fields(fields: &[Field]) -> bool
 fn is_utf8_body(body: &Body) -> bool
     ensures { result ≡ is_utf8_body body.now }
 {
-    match body {
-        Body::Control { text } => is_utf8(text.bytes()),
-        Body::Data { subfields, .. } => are_utf8_subfields(subfields.as_slice()),
+    match body.parts() {
+        Parts::Control { text } => is_utf8(text),
+        Parts::Data { subfields, .. } => are_utf8_subfields(subfields),
     }
 }
 
-fn are_utf8_subfields(subfields: &[Subfield]) -> bool
-    ensures { result ≡ list_all is_utf8_subfield subfields.now }
+fn are_utf8_subfields(subfields: Subfields<'_>) -> bool
+    ensures { result ≡ list_all is_utf8_subfield subfields.entry }
 {
-    subfields.iter().all(|s| is_utf8(s.text.bytes()))
+    for subfield in subfields {
+        if !is_utf8(subfield.text) {
+            return false;
+        }
+    }
+    true
 }
 
 fn is_utf8(text: &[u8]) -> bool

@@ -4,7 +4,7 @@ ghost use Rattle.marc_parts.specs.Parts.{has_tag, first_under, how_many, control
 
 use crate::trimming::trimmed;
 use marc_fields::marc_record::Record;
-use union_base::body::Body;
+use union_base::body::{Body, Parts};
 use union_base::field::Field;
 
 /// Whether the field has the tag. Takes no memory.
@@ -32,9 +32,9 @@ pub fn how_many(tag: &[u8; 3], fields: &[Field]) -> usize
 pub fn control_text(body: &Body) -> &[u8]
     ensures { result.now ≡ control_text body.now }
 {
-    match body {
-        Body::Control { text } => text.bytes(),
-        Body::Data { .. } => &[],
+    match body.parts() {
+        Parts::Control { text } => text,
+        Parts::Data { .. } => &[],
     }
 }
 

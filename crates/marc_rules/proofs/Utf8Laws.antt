@@ -10,10 +10,8 @@ use Rattle.std.specs.Prelude.{◌==◌, nat_le}
 use Rattle.std.specs.Str.{IsUtf8, IsAscii, is_utf8, IsCharBoundary}
 use Rattle.marc_leader.specs.declared.entry.Entry.{Entry}
 use Rattle.union_base.specs.Fields.{is_subfield, is_subfield_code, is_indicator, is_text, spelled_subfield, spelled as body_bytes, fits_tag, is_field, is_tag, is_control_tag}
-use Rattle.union_base.specs.declared.body.Body.{Body}
-use Rattle.union_base.specs.declared.body.Body.TheVariants.{Control, Data}
+use Rattle.union_base.specs.Bodies.{Subfield, Body, Control, Data}
 use Rattle.union_base.specs.declared.field.Field.{Field}
-use Rattle.union_base.specs.declared.subfield.Subfield.{Subfield}
 use Rattle.marc_fields.specs.Spelling.{AreEntriesOf}
 use Rattle.marc_fields.specs.Rules.{is_tile, range_of, text_of}
 use Rattle.marc_fields.proofs.FieldReading.{tile-parts}

@@ -3,7 +3,7 @@ use Rattle.std.specs.Prelude.{ℕ, Bool, ◌==◌, ◌&&◌, ◌||◌, if◌then
 use Rattle.std.specs.Char.{is_ascii_digit}
 use Rattle.std.specs.List.{list_all, flat_map}
 use Rattle.std.specs.Option.{option_to_list}
-use Rattle.union_base.specs.declared.subfield.Subfield.{Subfield}
+use Rattle.union_base.specs.Bodies.{Subfield, subfields_of}
 use Rattle.union_base.specs.declared.field.Field.{Field}
 use Rattle.union_base.specs.SortedLists.{set_of}
 use Rattle.marc_fields.specs.declared.marc_record.Record.{Record}
@@ -12,7 +12,7 @@ use Rattle.naco_normal.specs.Words.{is_empty}
 use Rattle.isbn_keys.specs.Isbn.{isbn_key}
 use Rattle.isbn_keys.specs.Lccn.{lccn_key}
 use Rattle.isbn_keys.specs.Control.{pair_key, system_key}
-use Rattle.workset_keys.specs.Names.{subfields_of, name_of, title245_of}
+use Rattle.workset_keys.specs.Names.{name_of, title245_of}
 use Rattle.match_features.specs.declared.features.Features.{Features}
 use Rattle.match_features.specs.Kept.{texts_cmp, pairs_cmp}
 use Rattle.match_features.specs.KeptLaws.{kept_sets}

@@ -13,7 +13,8 @@ use union_base::bytes::Bytes;
 use union_base::field::Field;
 use union_base::memory::Memory;
 use union_base::subfield::Subfield;
-use workset_keys::fields::{name_of, subfields_of, title245_of};
+use union_base::subfields::Subfields;
+use workset_keys::fields::{name_of, title245_of};
 
 /// The code of the subfields that numbers are read from (MARC 21, 010, 020 and 035, `$a`).
 const NUMBER: u8 = b'a';
@@ -79,10 +80,10 @@ fn push_numbers(
     ensures { OnOk result (control.new.items ≡ control.old.items ++ numbers_in field.now) }
 {
     if has_tag(b"010", field) {
-        push_lccns(alloc, control, subfields_of(&field.body))?;
+        push_lccns(alloc, control, field.body.subfields())?;
     }
     if has_tag(b"035", field) {
-        push_system_numbers(alloc, control, subfields_of(&field.body))?;
+        push_system_numbers(alloc, control, field.body.subfields())?;
     }
     Ok(())
 }
@@ -90,12 +91,12 @@ fn push_numbers(
 fn push_lccns(
     alloc: Global,
     control: &mut Vec<(Bytes, Bytes)>,
-    subfields: &[Subfield],
+    subfields: Subfields<'_>,
 ) -> Result<(), Memory>
-    ensures { OnOk result (control.new.items ≡ control.old.items ++ flat_map lccn_in subfields.now) }
+    ensures { OnOk result (control.new.items ≡ control.old.items ++ flat_map lccn_in subfields.entry) }
 {
     for subfield in subfields {
-        push_lccn(alloc, control, subfield)?;
+        push_lccn(alloc, control, &subfield)?;
     }
     Ok(())
 }
@@ -103,14 +104,14 @@ fn push_lccns(
 fn push_lccn(
     alloc: Global,
     control: &mut Vec<(Bytes, Bytes)>,
-    subfield: &Subfield,
+    subfield: &Subfield<'_>,
 ) -> Result<(), Memory>
     ensures { OnOk result (control.new.items ≡ control.old.items ++ lccn_in subfield.now) }
 {
     if subfield.code != NUMBER {
         return Ok(());
     }
-    if let Some(number) = lccn(alloc, subfield.text.bytes())? {
+    if let Some(number) = lccn(alloc, subfield.text)? {
         let source = Bytes::of(alloc, &CONGRESS)?;
         control.push((source, number))?;
     }
@@ -120,12 +121,12 @@ fn push_lccn(
 fn push_system_numbers(
     alloc: Global,
     control: &mut Vec<(Bytes, Bytes)>,
-    subfields: &[Subfield],
+    subfields: Subfields<'_>,
 ) -> Result<(), Memory>
-    ensures { OnOk result (control.new.items ≡ control.old.items ++ flat_map system_number_in subfields.now) }
+    ensures { OnOk result (control.new.items ≡ control.old.items ++ flat_map system_number_in subfields.entry) }
 {
     for subfield in subfields {
-        push_system_number(alloc, control, subfield)?;
+        push_system_number(alloc, control, &subfield)?;
     }
     Ok(())
 }
@@ -133,14 +134,14 @@ fn push_system_numbers(
 fn push_system_number(
     alloc: Global,
     control: &mut Vec<(Bytes, Bytes)>,
-    subfield: &Subfield,
+    subfield: &Subfield<'_>,
 ) -> Result<(), Memory>
     ensures { OnOk result (control.new.items ≡ control.old.items ++ system_number_in subfield.now) }
 {
     if subfield.code != NUMBER {
         return Ok(());
     }
-    if let Some(pair) = system_number(alloc, subfield.text.bytes())? {
+    if let Some(pair) = system_number(alloc, subfield.text)? {
         control.push(pair)?;
     }
     Ok(())
@@ -151,27 +152,27 @@ fn push_isbns(isbns: &mut Vec<[u8; 13]>, field: &Field) -> Result<(), Memory>
     ensures { OnOk result (isbns.new.items ≡ isbns.old.items ++ isbns_in field.now) }
 {
     if has_tag(b"020", field) {
-        push_isbns_of(isbns, subfields_of(&field.body))?;
+        push_isbns_of(isbns, field.body.subfields())?;
     }
     Ok(())
 }
 
-fn push_isbns_of(isbns: &mut Vec<[u8; 13]>, subfields: &[Subfield]) -> Result<(), Memory>
-    ensures { OnOk result (isbns.new.items ≡ isbns.old.items ++ flat_map isbn_in subfields.now) }
+fn push_isbns_of(isbns: &mut Vec<[u8; 13]>, subfields: Subfields<'_>) -> Result<(), Memory>
+    ensures { OnOk result (isbns.new.items ≡ isbns.old.items ++ flat_map isbn_in subfields.entry) }
 {
     for subfield in subfields {
-        push_isbn(isbns, subfield)?;
+        push_isbn(isbns, &subfield)?;
     }
     Ok(())
 }
 
-fn push_isbn(isbns: &mut Vec<[u8; 13]>, subfield: &Subfield) -> Result<(), Memory>
+fn push_isbn(isbns: &mut Vec<[u8; 13]>, subfield: &Subfield<'_>) -> Result<(), Memory>
     ensures { OnOk result (isbns.new.items ≡ isbns.old.items ++ isbn_in subfield.now) }
 {
     if subfield.code != NUMBER {
         return Ok(());
     }
-    if let Some(digits) = isbn(subfield.text.bytes()) {
+    if let Some(digits) = isbn(subfield.text) {
         isbns.push(digits)?;
     }
     Ok(())

@@ -1,7 +1,7 @@
 -- The heading and the title that subfields make: the forms of their texts, joined.
 use Rattle.std.specs.Prelude.{ℕ, ◌==◌, nat_le, if◌then◌else◌, List, [], ◌∷◌, map, filter, length, drop, chars, encode_utf8_all}
 use Rattle.std.specs.List.{list_any}
-use Rattle.union_base.specs.declared.subfield.Subfield.{Subfield}
+use Rattle.union_base.specs.Bodies.{Subfield}
 use Rattle.naco_normal.specs.declared.form.Comma.TheVariants.{First, None}
 use Rattle.naco_normal.specs.Normal.{normal_form}
 use Rattle.naco_normal.specs.Words.{joined_words}

@@ -1,6 +1,6 @@
 -- The forms of a field's subfields, read from the front.
 use Rattle.std.specs.Prelude.{ℕ, ◌==◌, ◌&&◌, Bool, not, if◌then◌else◌, List, map}
-use Rattle.union_base.specs.declared.subfield.Subfield.{Subfield}
+use Rattle.union_base.specs.Bodies.{Subfield}
 use Rattle.naco_normal.specs.declared.heading.FirstPart.{FirstPart}
 use Rattle.naco_normal.specs.declared.heading.FirstPart.TheVariants.{WithComma, Behind}
 use Rattle.naco_normal.specs.Heading.{main_code, chosen, part_forms, form_with_comma, form_without_comma, form_skipping}

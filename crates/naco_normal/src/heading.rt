@@ -12,6 +12,7 @@ use std::str;
 use union_base::bytes::Bytes;
 use union_base::memory::Memory;
 use union_base::subfield::Subfield;
+use union_base::subfields::Subfields;
 
 /// The code of the subfield that begins a name or a title.
 const MAIN_CODE: u8 = b'a';
@@ -21,9 +22,9 @@ const MAIN_CODE: u8 = b'a';
 /// other commas go (this project's own, for the fields X00, X10 and X11 of MARC 21).
 ///
 /// Answers `Memory` where memory ran out.
-pub fn heading(alloc: Global, subfields: &[Subfield], codes: &[u8]) -> Result<Bytes, Memory>
-    requires { All (λ s. IsUtf8 s.text) subfields.now }
-    ensures { IfOk result (λ b. b ≡ heading_of subfields.now codes.now) }
+pub fn heading(alloc: Global, subfields: Subfields<'_>, codes: &[u8]) -> Result<Bytes, Memory>
+    requires { All (λ s. IsUtf8 s.text) subfields }
+    ensures { IfOk result (λ b. b ≡ heading_of subfields.entry codes.now) }
 {
     joined_forms(alloc, subfields, codes, FirstPart::WithComma)
 }
@@ -33,9 +34,14 @@ pub fn heading(alloc: Global, subfields: &[Subfield], codes: &[u8]) -> Result<By
 /// scalar values), where it has that many, else from its beginning (MARC 21, nonfiling characters).
 ///
 /// Answers `Memory` where memory ran out.
-pub fn title(alloc: Global, subfields: &[Subfield], codes: &[u8], skip: u8) -> Result<Bytes, Memory>
-    requires { All (λ s. IsUtf8 s.text) subfields.now }
-    ensures { IfOk result (λ b. b ≡ title_of subfields.now codes.now skip) }
+pub fn title(
+    alloc: Global,
+    subfields: Subfields<'_>,
+    codes: &[u8],
+    skip: u8,
+) -> Result<Bytes, Memory>
+    requires { All (λ s. IsUtf8 s.text) subfields }
+    ensures { IfOk result (λ b. b ≡ title_of subfields.entry codes.now skip) }
 {
     joined_forms(alloc, subfields, codes, FirstPart::Behind(skip))
 }
@@ -52,41 +58,30 @@ enum FirstPart {
 /// The forms of the subfields whose code is among the codes, with one blank between each two that aren't empty.
 fn joined_forms(
     alloc: Global,
-    subfields: &[Subfield],
+    subfields: Subfields<'_>,
     codes: &[u8],
     first: FirstPart,
 ) -> Result<Bytes, Memory>
-    requires { All (λ s. IsUtf8 s.text) subfields.now }
-    ensures { IfOk result (λ b. b ≡ parts_of first false codes.now subfields.now) }
+    requires { All (λ s. IsUtf8 s.text) subfields }
+    ensures { IfOk result (λ b. b ≡ parts_of first false codes.now subfields.entry) }
 {
-    let mut form = Vec::with_capacity(alloc, room(subfields))?;
+    let mut form = Vec::with_capacity(alloc, subfields.spelling().len())?;
     let mut seen = false;
     for subfield in subfields {
         if !codes.contains(&subfield.code) {
             continue;
         }
-        append_subfield(alloc, &mut form, subfield, first, seen)?;
+        append_subfield(alloc, &mut form, &subfield, first, seen)?;
         seen = seen | (subfield.code == MAIN_CODE);
     }
     Ok(Bytes::from(form))
-}
-
-/// Room for the texts and the blanks between them.
-fn room(subfields: &[Subfield]) -> usize {
-    let mut room: usize = 0;
-    for subfield in subfields {
-        room = room
-            .saturating_add(subfield.text.bytes().len())
-            .saturating_add(1);
-    }
-    room
 }
 
 /// Appends the form of one subfield; `seen` says that a $a came before it.
 fn append_subfield(
     alloc: Global,
     form: &mut Vec<u8>,
-    subfield: &Subfield,
+    subfield: &Subfield<'_>,
     first: FirstPart,
     seen: bool,
 ) -> Result<(), Memory>
@@ -117,11 +112,11 @@ fn append_first(
 }
 
 /// The text of the subfield.
-fn text_of(subfield: &Subfield) -> &str
+fn text_of<'a>(subfield: &Subfield<'a>) -> &'a str
     requires { IsUtf8 subfield.now.text }
     ensures { result.now ≡ subfield.now.text }
 {
-    match str::from_utf8(subfield.text.bytes()) {
+    match str::from_utf8(subfield.text) {
         Ok(text) => text,
         Err(_) => unreachable!(),
     }

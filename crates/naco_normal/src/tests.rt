@@ -1,10 +1,12 @@
 //! Forms, headings and titles whose expected values another program made.
 ghost use Rattle.std.specs.Prelude.{All, IsUtf8, IfOk, OnOk};
+ghost use Rattle.union_base.specs.Bodies.{subfields_of};
 
 use crate::form::{Comma, normal};
 use crate::heading::{heading, title};
 use std::alloc::Global;
 use std::test::Fail;
+use union_base::body::{Body, are_subfields};
 use union_base::bytes::Bytes;
 use union_base::subfield::Subfield;
 
@@ -43,8 +45,8 @@ fn headings(rt: HostRuntime) -> Result<(), Fail> {
         if let Some((codes, cells)) = case.split_once(CELL_END) {
             let (_, cells) = cells.split_once(CELL_END).ok_or("a cell that is not read")?;
             let (expected, cells) = cells.split_once(CELL_END).unwrap_or((cells, ""));
-            let subfields = subfields_of(rt.alloc(), cells)?;
-            let made = heading(rt.alloc(), &subfields, codes.as_bytes())
+            let body = body_of(rt.alloc(), cells)?;
+            let made = heading(rt.alloc(), body.subfields(), codes.as_bytes())
                 .ok()
                 .ok_or("memory")?;
             assert_eq!(rt; made.bytes(), expected.as_bytes(), "{cells}");
@@ -63,8 +65,8 @@ fn titles(rt: HostRuntime) -> Result<(), Fail> {
             let (skip, cells) = cells.split_once(CELL_END).ok_or("characters to skip")?;
             let skip = skip.parse::<u8>().ok().ok_or("a number")?;
             let (expected, cells) = cells.split_once(CELL_END).unwrap_or((cells, ""));
-            let subfields = subfields_of(rt.alloc(), cells)?;
-            let made = title(rt.alloc(), &subfields, codes.as_bytes(), skip)
+            let body = body_of(rt.alloc(), cells)?;
+            let made = title(rt.alloc(), body.subfields(), codes.as_bytes(), skip)
                 .ok()
                 .ok_or("memory")?;
             assert_eq!(rt; made.bytes(), expected.as_bytes(), "{cells}");
@@ -75,18 +77,24 @@ fn titles(rt: HostRuntime) -> Result<(), Fail> {
     Ok(())
 }
 
-/// Subfields from cells such as `a=Hill, Ann`.
-fn subfields_of(alloc: Global, cells: &str) -> Result<Vec<Subfield>, Fail>
-    ensures { IfOk result (λ v. All (λ s. IsUtf8 s.text) v.items) }
+/// A field's content from cells such as `a=Hill, Ann`; a control field's where there are none.
+fn body_of(alloc: Global, cells: &str) -> Result<Body, Fail>
+    ensures { IfOk result (λ b. All (λ s. IsUtf8 s.text) (subfields_of b)) }
 {
     let mut subfields = Vec::new(alloc);
     for cell in cells.split(CELL_END) {
-        push_subfield(alloc, &mut subfields, cell)?;
+        push_subfield(&mut subfields, cell)?;
     }
-    Ok(subfields)
+    if subfields.is_empty() {
+        return Ok(Body::control(Bytes::of(alloc, b"")?));
+    }
+    if !are_subfields(&subfields) {
+        return Err("no subfields")?;
+    }
+    Ok(Body::of_subfields(alloc, b' ', b' ', &subfields)?)
 }
 
-fn push_subfield(alloc: Global, subfields: &mut Vec<Subfield>, cell: &str) -> Result<(), Fail>
+fn push_subfield<'a>(subfields: &mut Vec<Subfield<'a>>, cell: &'a str) -> Result<(), Fail>
     requires { All (λ s. IsUtf8 s.text) subfields.old.items }
     ensures { OnOk result (All (λ s. IsUtf8 s.text) subfields.new.items) }
 {
@@ -94,13 +102,9 @@ fn push_subfield(alloc: Global, subfields: &mut Vec<Subfield>, cell: &str) -> Re
         return Ok(());
     };
     let code = *code.as_bytes().first().ok_or("a code")?;
-    let text = bytes_of(alloc, text)?;
-    subfields.push(Subfield { code, text })?;
+    subfields.push(Subfield {
+        code,
+        text: text.as_bytes(),
+    })?;
     Ok(())
-}
-
-fn bytes_of(alloc: Global, text: &str) -> Result<Bytes, Fail>
-    ensures { IfOk result (λ b. IsUtf8 b) }
-{
-    Ok(Bytes::of(alloc, text.as_bytes()).ok().ok_or("memory")?)
 }

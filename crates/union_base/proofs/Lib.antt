@@ -1,2 +1,4 @@
+pub mod ReadingLaws
 pub mod SortedListLaws
 pub mod SortedListMaking
+pub mod SubfieldLaws

@@ -8,9 +8,7 @@ use Rattle.std.specs.FinMap.{IsAntisymmetric}
 use Rattle.std.specs.List.{list_all, flat_map}
 use Rattle.union_base.specs.Fields.{delimiter, is_text_byte, is_text, is_subfield, is_control_tag, fits_tag, is_tag, is_field, spelled_subfield, spelled}
 use Rattle.union_base.specs.FieldOrder.{field_cmp}
-use Rattle.union_base.specs.declared.subfield.Subfield.{Subfield}
-use Rattle.union_base.specs.declared.body.Body.{Body}
-use Rattle.union_base.specs.declared.body.Body.TheVariants.{Control, Data}
+use Rattle.union_base.specs.Bodies.{Subfield, Body, Control, Data}
 use Rattle.union_base.specs.declared.field.Field.{Field}
 use Rattle.union_base.specs.Both.{both_true}
 use Rattle.union_base.specs.Ties.{then_ties, texts_apart}

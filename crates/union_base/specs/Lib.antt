@@ -1,9 +1,12 @@
+pub mod Bodies
+pub mod BodyParts
 pub mod Both
 pub mod FieldLaws
 pub mod FieldOrder
 pub mod Fields
 pub mod IdLaws
 pub mod LibraryCodes
+pub mod Readings
+pub mod ShortTexts
 pub mod SortedLists
-pub mod SpelledBytes
 pub mod Ties

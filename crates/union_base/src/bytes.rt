@@ -1,5 +1,5 @@
 //! An owned byte text.
-ghost use Rattle.std.specs.Prelude.{◌≡◌, IfOk, Some, nat_eq, refl};
+ghost use Rattle.std.specs.Prelude.{◌≡◌, ◌≤◌, IfOk, Some, length, nat_eq, refl};
 ghost use Rattle.std.specs.Ordering.{nat_cmp};
 ghost use Rattle.std.specs.Cmp.Lexicographic.{pointwise, slice_cmp, nat_list_eq_equiv, nat_list_cmp_total, texts_ties, texts_po};
 ghost use Rattle.std.specs.Cmp.{partial_equiv_from_equiv};
@@ -12,10 +12,25 @@ use std::cmp::Ordering;
 use std::hash::{Hash, Hasher};
 use std::marker::Model;
 
-/// An owned byte text, which contracts see as a list of bytes. Texts are ordered as lists, byte by byte.
+/// The longest text that is held in place.
+const LONGEST_SHORT: usize = 30;
+
+/// An owned byte text, which contracts see as a list of bytes. Texts are ordered as lists, byte by byte. One of 30 bytes or
+/// fewer is held in place, and takes no memory of its own.
 #[derive(Debug, Drop)]
 pub struct Bytes {
-    content: Vec<u8>,
+    content: Content,
+}
+
+/// Where the bytes lie.
+#[derive(Debug, Drop)]
+enum Content {
+    /// The first `size` bytes of the buffer.
+    Short {
+        size: u8,
+        buffer: [u8; LONGEST_SHORT],
+    },
+    Long(Vec<u8>),
 }
 
 impl Model for Bytes {
@@ -23,24 +38,52 @@ impl Model for Bytes {
 
     ghost Value = { List ℕ };
 
-    ghost view = { λ b. b.content.items };
+    ghost use Rattle.union_base.specs.ShortTexts.{bytes_of, HasRoom};
+
+    ghost view = { λ b. bytes_of b.content };
+
+    ghost invariant = { λ b. HasRoom b.content };
 }
 
 impl Bytes {
+    ghost use Rattle.union_base.specs.ShortTexts.{longest_short};
+
     /// A copy of the text.
     pub fn of(alloc: Global, text: &[u8]) -> Result<Bytes, Memory>
         ensures { IfOk result (λ b. b ≡ text.now) }
     {
-        Ok(Bytes {
-            content: Vec::from_slice(alloc, text)?,
-        })
+        if text.len() <= LONGEST_SHORT {
+            Ok(Bytes::short(text))
+        } else {
+            Ok(Bytes {
+                content: Content::Long(Vec::from_slice(alloc, text)?),
+            })
+        }
+    }
+
+    /// A copy of the text in place.
+    fn short(text: &[u8]) -> Bytes
+        requires { length text.now ≤ longest_short }
+        ensures { result ≡ text.now }
+    {
+        let mut buffer = [0; LONGEST_SHORT];
+        buffer[..text.len()].copy_from_slice(text);
+        Bytes {
+            content: Content::Short {
+                size: text.len() as u8,
+                buffer,
+            },
+        }
     }
 
     /// The bytes. Takes no memory.
     pub fn bytes(&self) -> &[u8]
         ensures { result.now ≡ self.now }
     {
-        self.content.as_slice()
+        match &self.content {
+            Content::Short { size, buffer } => &buffer[..*size as usize],
+            Content::Long(text) => text.as_slice(),
+        }
     }
 }
 
@@ -54,7 +97,13 @@ impl From<Vec<u8>> for Bytes {
     ghost from_gives = { λ content b. b ≡ content.items };
 
     fn from(content: Vec<u8>) -> Bytes {
-        Bytes { content }
+        if content.len() <= LONGEST_SHORT {
+            Bytes::short(content.as_slice())
+        } else {
+            Bytes {
+                content: Content::Long(content),
+            }
+        }
     }
 }
 

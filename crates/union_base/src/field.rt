@@ -6,7 +6,6 @@ use crate::body::Body;
 use crate::copied::Copied;
 use crate::memory::Memory;
 use crate::sorted_list::Element;
-use crate::spelled::compare_spelled;
 use std::alloc::Global;
 use std::cmp::Ordering;
 
@@ -84,7 +83,7 @@ impl Ord for Field {
 
     fn cmp(&self, other: &Field) -> Ordering {
         match self.tag.cmp(&other.tag) {
-            Ordering::Equal => compare_spelled(&self.body, &other.body),
+            Ordering::Equal => self.body.spelling().cmp(other.body.spelling()),
             unequal => unequal,
         }
     }

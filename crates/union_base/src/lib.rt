@@ -12,7 +12,7 @@ pub mod memory;
 pub mod record_id;
 pub mod sequence;
 pub mod sorted_list;
-pub mod spelled;
 pub mod subfield;
+pub mod subfields;
 #[cfg(test)]
 mod tests;

@@ -1,21 +1,17 @@
 //! One subfield of a data field.
-use crate::bytes::Bytes;
-use crate::copied::Copied;
-use crate::memory::Memory;
-use std::alloc::Global;
+use std::marker::Model;
 
 /// A subfield: its code, the byte behind the delimiter 0x1F, and its text (MARC 21, 'Data elements').
-#[derive(Debug, PartialEq, Eq, PartialOrd, Ord, Drop)]
-pub struct Subfield {
+#[derive(Debug, Drop)]
+pub struct Subfield<'a> {
     pub code: u8,
-    pub text: Bytes,
+    pub text: &'a [u8],
 }
 
-impl Copied for Subfield {
-    fn copied(&self, alloc: Global) -> Result<Subfield, Memory> {
-        Ok(Subfield {
-            code: self.code,
-            text: self.text.copied(alloc)?,
-        })
-    }
+impl<'a> Model for Subfield<'a> {
+    ghost use Rattle.union_base.specs.Bodies.{Subfield as SubfieldValue};
+
+    ghost Value = { SubfieldValue };
+
+    ghost view = { λ s. record { code = s.code; text = s.text.now } };
 }

@@ -1,28 +1,19 @@
 //! What no clause says: orders, codes, fields and unions on tables of worked values.
-use crate::body::{Body, DELIMITER};
+use crate::body::{Body, DELIMITER, are_subfields, is_text};
 use crate::bytes::Bytes;
 use crate::copied::Copied;
 use crate::field::Field;
 use crate::library_code::LibraryCode;
 use crate::record_id::RecordId;
-use crate::sequence::Sequence;
 use crate::sorted_list::SortedList;
-use crate::spelled::Spelled;
 use crate::subfield::Subfield;
 use std::alloc::Global;
 use std::test::Fail;
 
 /// The field whose bytes are spelled so: a control field's text, or two indicators and subfields behind delimiters.
 fn field(alloc: Global, tag: &[u8; 3], spelling: &[u8]) -> Result<Option<Field>, Fail> {
-    let body = match spelling {
-        [ind1, ind2, DELIMITER, rest @ ..] => Body::Data {
-            ind1: *ind1,
-            ind2: *ind2,
-            subfields: Sequence::from(subfields(alloc, rest)?),
-        },
-        text => Body::Control {
-            text: Bytes::of(alloc, text)?,
-        },
+    let Some(body) = body(alloc, spelling)? else {
+        return Ok(None);
     };
     if body.is_field(tag) {
         Ok(Some(Field { tag: *tag, body }))
@@ -31,12 +22,29 @@ fn field(alloc: Global, tag: &[u8; 3], spelling: &[u8]) -> Result<Option<Field>,
     }
 }
 
+/// The content whose bytes are spelled so.
+fn body(alloc: Global, spelling: &[u8]) -> Result<Option<Body>, Fail> {
+    match spelling {
+        [ind1, ind2, DELIMITER, rest @ ..] => data_body(alloc, *ind1, *ind2, rest),
+        text if is_text(text) => Ok(Some(Body::control(Bytes::of(alloc, text)?))),
+        _ => Ok(None),
+    }
+}
+
+fn data_body(alloc: Global, ind1: u8, ind2: u8, rest: &[u8]) -> Result<Option<Body>, Fail> {
+    let subfields = subfields(alloc, rest)?;
+    if !subfields.is_empty() && are_subfields(&subfields) {
+        Ok(Some(Body::of_subfields(alloc, ind1, ind2, &subfields)?))
+    } else {
+        Ok(None)
+    }
+}
+
 /// The subfields whose codes and texts stand between delimiters.
-fn subfields(alloc: Global, spelling: &[u8]) -> Result<Vec<Subfield>, Fail> {
+fn subfields(alloc: Global, spelling: &[u8]) -> Result<Vec<Subfield<'_>>, Fail> {
     let mut all = Vec::new(alloc);
     for part in spelling.split(|b| *b == DELIMITER) {
         if let [code, text @ ..] = part {
-            let text = Bytes::of(alloc, text)?;
             all.push(Subfield { code: *code, text })?;
         }
     }
@@ -83,7 +91,7 @@ fn fields_are_ordered_by_tag_and_then_by_their_bytes(rt: HostRuntime) -> Result<
     let mut before: Option<Field> = None;
     for (tag, spelling) in ascending {
         let next = field(alloc, tag, spelling)?.ok_or("a field")?;
-        assert!(rt; Spelled::of(&next.body).eq(spelling.iter().copied()));
+        assert!(rt; next.body.spelling() == spelling);
         assert!(rt; next.copied(alloc)? == next);
         if let Some(before) = &before {
             assert!(rt; *before < next && next > *before && *before != next);

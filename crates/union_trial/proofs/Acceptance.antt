@@ -10,7 +10,7 @@ use Rattle.iso2709_frame.specs.Frames.{IsWhole}
 use Rattle.iso2709_frame.specs.declared.cut.Cut.TheVariants.{Whole}
 use Rattle.union_base.specs.Both.{true_both}
 use Rattle.union_base.specs.Fields.{is_text_byte, is_text}
-use Rattle.union_base.specs.declared.body.Body.TheVariants.{Control, Data}
+use Rattle.union_base.specs.Bodies.{Control, Data}
 use Rattle.union_base.specs.declared.field.Field.{Field}
 use Rattle.marc_leader.specs.Codes.{is_printable, are_printable}
 use Rattle.marc_leader.specs.Numeral.{numeral}

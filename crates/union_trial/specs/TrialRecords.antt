@@ -4,7 +4,7 @@ use Rattle.iso2709_frame.specs.declared.cut.Cut.TheVariants.{Whole}
 use Rattle.isbn_keys.specs.Isbn.{check_digit}
 use Rattle.marc_leader.specs.Codes.{Codes}
 use Rattle.marc_leader.specs.Numeral.{numeral}
-use Rattle.union_base.specs.declared.body.Body.TheVariants.{Data}
+use Rattle.union_base.specs.Bodies.{Data}
 use Rattle.union_base.specs.declared.field.Field.{Field}
 use Rattle.marc_fields.specs.Spelling.{spelling}
 use Rattle.marc_fields.specs.declared.marc_record.Record.{Record}

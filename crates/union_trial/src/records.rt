@@ -2,7 +2,7 @@
 ghost use Rattle.std.specs.Prelude.{◌≡◌, ◌∷◌, [], IfOk, IsTrue};
 ghost use Rattle.marc_leader.specs.Codes.{is_printable};
 ghost use Rattle.union_base.specs.Fields.{is_field};
-ghost use Rattle.union_base.specs.declared.body.Body.TheVariants.{Control, Data};
+ghost use Rattle.union_base.specs.Bodies.{Control, Data};
 ghost use Rattle.catalogue_export.specs.Exported.{control_field, subfield};
 ghost use Rattle.union_trial.specs.TrialRecords.{codes_of_status, number_field, fixed_field, isbn_field, author_field, title_field, text_field, load_fields, record_of};
 
@@ -45,20 +45,8 @@ fn control_field(alloc: Global, tag: &[u8; 3], text: &[u8]) -> Result<Field, Mem
     let text = Bytes::of(alloc, text)?;
     Ok(Field {
         tag: *tag,
-        body: Body::Control { text },
+        body: Body::control(text),
     })
-}
-
-/// The one subfield $a of that text.
-fn subfields(alloc: Global, text: &[u8]) -> Result<Sequence<Subfield>, Memory>
-    ensures { IfOk result (λ all. all ≡ subfield 0x61 text.now ∷ []) }
-{
-    let mut subfields = Vec::with_capacity(alloc, 1)?;
-    subfields.push(Subfield {
-        code: b'a',
-        text: Bytes::of(alloc, text)?,
-    })?;
-    Ok(Sequence::from(subfields))
 }
 
 /// A data field with these two indicators and that text in $a.
@@ -72,15 +60,9 @@ fn text_field(
     requires { IsTrue (is_field tag.now (Data ind1 ind2 (subfield 0x61 text.now ∷ []))) }
     ensures { IfOk result (λ f. text_field tag.now ind1 ind2 text.now ≡ f ∷ []) }
 {
-    let subfields = subfields(alloc, text)?;
-    Ok(Field {
-        tag: *tag,
-        body: Body::Data {
-            ind1,
-            ind2,
-            subfields,
-        },
-    })
+    let subfields = [Subfield { code: b'a', text }];
+    let body = Body::of_subfields(alloc, ind1, ind2, &subfields)?;
+    Ok(Field { tag: *tag, body })
 }
 
 /// 001, the control number.

@@ -1,15 +1,9 @@
 -- The names and titles of a record's fields, by which its work is known.
-use Rattle.std.specs.Prelude.{ℕ, ◌==◌, ◌&&◌, ◌-◌, if◌then◌else◌, List, [], codes, slice_index, All, IsUtf8}
+use Rattle.std.specs.Prelude.{ℕ, ◌==◌, ◌&&◌, ◌-◌, if◌then◌else◌, List, codes, slice_index, All, IsUtf8}
 use Rattle.std.specs.Char.{is_ascii_digit}
-use Rattle.union_base.specs.declared.subfield.Subfield.{Subfield}
-use Rattle.union_base.specs.declared.body.Body.{Body}
-use Rattle.union_base.specs.declared.body.Body.TheVariants.{Control, Data}
+use Rattle.union_base.specs.Bodies.{Body, Control, Data, subfields_of}
 use Rattle.union_base.specs.declared.field.Field.{Field}
 use Rattle.naco_normal.specs.Heading.{heading_of, title_of}
-
-abbrev pub subfields_of : Body → List Subfield
-subfields_of (Control text) = []
-subfields_of (Data first second subfields) = subfields
 
 abbrev pub first_indicator : Body → ℕ
 first_indicator (Control text) = 0

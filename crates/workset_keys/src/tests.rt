@@ -6,12 +6,11 @@ ghost use Rattle.workset_keys.specs.Names.{HasTexts};
 use crate::work_key::work_key;
 use std::alloc::Global;
 use std::test::Fail;
-use union_base::body::Body;
+use union_base::body::{Body, are_subfields};
 use union_base::bytes::Bytes;
 use union_base::field::Field;
 use union_base::library_code::LibraryCode;
 use union_base::record_id::RecordId;
-use union_base::sequence::Sequence;
 use union_base::subfield::Subfield;
 
 mod cases;
@@ -132,11 +131,10 @@ fn field_of(alloc: Global, cell: &str) -> Result<Field, Fail>
         return no_field();
     };
     let tag = [*first, *second, *third];
-    let body = Body::Data {
-        ind1: *ind1,
-        ind2: *ind2,
-        subfields: Sequence::from(subfields),
-    };
+    if subfields.is_empty() || !are_subfields(&subfields) {
+        return no_field();
+    }
+    let body = Body::of_subfields(alloc, *ind1, *ind2, &subfields)?;
     if body.is_field(&tag) {
         Ok(Field { tag, body })
     } else {
@@ -152,25 +150,27 @@ fn no_field() -> Result<Field, Fail>
 }
 
 /// Subfields from a text such as `aHill$d1900`.
-fn subfields_of(alloc: Global, cells: &str) -> Result<Vec<Subfield>, Fail>
+fn subfields_of(alloc: Global, cells: &str) -> Result<Vec<Subfield<'_>>, Fail>
     ensures { IfOk result (λ v. All (λ s. IsUtf8 s.text) v.items) }
 {
     let mut subfields = Vec::new(alloc);
     for cell in cells.split(DELIMITER) {
-        push_subfield(alloc, &mut subfields, cell)?;
+        push_subfield(&mut subfields, cell)?;
     }
     Ok(subfields)
 }
 
-fn push_subfield(alloc: Global, subfields: &mut Vec<Subfield>, cell: &str) -> Result<(), Fail>
+fn push_subfield<'a>(subfields: &mut Vec<Subfield<'a>>, cell: &'a str) -> Result<(), Fail>
     requires { All (λ s. IsUtf8 s.text) subfields.old.items }
     ensures { OnOk result (All (λ s. IsUtf8 s.text) subfields.new.items) }
 {
     let code = *cell.as_bytes().first().ok_or("a code")?;
     let mut rest = cell.chars();
     let _code = rest.next();
-    let text = bytes_of(alloc, rest.as_str())?;
-    subfields.push(Subfield { code, text })?;
+    subfields.push(Subfield {
+        code,
+        text: rest.as_str().as_bytes(),
+    })?;
     Ok(())
 }
 

@@ -1,6 +1,7 @@
 use Rattle.std.proofs.Common.{◌≡◌, ◌++◌, ◌∷◌, [], sym, ap, ◌∙◌}
 use Rattle.std.specs.Prelude.{Option, Some, filter_map, option_copied}
 use Rattle.std.specs.Option.{option_map}
+use Rattle.field_merge.specs.declared.content.Content.{Content}
 use Rattle.catalogue_core.specs.Homes.{Block}
 use Rattle.catalogue_core.specs.Keeping.{batches}
 use Rattle.catalogue_core.specs.Plans.{base_beside}
@@ -23,5 +24,5 @@ returns c =
       bears = bears;
       are = c.in_ok-left.ensures
           ∙ ap (filter_map (base_beside (batches c.args.history.now ++ c.args.batch.now ∷ []) c.args.homes.now.entries c.args.plan.now.touched.entries c.args.id.now))
-          (c.as_slice-ids.ensures.value ∙ ap (λ (x : Edition). x.content.contributors) same);
+          (c.as_slice-ids.ensures.value ∙ ap (λ (x : Content). x.contributors) c.content.ensures ∙ ap (λ (x : Edition). x.content.contributors) same);
     }

@@ -1,5 +1,6 @@
 use Rattle.std.proofs.Common.{◌&&◌, IsTrue, ◌∙◌, ap}
 use Rattle.std.specs.List.{list_all}
+use Rattle.std.proofs.lemmas.Result.{IfOk-weaker}
 use Rattle.union_base.specs.Both.{true_both}
 use Rattle.union_base.specs.LibraryCodes.{is_library_code}
 use Rattle.marc_leader.specs.Codes.{are_printable}
@@ -12,8 +13,8 @@ use Rattle.catalogue_core.specs.Records.{edition_made}
 use Rattle.catalogue_core.specs.RecordsLaws.{edition-is}
 use Rattle.catalogue_core.proofs.records.edition_of.Goals as goal
 
-pub invariant_of-result : goal.invariant_of-result
-invariant_of-result c =
+pub invariant_of-parts : goal.invariant_of-parts
+invariant_of-parts c =
     let library = c.args.library.now in
     let r = c.args.rec.now in
     let loaded : IsTrue (is_loaded library r) =
@@ -34,4 +35,7 @@ returns-clause-value c =
     true_both (is_library_code library && is_loadable r) (are_printable r.leader && list_all is_short r.fields)
     (true_both (is_library_code library) (is_loadable r) c.bytes-code.ensures.code c.requires.loadable)
     (true_both (are_printable r.leader) (list_all is_short r.fields) c.prints.ensures c.requires.short) in
-    edition-is library r _ loaded (record { features = c.in_ok-features_of.ensures; content = c.in_ok-content_of.ensures })
+    IfOk-weaker c.of.result _ _ (λ _ made. edition-is library r _ loaded (record {
+      features = ap (λ e. e.features) made ∙ c.in_ok-features_of.ensures;
+      content = ap (λ e. e.content) made ∙ c.in_ok-content_of.ensures;
+    })) c.of.ensures

@@ -7,8 +7,8 @@ use Rattle.catalogue_export.proofs.fields.key_field.Goals as goal
 
 pub made_blank-requires : goal.made_blank-requires
 made_blank-requires c =
-    rw (c.in_ok-subfields.ensures, c.front_within.ensures)
+    rw c.front_within.ensures
     (true_both (is_text (front_within longest_key c.args.key.now)) true (is_text-front longest_key c.args.key.now c.requires) refl)
 
 pub returns : goal.returns
-returns c = rw (c.in_ok-subfields.ensures, c.front_within.ensures) at c.made_blank.ensures
+returns c = rw c.front_within.ensures at c.made_blank.ensures

@@ -1,5 +1,12 @@
-use Rattle.catalogue_export.proofs.FieldLaws.{field_of-is}
+use Rattle.std.proofs.Common.{sym, ap, ◌∙◌}
+use Rattle.catalogue_export.specs.Exported.{field_of}
+use Rattle.catalogue_export.proofs.FieldLaws.{field_of-is, are_subfields-data}
 use Rattle.catalogue_export.proofs.fields.made_blank.Goals as goal
 
+pub of_subfields-requires : goal.of_subfields-requires
+of_subfields-requires c =
+    let parts = are_subfields-data c.args.tag.now 0x20 0x20 c.args.subfields.now c.requires in
+    record { some = parts.0; formed = parts.1 }
+
 pub returns : goal.returns
-returns c = field_of-is _
+returns c = ap (field_of c.args.tag.now) (sym c.in_ok-body.ensures) ∙ field_of-is _

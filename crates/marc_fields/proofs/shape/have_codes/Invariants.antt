@@ -1,5 +1,6 @@
 use Rattle.std.proofs.Common.{◌≡◌, true, length}
-use Rattle.marc_fields.specs.Shapes.{are_coded, is_end}
+use Rattle.union_base.specs.Readings.{is_end}
+use Rattle.marc_fields.specs.Shapes.{are_coded}
 use Rattle.marc_fields.proofs.shape.have_codes.Given as goal
 
 -- the rest decides

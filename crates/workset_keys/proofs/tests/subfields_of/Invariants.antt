@@ -1,5 +1,5 @@
 use Rattle.std.proofs.Common.{All, IsUtf8}
-use Rattle.union_base.specs.declared.subfield.Subfield.{Subfield}
+use Rattle.union_base.specs.Bodies.{Subfield}
 use Rattle.workset_keys.proofs.tests.subfields_of.Given as goal
 
 abbrev pub invariant-loop-cell : goal.invariant-loop-cell

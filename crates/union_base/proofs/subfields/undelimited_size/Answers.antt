@@ -1,6 +1,6 @@
 use Rattle.std.proofs.Common.{length, arith}
-use Rattle.marc_fields.proofs.ShapeLaws.{undelimited-take}
-use Rattle.marc_fields.proofs.shape.undelimited_size.Goals as goal
+use Rattle.union_base.proofs.SubfieldLaws.{undelimited-take}
+use Rattle.union_base.proofs.subfields.undelimited_size.Goals as goal
 
 pub returns-in-Some-clause-before : goal.returns-in-Some-clause-before
 returns-in-Some-clause-before c =
