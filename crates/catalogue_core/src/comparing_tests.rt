@@ -249,9 +249,10 @@ fn apply_both<L: Ledger>(
     Ok(found.as_slice() == expected.as_slice() && same_answers(alloc, catalogue, plain, numbers)?)
 }
 
-/// Whether the two answer the same after each of so many drawn batches.
+/// Whether the two answer the same after each of so many batches, drawn from the seed.
 fn agree<L: Ledger>(
     alloc: Global,
+    seed: u64,
     turns: u64,
     numbers: u64,
     keys: u64,
@@ -267,7 +268,7 @@ fn agree<L: Ledger>(
     let mut steps: Steps<L> = Steps::open(blank);
     let mut catalogue = Catalogue::empty(alloc)?;
     let mut plain = PlainCatalogue::empty(alloc)?;
-    let mut draws = Draws { state: numbers };
+    let mut draws = Draws { state: seed };
     for _ in 0..turns {
         let place = draws.below(3);
         let deliveries = [
@@ -294,7 +295,18 @@ fn agree<L: Ledger>(
 fn drawn_batches(rt: HostRuntime) -> Result<(), Fail> {
     // Few records with many keys in common, many with some, and editions of up to 60 contributors.
     for (turns, numbers, keys) in [(60, 4, 6), (60, 20, 60), (40, 20, 2)] {
-        assert!(rt; agree::<Brand>(rt.alloc(), turns, numbers, keys, Blank::new(1))?);
+        assert!(rt; agree::<Brand>(rt.alloc(), 0, turns, numbers, keys, Blank::new(1))?);
+    }
+    Ok(())
+}
+
+#[test]
+fn drawn_histories(rt: HostRuntime) -> Result<(), Fail> {
+    for seed in 0..200 {
+        // From few records with many keys in common to many with some.
+        let numbers = 2 + seed % 10;
+        let keys = 2 + seed % 23;
+        assert!(rt; agree::<Brand>(rt.alloc(), seed, 12, numbers, keys, Blank::new(1))?);
     }
     Ok(())
 }
