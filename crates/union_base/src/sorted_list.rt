@@ -54,6 +54,7 @@ impl<K: Element> SortedList<K> {
         let mut items = list;
         items.sort()?;
         items.dedup();
+        items.shrink_to_fit();
         Ok(SortedList { items })
     }
 
@@ -78,9 +79,9 @@ impl<K: Element> SortedList<K> {
     pub fn union(&self, alloc: Global, other: &SortedList<K>) -> Result<SortedList<K>, Memory>
         ensures { IfOk result (λ s. s ≡ union K.cmp self.now other.now) }
     {
-        Ok(SortedList {
-            items: merged(alloc, self.as_slice(), other.as_slice())?,
-        })
+        let mut items = merged(alloc, self.as_slice(), other.as_slice())?;
+        items.shrink_to_fit();
+        Ok(SortedList { items })
     }
 
     /// Whether some value stands in both lists. Takes no memory.
