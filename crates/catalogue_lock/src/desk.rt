@@ -5,9 +5,11 @@ mod calls;
 mod life;
 mod steps;
 mod turns;
+mod waiting;
 
 use crate::board::Board;
 use crate::machine::Machine;
+use std::sync::atomic::AtomicU64;
 
 /// One machine for many threads, which share it by reference.
 ///
@@ -15,6 +17,8 @@ use crate::machine::Machine;
 #[derive(Drop)]
 pub struct Desk<M: Machine> {
     pub(crate) board: Board<M>,
+    /// How many calls sleep, or are about to, until a turn ends.
+    pub(crate) sleepers: AtomicU64,
     pub ghost sized: { (board.shared.table_id.words ≡ 1) × (board.shared.table_id.slots ≡ 1) },
 }
 

@@ -13,6 +13,7 @@ use crate::root::Root;
 use atomic_table::{Refused, Table};
 use std::alloc::Global;
 use std::snapshot::Snapshot;
+use std::sync::atomic::AtomicU64;
 use union_base::memory::Memory;
 
 impl<M: Machine> Desk<M> {
@@ -33,7 +34,10 @@ impl<M: Machine> Desk<M> {
         slots.push(Some(machine))?;
         match Table::new(alloc, &[0], slots, &about) {
             Ok((board, place)) => Ok((
-                Desk { board },
+                Desk {
+                    board,
+                    sleepers: AtomicU64::new(0),
+                },
                 Root {
                     made: 0,
                     ended: 0,
@@ -92,7 +96,7 @@ impl<M: Machine> Desk<M> {
             ended: _,
             place,
         } = root;
-        let Desk { board } = self;
+        let Desk { board, sleepers: _ } = self;
         let mut closed = board.close_with(place);
         let machine = closed.take(0);
         closed.free();

@@ -7,22 +7,8 @@ use super::{Desk, Turned};
 use crate::board::Place;
 use crate::machine::Machine;
 use std::alloc::Global;
-use std::hint::spin_loop;
 use std::sync::Wait;
-use std::thread::yield_now;
 use union_base::memory::Memory;
-
-/// Tries before a waiting call lets other threads run. A turn is short where no thread stops within it.
-const SPINS: u64 = 16;
-
-/// What a waiting call does after so many tries in vain.
-fn pause(tries: u64) {
-    if tries < SPINS {
-        spin_loop();
-    } else {
-        yield_now();
-    }
-}
 
 impl<M: Machine> Desk<M> {
     /// Takes the turn, and tries again until it has it.
@@ -39,7 +25,7 @@ impl<M: Machine> Desk<M> {
             if loaded % 2 == 0 && self.claim(place, loaded) == loaded {
                 return;
             }
-            pause(tries);
+            self.pause(rt, loaded, tries);
             tries = tries.saturating_add(1);
         }
         unreachable!()
@@ -68,11 +54,13 @@ impl<M: Machine> Desk<M> {
                 let turn = machine.turns();
                 self.put_back(place, machine);
                 self.finish(place);
+                self.wake();
                 Ok(Turned { turn, outcome })
             }
             Err(refused) => {
                 self.put_back(place, machine);
                 self.cancel(place);
+                self.wake();
                 Err(refused)
             }
         }
@@ -98,6 +86,7 @@ impl<M: Machine> Desk<M> {
         let answer = machine.ask(alloc, question);
         self.put_back(place, machine);
         self.cancel(place);
+        self.wake();
         Ok((turns, answer?))
     }
 }
