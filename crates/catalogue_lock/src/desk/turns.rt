@@ -7,8 +7,12 @@ use super::{Desk, Turned};
 use crate::board::Place;
 use crate::machine::Machine;
 use std::alloc::Global;
+use std::hint::spin_loop;
 use std::sync::Wait;
 use union_base::memory::Memory;
+
+/// Looks in vain before a waiting call sleeps. A turn may be shorter than a sleep.
+const SPINS: u64 = 100;
 
 impl<M: Machine> Desk<M> {
     /// Takes the turn, and tries again until it has it.
@@ -19,14 +23,24 @@ impl<M: Machine> Desk<M> {
         ensures waited { Waited place.old.me.0 place.new.me.0 }
         ensures works { (x : M) × Works M.setting M.entries place.new.me x }
     {
-        let mut tries: u64 = 0;
+        let mut looks: u64 = 0;
+        let mut slept = false;
         for _ in rt.forever() {
             let loaded = self.look(place);
             if loaded % 2 == 0 && self.claim(place, loaded) == loaded {
+                if slept {
+                    self.announce();
+                }
                 return;
             }
-            self.pause(rt, loaded, tries);
-            tries = tries.saturating_add(1);
+            if looks < SPINS {
+                spin_loop();
+                looks += 1;
+            } else {
+                self.sleep(rt, place);
+                looks = 0;
+                slept = true;
+            }
         }
         unreachable!()
     }

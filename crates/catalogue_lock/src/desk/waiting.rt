@@ -1,38 +1,49 @@
-//! How a call that did not get the turn waits, and how the end of a turn wakes one that sleeps.
+//! How a call that did not get the turn sleeps, and how the end of a turn wakes one.
 //!
-//! A call counts itself before it sleeps, and sleeps only while the word is the odd one that it expects. The end of a turn
-//! makes the word even first, and then reads the count. So where it reads 0, a call that counts itself later finds another
-//! word, and looks again.
+//! A call that is to sleep first says so, and then looks once more. The end of a turn makes the word even first, and then
+//! reads whether a call said so. So where it reads that none did, the call that says so later finds the turn free, or held
+//! by another pass, whose end of the turn reads it. A call that has slept says so for the others when it gets the turn,
+//! since the end of a turn wakes only one.
+ghost use Rattle.std.specs.Prelude.{◌≡◌};
+ghost use Rattle.catalogue_lock.specs.Steps.{Rests, Waited};
+
 use super::Desk;
+use crate::board::Place;
 use crate::machine::Machine;
-use std::hint::spin_loop;
 use std::sync::Wait;
 use std::sync::atomic::Ordering;
 
-/// Tries in vain before a waiting call sleeps. A turn may be shorter than going to sleep and waking.
-const SPINS: u64 = 16;
+/// No call sleeps, or one was woken and has not had the turn since.
+pub(crate) const NONE: u32 = 0;
 
-/// The bits of the word that a sleep compares. The lowest is among them, so no call sleeps at an even word.
-const COMPARED: u64 = 0xffff_ffff;
+/// A call may sleep.
+const SOME: u32 = 1;
 
 impl<M: Machine> Desk<M> {
-    /// What a call does after so many tries in vain, of which the last found this word, or an even one and lost. It may end
-    /// at any time.
-    pub(crate) fn pause<R: Wait>(&self, rt: &R, loaded: u64, tries: u64) {
-        if tries < SPINS {
-            spin_loop();
-            return;
+    /// Says that a call may sleep.
+    pub(crate) fn announce(&self) {
+        self.sleepers.store(SOME as u64, Ordering::SeqCst);
+    }
+
+    /// Sleeps while the turn is held, until one ends. It may end sooner.
+    pub(crate) fn sleep<R: Wait>(&self, rt: &R, place: &mut Place<M>)
+        requires desk { place.old.table_id ≡ self.now.board.shared.table_id }
+        requires rests { Rests place.old.me }
+        ensures desk { place.new.table_id ≡ place.old.table_id }
+        ensures rests { Rests place.new.me }
+        ensures waited { Waited place.old.me.0 place.new.me.0 }
+    {
+        self.announce();
+        if self.look(place) % 2 == 1 {
+            self.sleepers.park(rt, SOME);
         }
-        let held = ((loaded | 1) & COMPARED) as u32;
-        self.sleepers.fetch_add(1, Ordering::SeqCst);
-        self.board.shared.park(rt, 0, held);
-        self.sleepers.fetch_sub(1, Ordering::SeqCst);
     }
 
     /// Wakes one call that sleeps, if there is one. It follows each end of a turn.
     pub(crate) fn wake(&self) {
-        if self.sleepers.load(Ordering::SeqCst) != 0 {
-            self.board.shared.wake_one(0);
+        if self.sleepers.load(Ordering::SeqCst) != NONE as u64 {
+            self.sleepers.store(NONE as u64, Ordering::SeqCst);
+            self.sleepers.wake_one();
         }
     }
 }
