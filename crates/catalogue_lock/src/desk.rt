@@ -1,15 +1,15 @@
 //! The desk, and what its calls answer.
 ghost use Rattle.std.specs.Prelude.{◌≡◌};
 
+mod bell;
 mod calls;
 mod life;
 mod steps;
 mod turns;
-mod waiting;
 
+use self::bell::Bell;
 use crate::board::Board;
 use crate::machine::Machine;
-use std::sync::atomic::AtomicU64;
 
 /// One machine for many threads, which share it by reference.
 ///
@@ -17,8 +17,7 @@ use std::sync::atomic::AtomicU64;
 #[derive(Drop)]
 pub struct Desk<M: Machine> {
     pub(crate) board: Board<M>,
-    /// How many calls sleep, or are about to, until a turn ends.
-    pub(crate) sleepers: AtomicU64,
+    pub(crate) bell: Bell,
     pub ghost sized: { (board.shared.table_id.words ≡ 1) × (board.shared.table_id.slots ≡ 1) },
 }
 

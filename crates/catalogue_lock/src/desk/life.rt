@@ -6,6 +6,7 @@ ghost use Rattle.catalogue_lock.specs.Views.{root_view, dealt, dealt_pass, gathe
 ghost use Rattle.catalogue_lock.specs.Rule.{EndedOk};
 
 use super::Desk;
+use super::bell::Bell;
 use crate::board::{Deal, Gather};
 use crate::machine::Machine;
 use crate::pass::Pass;
@@ -13,7 +14,6 @@ use crate::root::Root;
 use atomic_table::{Refused, Table};
 use std::alloc::Global;
 use std::snapshot::Snapshot;
-use std::sync::atomic::AtomicU64;
 use union_base::memory::Memory;
 
 impl<M: Machine> Desk<M> {
@@ -36,7 +36,7 @@ impl<M: Machine> Desk<M> {
             Ok((board, place)) => Ok((
                 Desk {
                     board,
-                    sleepers: AtomicU64::new(0),
+                    bell: Bell::new(),
                 },
                 Root {
                     made: 0,
@@ -96,7 +96,7 @@ impl<M: Machine> Desk<M> {
             ended: _,
             place,
         } = root;
-        let Desk { board, sleepers: _ } = self;
+        let Desk { board, bell: _ } = self;
         let mut closed = board.close_with(place);
         let machine = closed.take(0);
         closed.free();

@@ -11,11 +11,11 @@ use std::hint::spin_loop;
 use std::sync::Wait;
 use union_base::memory::Memory;
 
-/// Looks in vain before a waiting call sleeps. A turn may be shorter than a sleep.
-const SPINS: u64 = 100;
+/// Looks in vain before a waiting call sleeps. A turn may be shorter than it takes to sleep and wake.
+const SPINS: u64 = 16;
 
 impl<M: Machine> Desk<M> {
-    /// Takes the turn, and tries again until it has it.
+    /// Takes the turn. It tries again until it has it, and sleeps while another pass has it.
     pub(crate) fn win<R: Wait>(&self, rt: &R, place: &mut Place<M>)
         requires desk { place.old.table_id ≡ self.now.board.shared.table_id }
         requires rests { Rests place.old.me }
@@ -29,7 +29,7 @@ impl<M: Machine> Desk<M> {
             let loaded = self.look(place);
             if loaded % 2 == 0 && self.claim(place, loaded) == loaded {
                 if slept {
-                    self.announce();
+                    self.bell.announce();
                 }
                 return;
             }
@@ -37,12 +37,26 @@ impl<M: Machine> Desk<M> {
                 spin_loop();
                 looks += 1;
             } else {
-                self.sleep(rt, place);
+                self.wait_for_end(rt, place);
                 looks = 0;
                 slept = true;
             }
         }
         unreachable!()
+    }
+
+    /// Sleeps while the turn is held, until it ends. It may end sooner.
+    fn wait_for_end<R: Wait>(&self, rt: &R, place: &mut Place<M>)
+        requires desk { place.old.table_id ≡ self.now.board.shared.table_id }
+        requires rests { Rests place.old.me }
+        ensures desk { place.new.table_id ≡ place.old.table_id }
+        ensures rests { Rests place.new.me }
+        ensures waited { Waited place.old.me.0 place.new.me.0 }
+    {
+        self.bell.announce();
+        if self.look(place) % 2 == 1 {
+            self.bell.sleep(rt);
+        }
     }
 
     /// Applies the change in the turn that the pass holds, and ends the turn.
@@ -68,13 +82,13 @@ impl<M: Machine> Desk<M> {
                 let turn = machine.turns();
                 self.put_back(place, machine);
                 self.finish(place);
-                self.wake();
+                self.bell.ring();
                 Ok(Turned { turn, outcome })
             }
             Err(refused) => {
                 self.put_back(place, machine);
                 self.cancel(place);
-                self.wake();
+                self.bell.ring();
                 Err(refused)
             }
         }
@@ -100,7 +114,7 @@ impl<M: Machine> Desk<M> {
         let answer = machine.ask(alloc, question);
         self.put_back(place, machine);
         self.cancel(place);
-        self.wake();
+        self.bell.ring();
         Ok((turns, answer?))
     }
 }
