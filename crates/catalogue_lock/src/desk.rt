@@ -1,11 +1,13 @@
 //! The desk, and what its calls answer.
 ghost use Rattle.std.specs.Prelude.{◌≡◌};
 
+mod bell;
 mod calls;
 mod life;
 mod steps;
 mod turns;
 
+use self::bell::Bell;
 use crate::board::Board;
 use crate::machine::Machine;
 
@@ -15,6 +17,7 @@ use crate::machine::Machine;
 #[derive(Drop)]
 pub struct Desk<M: Machine> {
     pub(crate) board: Board<M>,
+    pub(crate) bell: Bell,
     pub ghost sized: { (board.shared.table_id.words ≡ 1) × (board.shared.table_id.slots ≡ 1) },
 }
 

@@ -30,7 +30,8 @@
 //!
 //! # The steps
 //!
-//! Eight kinds of step touch the desk, each made by one seat, and no call makes any other.
+//! Eight kinds of step touch word, slot and seats, each made by one seat, and no call makes any other. Beside them a desk
+//! has a bell, by which waiting calls sleep; no step looks at it, and no clause speaks of it.
 //!
 //! | Step | Word | What the seat's view takes |
 //! |---|---|---|
@@ -57,15 +58,15 @@
 //!
 //! So any run of threads is a run of the machine on one thread, over the history.
 //!
-//! Nothing is said of progress, of fairness or of time, nor of the order of two passes' calls beyond the history itself. A
-//! pass that is dropped and not ended stays out for ever, and its desk can't be closed.
+//! Nothing is said of progress, of fairness or of time, nor of the order of two passes' calls beyond the history itself, nor
+//! that a call that sleeps is woken. A pass that is dropped and not ended stays out for ever, and its desk can't be closed.
 //!
 //! # Cost
 //!
 //! A turn or a question takes one load and one compare and exchange for each try, two moves of the machine between the slot
-//! and the caller's stack, and one fetch_add or fetch_sub: keep what is large in a machine behind a `Vec` or a `Box`. A glance
-//! takes one load. Only [`desk::Desk::open`] takes memory, for the word and the slot, and what the machine takes itself.
-//! Waiting calls try again until they win, and let other threads run between two tries.
+//! and the caller's stack, one fetch_add or fetch_sub, and one load of the bell: keep what is large in a machine behind a `Vec`
+//! or a `Box`. A glance takes one load. Only [`desk::Desk::open`] takes memory, for the word and the slot, and what the machine
+//! takes itself. A call that waits looks a few times more, and then sleeps until the end of a turn wakes it.
 #![tactic(auto)]
 
 mod board;

@@ -6,6 +6,7 @@ ghost use Rattle.catalogue_lock.specs.Views.{root_view, dealt, dealt_pass, gathe
 ghost use Rattle.catalogue_lock.specs.Rule.{EndedOk};
 
 use super::Desk;
+use super::bell::Bell;
 use crate::board::{Deal, Gather};
 use crate::machine::Machine;
 use crate::pass::Pass;
@@ -33,7 +34,10 @@ impl<M: Machine> Desk<M> {
         slots.push(Some(machine))?;
         match Table::new(alloc, &[0], slots, &about) {
             Ok((board, place)) => Ok((
-                Desk { board },
+                Desk {
+                    board,
+                    bell: Bell::new(),
+                },
                 Root {
                     made: 0,
                     ended: 0,
@@ -92,7 +96,7 @@ impl<M: Machine> Desk<M> {
             ended: _,
             place,
         } = root;
-        let Desk { board } = self;
+        let Desk { board, bell: _ } = self;
         let mut closed = board.close_with(place);
         let machine = closed.take(0);
         closed.free();

@@ -9,23 +9,13 @@ use crate::machine::Machine;
 use std::alloc::Global;
 use std::hint::spin_loop;
 use std::sync::Wait;
-use std::thread::yield_now;
 use union_base::memory::Memory;
 
-/// Tries before a waiting call lets other threads run. A turn is short where no thread stops within it.
+/// Looks in vain before a waiting call sleeps. A turn may be shorter than it takes to sleep and wake.
 const SPINS: u64 = 16;
 
-/// What a waiting call does after so many tries in vain.
-fn pause(tries: u64) {
-    if tries < SPINS {
-        spin_loop();
-    } else {
-        yield_now();
-    }
-}
-
 impl<M: Machine> Desk<M> {
-    /// Takes the turn, and tries again until it has it.
+    /// Takes the turn. It tries again until it has it, and sleeps while another pass has it.
     pub(crate) fn win<R: Wait>(&self, rt: &R, place: &mut Place<M>)
         requires desk { place.old.table_id ≡ self.now.board.shared.table_id }
         requires rests { Rests place.old.me }
@@ -33,16 +23,40 @@ impl<M: Machine> Desk<M> {
         ensures waited { Waited place.old.me.0 place.new.me.0 }
         ensures works { (x : M) × Works M.setting M.entries place.new.me x }
     {
-        let mut tries: u64 = 0;
+        let mut looks: u64 = 0;
+        let mut slept = false;
         for _ in rt.forever() {
             let loaded = self.look(place);
             if loaded % 2 == 0 && self.claim(place, loaded) == loaded {
+                if slept {
+                    self.bell.announce();
+                }
                 return;
             }
-            pause(tries);
-            tries = tries.saturating_add(1);
+            if looks < SPINS {
+                spin_loop();
+                looks += 1;
+            } else {
+                self.wait_for_end(rt, place);
+                looks = 0;
+                slept = true;
+            }
         }
         unreachable!()
+    }
+
+    /// Sleeps while the turn is held, until it ends. It may end sooner.
+    fn wait_for_end<R: Wait>(&self, rt: &R, place: &mut Place<M>)
+        requires desk { place.old.table_id ≡ self.now.board.shared.table_id }
+        requires rests { Rests place.old.me }
+        ensures desk { place.new.table_id ≡ place.old.table_id }
+        ensures rests { Rests place.new.me }
+        ensures waited { Waited place.old.me.0 place.new.me.0 }
+    {
+        self.bell.announce();
+        if self.look(place) % 2 == 1 {
+            self.bell.sleep(rt);
+        }
     }
 
     /// Applies the change in the turn that the pass holds, and ends the turn.
@@ -68,11 +82,13 @@ impl<M: Machine> Desk<M> {
                 let turn = machine.turns();
                 self.put_back(place, machine);
                 self.finish(place);
+                self.bell.ring();
                 Ok(Turned { turn, outcome })
             }
             Err(refused) => {
                 self.put_back(place, machine);
                 self.cancel(place);
+                self.bell.ring();
                 Err(refused)
             }
         }
@@ -98,6 +114,7 @@ impl<M: Machine> Desk<M> {
         let answer = machine.ask(alloc, question);
         self.put_back(place, machine);
         self.cancel(place);
+        self.bell.ring();
         Ok((turns, answer?))
     }
 }
