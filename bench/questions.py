@@ -84,7 +84,7 @@ def main(program, files):
     words = [f"L{at}={file}" for at, file in enumerate(files, 1)]
     with tempfile.TemporaryDirectory() as work:
         with open(f"{work}/export", "wb") as out:
-            subprocess.run([program, "export", *words], stdout=out, check=False)
+            subprocess.run([program, "export", *words], stdout=out, stderr=subprocess.DEVNULL, check=False)
         asked = drawn(f"{work}/export")
         with open(f"{work}/script", "wb") as out:
             for lines in (loads, *asked.values()):
