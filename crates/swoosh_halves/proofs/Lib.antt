@@ -1,2 +1,2 @@
-mod Seen
 mod Parting
+mod Joining

@@ -1,42 +1,39 @@
 //! Resolving by halves.
 //!
 //! Guarantee: the answer is a resolution of the list. Cost: see the head of the crate.
-ghost use Rattle.std.specs.Prelude.{◌≡◌, ◌<◌, ◌≤◌, ◌++◌, IfOk};
+ghost use Rattle.std.specs.Prelude.{◌≡◌, ◌<◌, ◌≤◌, IfOk};
 ghost use Rattle.std.specs.Thread.{IsSync, IsSend};
-ghost use Rattle.merge_laws.specs.Resolution.{AreApart, IsResolution};
+ghost use Rattle.merge_laws.specs.Resolution.{IsResolution};
 
 use crate::strangers::parted_by_keys;
 use merge_laws::laws::resolution_goes_on;
 use merge_laws::resolvable::Resolvable;
 use merge_laws::steps::Steps;
-use merge_laws::swoosh::resolve_onto;
+use merge_laws::swoosh::resolve_plain;
 use std::marker::Brand;
 use std::sync::ledger::{Blank, Ledger};
 use std::thread::{Threads, join};
 use union_base::memory::Memory;
 
-/// The resolution of values of which no two match, and of more values, with the match tests counted in a ledger of their own.
-fn resolved_by<L: Ledger, R: Resolvable>(
-    apart: Vec<R>,
-    more: Vec<R>,
-    blank: Blank,
-) -> Result<Vec<R>, Memory>
+/// The resolution of the list by the plain resolver, with the match tests counted in a ledger of their own.
+fn resolved_by<L: Ledger, R: Resolvable>(list: Vec<R>, blank: Blank) -> Result<Vec<R>, Memory>
     requires name { blank.name ≡ L.name }
     requires parts { blank.parts ≡ L.parts }
     requires some { 0 < L.parts }
-    requires apart { AreApart R.meets apart.items }
-    ensures { IfOk result (λ all. IsResolution R.meets R.join (apart.items ++ more.items) all.items) }
+    ensures { IfOk result (λ all. IsResolution R.meets R.join list.items all.items) }
 {
     let mut steps: Steps<L> = Steps::open(blank);
-    resolve_onto(apart, more, &mut steps)
+    resolve_plain(list, &mut steps)
 }
 
-/// The resolution of the list: the strangers among its values are not tested against one another.
+/// The resolution of the list: the strangers among its values are tested against none, and the others among themselves.
 fn resolved<R: Resolvable>(list: Vec<R>) -> Result<Vec<R>, Memory>
     ensures { IfOk result (λ all. IsResolution R.meets R.join list.items all.items) }
 {
     let (strangers, others) = parted_by_keys(list)?;
-    resolved_by::<Brand, R>(strangers, others, Blank::new(1))
+    let mut all = strangers;
+    all.append(&mut resolved_by::<Brand, R>(others, Blank::new(1))?)?;
+    Ok(all)
 }
 
 /// The resolution of the list by 1 to 64 workers, in an order that is not fixed. Each half of the list is resolved by half of
