@@ -9,7 +9,7 @@ of another, with a `count` between two kinds; a kind's time is that between the 
 a pipe, so it holds the writing of the answers too. What is printed is, for each kind, how many questions there were, how many
 lines they were answered by, and the questions a second.
 """
-import os, random, subprocess, sys, tempfile, time
+import itertools, os, random, subprocess, sys, tempfile, time
 
 QUESTIONS = 4000
 # A script may have so many bytes.
@@ -58,12 +58,14 @@ def drawn(export):
             for kind, line in askable(record + b"\x1d"):
                 asked[kind].append(line)
     draws = random.Random(1)
-    for kind in KINDS:
-        most, room = QUESTIONS, LARGEST_SCRIPT // len(KINDS) - 4096
-        asked[kind] = [draws.choice(asked[kind]) for _ in range(most)] if asked[kind] else []
-        while sum(len(line) + 1 for line in asked[kind]) > room:
-            asked[kind].pop()
-    return asked
+    return {kind: within(draws.choices(lines, k=QUESTIONS)) if lines else [] for kind, lines in asked.items()}
+
+
+def within(lines):
+    """The longest front of the lines that has room in a kind's part of the script."""
+    room = LARGEST_SCRIPT // len(KINDS) - 4096
+    sizes = itertools.accumulate(len(line) + 1 for line in lines)
+    return [line for line, size in zip(lines, sizes) if size <= room]
 
 
 def marks(program, script):
