@@ -1,12 +1,12 @@
 -- What is read in bytes that spell a content.
-use Rattle.std.proofs.Common.{◌≡◌, ℕ, ◌≤◌, Bool, true, false, not, List, [], ◌∷◌, ◌++◌, length, refl, sym, ap, ◌∙◌, arith}
+use Rattle.std.proofs.Common.{◌≡◌, ℕ, ◌≤◌, Bool, true, false, not, List, [], ◌∷◌, ◌++◌, length, refl, ap, ◌∙◌, arith}
 use Rattle.std.proofs.lemmas.Bool.Decides.{nat_tests}
 use Rattle.std.specs.List.{list_all, flat_map}
 use Rattle.std.specs.Prelude.{◌==◌}
-use Rattle.union_base.specs.Bodies.{Subfield, Body, Control, Data}
+use Rattle.union_base.specs.Bodies.{Subfield, Control, Data}
 use Rattle.union_base.specs.Both.{both_true, true_both}
 use Rattle.union_base.specs.Fields.{delimiter, is_text_byte, is_text, is_subfield_code, is_subfield, spelled_subfield, spelled}
-use Rattle.union_base.specs.Readings.{is_undelimited, is_end, text_in, subfield_of, subfields_in, body_in, IsSpelling}
+use Rattle.union_base.specs.Readings.{is_undelimited, is_end, text_in, subfields_in, body_in}
 
 is_not : (b : Bool) → not b ≡ true → b ≡ false
 is_not true h = cc

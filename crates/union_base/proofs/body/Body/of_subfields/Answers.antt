@@ -1,9 +1,8 @@
-use Rattle.std.proofs.Common.{◌≡◌, ◌∷◌, ◌∙◌, sym, ap, take, length, arith}
-use Rattle.std.specs.List.{flat_map}
+use Rattle.std.proofs.Common.{◌≡◌, ◌∙◌, sym, ap, arith}
 use Rattle.std.proofs.lemmas.List.{take_all}
 use Rattle.union_base.specs.Bodies.{Data}
-use Rattle.union_base.specs.Fields.{spelled, spelled_subfield}
-use Rattle.union_base.specs.Readings.{body_in, IsSpelling}
+use Rattle.union_base.specs.Fields.{spelled}
+use Rattle.union_base.specs.Readings.{body_in}
 use Rattle.union_base.proofs.ReadingLaws.{body_in-data}
 use Rattle.union_base.proofs.body.Body.of_subfields.Goals as goal
 

@@ -1,4 +1,4 @@
-use Rattle.std.proofs.Common.{◌≡◌, ◌∙◌, ◌≤◌, ◌<◌, ◌+◌, ◌-◌, ◌∷◌, sym, ap, take, drop, get_or, length, List, ℕ, arith}
+use Rattle.std.proofs.Common.{◌≡◌, ◌∙◌, ◌-◌, sym, ap, take, drop, length, arith}
 use Rattle.std.proofs.lemmas.List.{take_all, length-drop}
 use Rattle.union_base.specs.Readings.{subfields_in}
 use Rattle.union_base.proofs.SubfieldLaws.{no_single, first_subfield}
