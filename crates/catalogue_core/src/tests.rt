@@ -116,7 +116,7 @@ fn has_key(alloc: Global, edition: &Edition, key: &[u8]) -> Result<bool, Fail> {
 fn is_made_of(content: &Content, records: usize, united: usize, best: &[u8]) -> bool {
     content.contributors.as_slice().len() == records
         && content.united.as_slice().len() == united
-        && content.fixed.rank.control.bytes() == best
+        && content.fixed.rank.parts().control.bytes() == best
 }
 
 /// Whether the three records come to one edition, which is named by the first of them and shows the last.

@@ -1,1 +1,2 @@
 pub mod Postings
+pub mod Rows

@@ -67,10 +67,9 @@ impl<K: Eq + Hash + Drop> Postings<K> {
             ≤ spare_of K.eq self.new k) }
     {
         match self.rows.get_mut(&key) {
-            Some(row) => row.make_room(),
+            Some(row) => row.make_room(alloc),
             None => {
-                let row = Row::with_room(alloc)?;
-                self.rows.insert(key, row)?;
+                self.rows.insert(key, Row::with_room())?;
                 Ok(())
             }
         }

@@ -1,36 +1,59 @@
 //! The numbers under one key.
-ghost use Rattle.std.specs.Prelude.{◌≡◌, ◌+◌, ◌<◌, ◌≤◌, [], IfOk, OnOk, Contains};
+ghost use Rattle.std.specs.Prelude.{◌≡◌, ◌+◌, ◌<◌, ◌≤◌, [], length, vec_capacity, IfOk, OnOk, Contains};
 ghost use Rattle.feature_index.specs.Postings.{Ascends, Gains, Loses};
 
+use crate::places::{self, MOST_IN_PLACE};
 use std::alloc::Global;
 use std::marker::Model;
 use union_base::memory::Memory;
 
-/// Numbers in ascending order, each once, and how many more are sure to find room.
+/// Numbers in ascending order, each once, and how many more are sure to find room. Up to three numbers, with those that are
+/// to find room, are held in place, and take no memory of their own.
 #[derive(Drop)]
 pub(crate) struct Row {
-    numbers: Vec<u64>,
-    spare: usize,
+    numbers: Numbers,
 }
 
+/// Where the numbers lie. The spares are small, so that a row is no larger than a list and a word.
+#[derive(Drop)]
+enum Numbers {
+    /// The numbers at the first `count` places.
+    Few {
+        count: u8,
+        spare: u8,
+        places: [u64; MOST_IN_PLACE],
+    },
+    Many {
+        spare: u32,
+        list: Vec<u64>,
+    },
+}
+
+const _: () = prove!(size_of::<Row>() == 32);
+
 impl Model for Row {
-    ghost use Rattle.std.specs.Prelude.{◌+◌, ◌≤◌, length, vec_capacity};
     ghost use Rattle.feature_index.specs.Postings.{Posting, Ascends};
+    ghost use Rattle.feature_index.specs.Rows.{numbers_in, spare_in, HasRoom};
 
     ghost Value = { Posting };
 
-    ghost view = { λ r. record { numbers = r.numbers.items; spare = r.spare } };
+    ghost view = { λ r. record { numbers = numbers_in r.numbers; spare = spare_in r.numbers } };
 
-    ghost invariant = { λ r. Ascends r.numbers.items × (length r.numbers.items + r.spare ≤ vec_capacity r.numbers) };
+    ghost invariant = { λ r. Ascends (numbers_in r.numbers) × HasRoom r.numbers };
 }
 
 impl Row {
-    /// No numbers, with room for one. Memory where it runs out.
-    pub(crate) fn with_room(alloc: Global) -> Result<Row, Memory>
-        ensures { IfOk result (λ r. r ≡ record { numbers = []; spare = 1 }) }
+    /// No numbers, with room for one. Takes no memory.
+    pub(crate) fn with_room() -> Row
+        ensures { result ≡ record { numbers = []; spare = 1 } }
     {
-        let numbers = Vec::with_capacity(alloc, 1)?;
-        Ok(Row { numbers, spare: 1 })
+        Row {
+            numbers: Numbers::Few {
+                count: 0,
+                spare: 1,
+                places: [0; MOST_IN_PLACE],
+            },
+        }
     }
 
     /// The numbers, in ascending order. Takes no memory.
@@ -38,18 +61,42 @@ impl Row {
         ensures value { result.now ≡ self.now.numbers }
         ensures ascending { Ascends result.now }
     {
-        self.numbers.as_slice()
+        match &self.numbers {
+            Numbers::Few { count, places, .. } => &places[..*count as usize],
+            Numbers::Many { list, .. } => list.as_slice(),
+        }
     }
 
     /// Makes room for one number more. Memory where it runs out, and then all stays.
-    pub(crate) fn make_room(&mut self) -> Result<(), Memory>
+    pub(crate) fn make_room(&mut self, alloc: Global) -> Result<(), Memory>
         ensures numbers { self.new.numbers ≡ self.old.numbers }
         ensures kept { self.old.spare ≤ self.new.spare }
         ensures room { OnOk result (self.new.spare ≡ self.old.spare + 1) }
     {
-        let spare = self.spare.checked_add(1).ok_or(Memory)?;
-        self.numbers.reserve(spare)?;
-        self.spare = spare;
+        match &mut self.numbers {
+            &mut Numbers::Few {
+                count,
+                spare,
+                places,
+            } => {
+                self.numbers = if ((count + spare) as usize) < MOST_IN_PLACE {
+                    Numbers::Few {
+                        count,
+                        spare: spare + 1,
+                        places,
+                    }
+                } else {
+                    let spare = spare as u32 + 1;
+                    let list = with_room_after(alloc, &places[..count as usize], spare)?;
+                    Numbers::Many { spare, list }
+                };
+            }
+            Numbers::Many { spare, list } => {
+                let more = spare.checked_add(1).ok_or(Memory)?;
+                list.reserve(more as usize)?;
+                *spare = more;
+            }
+        }
         Ok(())
     }
 
@@ -60,9 +107,22 @@ impl Row {
         ensures numbers { Gains self.old.numbers self.new.numbers number }
         ensures used { self.new.spare + 1 ≡ self.old.spare }
     {
-        if let Err(place) = self.numbers.as_slice().binary_search(&number) {
-            self.spare -= 1;
-            let _ = self.numbers.insert(place, number);
+        match &mut self.numbers {
+            &mut Numbers::Few {
+                count,
+                spare,
+                places,
+            } => {
+                self.numbers = Numbers::Few {
+                    count: count + 1,
+                    spare: spare - 1,
+                    places: places::put_in(places, count, number),
+                };
+            }
+            Numbers::Many { spare, list } => {
+                put_among(list, number);
+                *spare -= 1;
+            }
         }
     }
 
@@ -72,8 +132,59 @@ impl Row {
         ensures numbers { Loses self.old.numbers self.new.numbers number }
         ensures spare { self.new.spare ≡ self.old.spare }
     {
-        if let Ok(place) = self.numbers.as_slice().binary_search(&number) {
-            self.numbers.remove(place);
+        match &mut self.numbers {
+            &mut Numbers::Few {
+                count,
+                spare,
+                places,
+            } => {
+                self.numbers = Numbers::Few {
+                    count: count - 1,
+                    spare,
+                    places: places::take_out(places, count, number),
+                };
+            }
+            Numbers::Many { list, .. } => take_from(list, number),
         }
+    }
+}
+
+/// A list of the numbers, with room for so many more.
+fn with_room_after(alloc: Global, numbers: &[u64], spare: u32) -> Result<Vec<u64>, Memory>
+    ensures numbers { IfOk result (λ v. v.items ≡ numbers.now) }
+    ensures room { IfOk result (λ v. length v.items + spare ≤ vec_capacity v) }
+{
+    let mut list = Vec::with_capacity(alloc, numbers.len().saturating_add(spare as usize))?;
+    list.extend_from_slice(numbers)?;
+    list.reserve(spare as usize)?;
+    Ok(list)
+}
+
+/// Puts a number into a list that has room. Takes no memory.
+fn put_among(list: &mut Vec<u64>, number: u64)
+    requires room { length list.old.items < vec_capacity list.old }
+    requires ascending { Ascends list.old.items }
+    requires absent { Contains list.old.items number → ⊥ }
+    ensures ascending { Ascends list.new.items }
+    ensures numbers { Gains list.old.items list.new.items number }
+    ensures size { length list.new.items ≡ length list.old.items + 1 }
+    ensures room { vec_capacity list.old ≤ vec_capacity list.new }
+{
+    if let Err(place) = list.as_slice().binary_search(&number) {
+        let _ = list.insert(place, number);
+    }
+}
+
+/// Takes a number that is there from a list.
+fn take_from(list: &mut Vec<u64>, number: u64)
+    requires ascending { Ascends list.old.items }
+    requires present { Contains list.old.items number }
+    ensures ascending { Ascends list.new.items }
+    ensures numbers { Loses list.old.items list.new.items number }
+    ensures size { length list.new.items + 1 ≡ length list.old.items }
+    ensures room { vec_capacity list.new ≡ vec_capacity list.old }
+{
+    if let Ok(place) = list.as_slice().binary_search(&number) {
+        list.remove(place);
     }
 }

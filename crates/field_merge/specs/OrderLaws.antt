@@ -18,7 +18,7 @@ use Rattle.field_merge.specs.declared.rank.Rank.{Rank}
 use Rattle.field_merge.specs.declared.slot.Slot.{Slot}
 use Rattle.field_merge.specs.declared.fixed.Fixed.{Fixed}
 
-rank_total : IsTotalOrder rank_cmp
+pub rank_total : IsTotalOrder rank_cmp
 rank_total = search (comparing, rules)
 
 pub slot_total : IsTotalOrder slot_cmp

@@ -14,7 +14,8 @@ use union_base::sorted_list::SortedList;
 /// The content of an edition: the ids of the records that it is made of, the leader's codes with field 008, the fields of
 /// which it shows one, each with the rank of the record that it comes from, and all other fields.
 ///
-/// There is at least one contributor, and contributors and united fields are in order and without repeats.
+/// There is at least one contributor, and contributors and united fields are in order and without repeats. What comes from one
+/// record shares its rank, and a copy shares the ranks of its source.
 #[derive(Debug, Drop)]
 pub struct Content {
     pub contributors: SortedList<RecordId>,

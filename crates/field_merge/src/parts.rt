@@ -25,7 +25,7 @@ pub struct Parts {
     pub united: Vec<Field>,
 }
 
-/// Copies of the parts of the fields, in slots with a copy of the rank. Memory where it runs out.
+/// Copies of the parts of the fields, in slots that share the rank. Memory where it runs out.
 pub fn parts_of(alloc: Global, rank: &Rank, fields: &[Field]) -> Result<Parts, Memory>
     ensures { IfOk result (λ parts. ArePartsOf rank.now fields.now parts) }
 {

@@ -1,10 +1,17 @@
 //! How good a record is, where records of one edition differ.
-ghost use Rattle.std.specs.Prelude.{◌≡◌, IfOk};
+ghost use Rattle.std.specs.Prelude.{◌≡◌, IfOk, refl};
+ghost use Rattle.std.specs.Ordering.{as_partial_cmp, eq_by_cmp};
+ghost use Rattle.std.specs.Cmp.{eq_by_cmp_equiv, partial_equiv_from_equiv, partial_order_from_total};
+ghost use Rattle.field_merge.specs.Orders.{rank_cmp};
+ghost use Rattle.field_merge.specs.OrderLaws.{rank_total};
 ghost use Rattle.field_merge.specs.Ranks.{class_of, stamp_of, rank};
 
 use marc_fields::marc_record::Record;
 use marc_parts::parts::{control_number, text_under};
 use std::alloc::Global;
+use std::cmp::Ordering;
+use std::marker::Model;
+use std::sync::Arc;
 use union_base::bytes::Bytes;
 use union_base::copied::Copied;
 use union_base::library_code::LibraryCode;
@@ -13,9 +20,9 @@ use union_base::memory::Memory;
 /// How many bytes a stamp has (MARC 21, 005).
 pub const STAMP_SIZE: usize = 16;
 
-/// A record's rank (this project's own), compared by these fields in their order. The greater is the better.
+/// What a rank has (this project's own), compared by these fields in their order. The greater is the better.
 #[derive(Debug, PartialEq, Eq, PartialOrd, Ord, Drop)]
-pub struct Rank {
+pub struct RankParts {
     /// How full the record is by its encoding level, from 9 for a full one down to 0.
     pub class: u8,
     /// When the record was last changed: the text of field 005, or sixteen `0`.
@@ -26,14 +33,95 @@ pub struct Rank {
     pub control: Bytes,
 }
 
-impl Copied for Rank {
-    fn copied(&self, alloc: Global) -> Result<Rank, Memory> {
+/// A record's rank, which contracts see as its parts, and which is compared by them. All owners of a rank share its parts,
+/// which nothing changes once they were made. So the fixed part and the slots of a record have one rank among them, and a
+/// copy is one more owner, which takes no memory.
+#[derive(Debug, Drop)]
+pub struct Rank {
+    parts: Arc<RankParts, Global>,
+}
+
+impl Model for Rank {
+    ghost use Rattle.std.specs.Arc.{arc_value};
+    ghost use Rattle.field_merge.specs.declared.rank.RankParts.{RankParts};
+
+    ghost Value = { RankParts };
+
+    ghost view = { λ rank. arc_value rank.parts };
+}
+
+impl Rank {
+    /// The rank of those parts.
+    ///
+    /// Answers `Memory` where memory ran out.
+    pub fn of(alloc: Global, parts: RankParts) -> Result<Rank, Memory>
+        ensures { IfOk result (λ rank. rank ≡ parts) }
+    {
         Ok(Rank {
-            class: self.class,
-            stamp: self.stamp,
-            library: self.library,
-            control: self.control.copied(alloc)?,
+            parts: Arc::new(alloc, parts)?,
         })
+    }
+
+    /// One more owner of the rank. Takes no memory.
+    ///
+    /// Answers `Memory` where the rank has as many owners as can be counted.
+    pub fn shared(&self) -> Result<Rank, Memory>
+        ensures { IfOk result (λ rank. rank ≡ self.now) }
+    {
+        Ok(Rank {
+            parts: Arc::try_clone(&self.parts)?,
+        })
+    }
+
+    /// What the rank has. Takes no memory.
+    pub fn parts(&self) -> &RankParts
+        ensures { result.now ≡ self.now }
+    {
+        &self.parts
+    }
+}
+
+impl Copied for Rank {
+    fn copied(&self, _alloc: Global) -> Result<Rank, Memory> {
+        self.shared()
+    }
+}
+
+impl PartialEq for Rank {
+    ghost eq = { eq_by_cmp rank_cmp };
+
+    ghost laws = { partial_equiv_from_equiv (eq_by_cmp_equiv rank_total) };
+
+    fn eq(&self, other: &Rank) -> bool {
+        self.cmp(other).is_eq()
+    }
+}
+
+impl Eq for Rank {
+    ghost laws = { eq_by_cmp_equiv rank_total };
+}
+
+impl PartialOrd for Rank {
+    ghost partial_cmp = { as_partial_cmp rank_cmp };
+
+    ghost laws = { partial_order_from_total rank_total };
+
+    fn partial_cmp(&self, other: &Rank) -> Option<Ordering> {
+        Some(self.cmp(other))
+    }
+}
+
+impl Ord for Rank {
+    ghost cmp = { rank_cmp };
+
+    ghost total = { rank_total };
+
+    ghost matches_partial_cmp = { λ x y. refl };
+
+    ghost matches_eq = { λ x y. refl };
+
+    fn cmp(&self, other: &Rank) -> Ordering {
+        self.parts().cmp(other.parts())
     }
 }
 
@@ -41,12 +129,13 @@ impl Copied for Rank {
 pub fn rank_of(alloc: Global, library: &LibraryCode, rec: &Record) -> Result<Rank, Memory>
     ensures { IfOk result (λ r. r ≡ rank library.now rec.now) }
 {
-    Ok(Rank {
+    let parts = RankParts {
         class: class_of(rec.leader.encoding),
         stamp: stamp_of(text_under(b"005", rec.fields.as_slice())),
         library: *library,
         control: Bytes::of(alloc, control_number(rec))?,
-    })
+    };
+    Rank::of(alloc, parts)
 }
 
 /// How full a record of that encoding level is (MARC 21, leader/17), from 9 for a full one down to 0 for a code that says

@@ -167,11 +167,12 @@ fn push_field(text: &mut Vec<u8>, field: &Field) -> Result<(), Fail> {
 }
 
 fn push_rank(text: &mut Vec<u8>, rank: &Rank) -> Result<(), Fail> {
-    text.push(rank.class.saturating_add(b'0'))?;
+    let parts = rank.parts();
+    text.push(parts.class.saturating_add(b'0'))?;
     text.push(b' ')?;
-    text.extend_from_slice(&rank.stamp)?;
+    text.extend_from_slice(&parts.stamp)?;
     text.push(b' ')?;
-    push_id(text, rank.library.bytes(), rank.control.bytes())
+    push_id(text, parts.library.bytes(), parts.control.bytes())
 }
 
 fn push_id(text: &mut Vec<u8>, library: &[u8], control: &[u8]) -> Result<(), Fail> {
