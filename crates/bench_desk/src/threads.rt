@@ -1,5 +1,4 @@
 //! Passes at work on one, two and four threads.
-ghost use Rattle.std.specs.Prelude.{◌≡◌, []};
 ghost use Rattle.std.specs.Thread.{IsSync};
 ghost use Rattle.catalogue_lock.specs.Tokens.{IsPassOf};
 

@@ -3,7 +3,7 @@
 //! A map may want memory for a new key. So new ids are let in first, each with a home that says nothing yet, or none of them
 //! where memory runs out; what follows changes homes that are there, or takes them away, and wants no memory.
 ghost use Rattle.std.specs.Prelude.{◌≡◌, ◌≤◌, length, fold, IfOk, OnOk, OnErr};
-ghost use Rattle.catalogue_core.specs.Homes.{Block, change_at, standing, admitted, moved, housed, housed_all};
+ghost use Rattle.catalogue_core.specs.Homes.{change_at, standing, admitted, moved, housed, housed_all};
 
 use crate::edition::Edition;
 use crate::home::Home;

@@ -4,9 +4,8 @@
 //! Where it runs out the catalogue is as before. Then everything is installed, which wants no memory and is not refused.
 ghost use Rattle.std.specs.Prelude.{◌≡◌, ◌++◌, ◌∷◌, [], IfOk, OnOk, OnErr};
 ghost use Rattle.swoosh_resolver.specs.Tables.{values_of};
-ghost use Rattle.catalogue_core.specs.EditionKeys.{work_pairs, closed_pairs, work_key_of};
+ghost use Rattle.catalogue_core.specs.EditionKeys.{work_pairs, closed_pairs};
 ghost use Rattle.catalogue_core.specs.Histories.{after_batch, current};
-ghost use Rattle.catalogue_core.specs.Ids.{least};
 ghost use Rattle.catalogue_core.specs.Keeping.{batches};
 ghost use Rattle.catalogue_core.specs.Kept.{IsKept};
 ghost use Rattle.catalogue_core.specs.Plans.{IsPlanned};

@@ -3,7 +3,7 @@
 //! Cost: an insertion tests the editions that share a key with the one that comes; a withdrawal tests the other records of its
 //! edition against one another. Looking for the edition of a record goes through what the turn opened, where the turn closed
 //! the block that the record was in.
-ghost use Rattle.std.specs.Prelude.{◌≡◌, ◌≤◌, ◌<◌, ◌+◌, ◌++◌, ◌∷◌, [], ℕ, true, false, None, Some, length, filter_map, slice_get, IfOk, IfSome, IfNone, All, option_copied};
+ghost use Rattle.std.specs.Prelude.{◌≡◌, ◌≤◌, ◌<◌, ◌+◌, ◌++◌, ◌∷◌, [], ℕ, true, false, None, Some, filter_map, slice_get, IfOk, IfSome, IfNone, option_copied};
 ghost use Rattle.std.specs.List.{list_any};
 ghost use Rattle.std.specs.BTreeMap.{is_at, insert_entry};
 ghost use Rattle.std.specs.Map.{remove_entry, values_of};

@@ -1,7 +1,5 @@
 //! What a batch leaves of its loads, and prepared batches beside the same batches as they are.
-ghost use Rattle.std.specs.Prelude.{◌≡◌, ◌<◌, ◌≤◌, length, IfOk, IsTrue};
-ghost use Rattle.std.specs.List.{list_all};
-ghost use Rattle.catalogue_core.specs.Batches.{is_own_op};
+ghost use Rattle.std.specs.Prelude.{◌≡◌, ◌<◌, ◌≤◌, length, IfOk};
 
 use crate::batch::Batch;
 use crate::catalogue::Catalogue;

@@ -4,7 +4,7 @@ ghost use Rattle.union_base.specs.Fields.{is_field, is_text};
 ghost use Rattle.union_base.specs.Bodies.{Control, Data};
 ghost use Rattle.workset_keys.specs.WorkKeys.{own_name};
 ghost use Rattle.catalogue_core.specs.Sound.{is_id};
-ghost use Rattle.catalogue_export.specs.Exported.{field_of, control_field, blank_field, subfield, last_boundary, begins_character, front_within, key_field, contributor_field};
+ghost use Rattle.catalogue_export.specs.Exported.{field_of, control_field, last_boundary, begins_character, front_within, key_field, contributor_field};
 
 use std::alloc::Global;
 use union_base::body::Body;

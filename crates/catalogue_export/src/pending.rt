@@ -1,5 +1,4 @@
 //! A text on its way to an output, in pieces.
-ghost use Rattle.std.specs.Prelude.{◌≡◌, OnOk};
 ghost use Rattle.catalogue_export.specs.Writing.{HasMoved, HasWritten};
 
 use crate::export_fail::ExportFail;

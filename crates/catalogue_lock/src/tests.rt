@@ -1,5 +1,5 @@
 //! A desk over a machine that keeps a list of numbers, refuses scripted changes, and can hold one until a flag is set.
-ghost use Rattle.std.specs.Prelude.{◌≡◌, ℕ, ◌<◌, ◌^◌, [], length, IfOk};
+ghost use Rattle.std.specs.Prelude.{◌≡◌, ◌<◌, [], length, IfOk};
 ghost use Rattle.std.proofs.Common.{arith};
 ghost use Rattle.catalogue_lock.specs.Tokens.{root_of, IsPassOf, IsRootOf};
 

@@ -2,7 +2,7 @@
 //!
 //! Guarantee: the new view is the resolution of the list without the withdrawn value. Cost: as that of `parts::reopen` and
 //! of `Blocks::plan_split`, whatever the number of blocks.
-ghost use Rattle.std.specs.Prelude.{◌≡◌, ◌+◌, ◌*◌, ◌≤◌, List, length, IfOk};
+ghost use Rattle.std.specs.Prelude.{◌+◌, ◌*◌, ◌≤◌, List, length, IfOk};
 ghost use Rattle.merge_laws.specs.Resolution.{IsResolution};
 ghost use Rattle.swoosh_resolver.specs.Changes.{Fits, view_of};
 ghost use Rattle.swoosh_resolver.specs.Splits.{Splits};

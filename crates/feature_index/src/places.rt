@@ -2,7 +2,7 @@
 //!
 //! Guarantee: a number is put in or taken out without taking memory, and the order stays. What the places after the first
 //! ones hold means nothing. Cost: two comparisons at most, and a copy of the places.
-ghost use Rattle.std.specs.Prelude.{◌≡◌, ◌+◌, ◌-◌, ◌<◌, ◌≤◌, take, Contains};
+ghost use Rattle.std.specs.Prelude.{◌+◌, ◌-◌, ◌<◌, ◌≤◌, take, Contains};
 ghost use Rattle.feature_index.specs.Postings.{Ascends, Gains, Loses};
 ghost use Rattle.feature_index.specs.Rows.{most_in_place};
 

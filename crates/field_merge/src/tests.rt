@@ -1,5 +1,4 @@
 //! Contents and merges whose expected values another program made, and classes.
-ghost use Rattle.std.specs.Prelude.{IfOk, IsTrue};
 
 use crate::content::Content;
 use crate::making::content_of;

@@ -1,6 +1,6 @@
 //! Control numbers with their source, by which records meet across libraries, as `pair_key` and `system_key` in
 //! `specs/Control.antt` have them; they are this project's own.
-ghost use Rattle.std.specs.Prelude.{◌≡◌, ◌==◌, false, true, length, drop, bytes_eq, MatchOption, IfOk};
+ghost use Rattle.std.specs.Prelude.{◌≡◌, ◌==◌, false, true, length, drop, MatchOption, IfOk};
 ghost use Rattle.isbn_keys.specs.Control.{has_parenthesis, is_source, is_prefixed, without_prefix, number_of, pair_key, system_key};
 
 use crate::check::all_digits;

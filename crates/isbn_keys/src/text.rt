@@ -1,7 +1,7 @@
 //! Texts of bytes, cut and trimmed. None of it takes memory.
 ghost use Rattle.std.specs.Prelude.{◌≡◌, ◌==◌, ◌-◌, ◌≤◌, true, false, length, MatchOption};
 ghost use Rattle.std.specs.List.{prefix_len, suffix_len, position_or_len, list_any, before_first, after_first};
-ghost use Rattle.isbn_keys.specs.Text.{without_leading, without_trailing, trimmed, ends_number, number_part};
+ghost use Rattle.isbn_keys.specs.Text.{without_leading, trimmed, ends_number, number_part};
 
 /// The one blank that is trimmed.
 pub(crate) const BLANK: u8 = b' ';

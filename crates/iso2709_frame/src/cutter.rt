@@ -1,7 +1,7 @@
 //! The cutter, which is fed a stream in pieces.
 ghost use Rattle.std.specs.Prelude.{◌≡◌, ◌≢◌, ℕ, ◌<◌, ◌≤◌, false, ◌||◌, nat_lt, if◌then◌else◌, List, [], ◌++◌, length, drop, Some, None, is_some, vec_len, vec_capacity, IfOk, IfSome};
 ghost use Rattle.std.specs.List.{list_any};
-ghost use Rattle.iso2709_frame.specs.Frames.{frames, first_piece, skip_breaks, is_terminator, is_break, IsWhole};
+ghost use Rattle.iso2709_frame.specs.Frames.{frames, first_piece, skip_breaks, is_terminator, IsWhole};
 ghost use Rattle.iso2709_frame.specs.Cutting.{told, fresh, too_long};
 ghost use Rattle.iso2709_frame.specs.Phases.{settled_of, pending_of, IsGathered};
 

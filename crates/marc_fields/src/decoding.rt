@@ -1,5 +1,5 @@
 //! Frames read as records.
-ghost use Rattle.std.specs.Prelude.{◌≡◌, ◌+◌, ◌-◌, ◌*◌, ◌≤◌, IsTrue, ◌↔◌, true, length, take, drop, None, map};
+ghost use Rattle.std.specs.Prelude.{◌≡◌, ◌+◌, ◌-◌, ◌*◌, ◌≤◌, IsTrue, ◌↔◌, true, length, take, drop, None};
 ghost use Rattle.std.specs.List.{list_all};
 ghost use Rattle.marc_fields.specs.Directories.{is_formed, AreDecoded};
 ghost use Rattle.marc_fields.specs.Fronts.{IsFront};

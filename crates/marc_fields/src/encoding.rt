@@ -1,8 +1,8 @@
 //! Records written as frames.
-ghost use Rattle.std.specs.Prelude.{◌≡◌, ◌+◌, ◌*◌, ◌++◌, ◌∷◌, [], ◌≤◌, min, length, OnOk, OnErr, IfErr, Some, None, if◌then◌else◌, nat_le, IsTrue};
+ghost use Rattle.std.specs.Prelude.{◌≡◌, ◌+◌, ◌*◌, ◌++◌, ◌≤◌, min, length, OnOk, OnErr, IfErr, Some, None, if◌then◌else◌, nat_le, IsTrue};
 ghost use Rattle.std.specs.List.{list_all, flat_map};
 ghost use Rattle.marc_leader.specs.Codes.{are_printable};
-ghost use Rattle.union_base.specs.Fields.{spelled, field_terminator};
+ghost use Rattle.union_base.specs.Fields.{spelled};
 ghost use Rattle.marc_fields.specs.Spelling.{stored, is_short, longest_frame, entry_bytes, entries_from, leader_bytes, frame_size, spelling, Spells};
 ghost use Rattle.marc_fields.specs.Appending.{Appends, too_long, IsCause};
 

@@ -1,9 +1,9 @@
 //! The fields of a frame whose entries partition the data, looked at rule by rule.
-ghost use Rattle.std.specs.Prelude.{⊤, ◌≡◌, ◌≤◌, ℕ, true, List, IsTrue, IfOk, length, None};
+ghost use Rattle.std.specs.Prelude.{⊤, ◌≡◌, ◌≤◌, true, IfOk, length, None};
 ghost use Rattle.std.specs.List.{list_all};
 ghost use Rattle.marc_leader.specs.declared.entry.Entry.{Entry};
 ghost use Rattle.marc_fields.specs.Directories.{is_formed};
-ghost use Rattle.marc_fields.specs.Rows.{Answers, fails, least_where_not};
+ghost use Rattle.marc_fields.specs.Rows.{Answers, least_where_not};
 ghost use Rattle.marc_fields.specs.Rules.{is_tile, text_of, is_control_shaped, is_data_shaped, shape_failure};
 ghost use Rattle.marc_fields.specs.Shapes.{ends_no_record};
 ghost use Rattle.marc_fields.specs.Spelling.{AreEntriesOf};

@@ -1,10 +1,10 @@
 //! The rule that the entries' ranges partition the data, each a field with its terminator. Ranges that lie one behind the
 //! other in the order of the directory, as they do in nearly all frames, partition it without more. Else each byte of the
 //! data is marked as it finds its entry, and the first entry that meets a mark is refused. The work is linear in the data.
-ghost use Rattle.std.specs.Prelude.{⊤, ◌≡◌, ◌+◌, ◌≤◌, ℕ, ◌||◌, ◌&&◌, [], not, false, nat_le, nat_lt, List, length, take, drop, Some, None, slice_index_or};
+ghost use Rattle.std.specs.Prelude.{⊤, ◌≡◌, ◌+◌, ◌≤◌, ℕ, ◌||◌, ◌&&◌, [], not, false, nat_le, nat_lt, length, take, drop, Some, None, slice_index_or};
 ghost use Rattle.std.specs.List.{list_any, list_all};
 ghost use Rattle.marc_fields.specs.Rows.{Answers};
-ghost use Rattle.marc_fields.specs.Rules.{is_tile, is_owned, tiling_from, tiling_failure, covering};
+ghost use Rattle.marc_fields.specs.Rules.{is_tile, tiling_from, tiling_failure};
 ghost use Rattle.marc_fields.specs.Tilings.{AreOwners, is_marked, lie_in_order};
 
 use crate::decoding::DecodeRefusal;

@@ -1,5 +1,5 @@
 //! The first rule that a frame breaks, or its record, or its status alone.
-ghost use Rattle.std.specs.Prelude.{⊤, ◌≡◌, ◌*◌, ◌≤◌, true, length, None, Option, IfOk};
+ghost use Rattle.std.specs.Prelude.{◌≡◌, ◌*◌, ◌≤◌, true, length, None, Option, IfOk};
 ghost use Rattle.std.specs.List.{list_all};
 ghost use Rattle.iso2709_frame.specs.Frames.{IsWhole};
 ghost use Rattle.marc_fields.specs.Fronts.{IsFront};

@@ -1,5 +1,5 @@
 //! The rules on which fields stand, and how often.
-ghost use Rattle.std.specs.Prelude.{⊤, ◌≡◌, ◌+◌, ◌<◌, ◌≤◌, ◌∷◌, [], ℕ, Bool, nat_eq, true, length, List, MatchResult, Some};
+ghost use Rattle.std.specs.Prelude.{⊤, ◌≡◌, ◌+◌, ◌<◌, ◌≤◌, ◌∷◌, [], ℕ, Bool, true, length, MatchResult, Some};
 ghost use Rattle.std.specs.List.{list_all};
 ghost use Rattle.marc_fields.specs.Rows.{Answers};
 ghost use Rattle.marc_fields.specs.Rules.{is_tile};

@@ -3,8 +3,7 @@ ghost use Rattle.std.specs.Prelude.{◌≡◌, ◌++◌, ◌∷◌, IsTrue, IfOk
 ghost use Rattle.std.specs.Option.{option_to_list};
 ghost use Rattle.std.specs.Char.{is_ascii_digit};
 ghost use Rattle.std.specs.List.{list_all};
-ghost use Rattle.marc_parts.specs.Loads.{is_loadable, is_utf8_field};
-ghost use Rattle.workset_keys.specs.Names.{HasTexts};
+ghost use Rattle.marc_parts.specs.Loads.{is_loadable};
 ghost use Rattle.union_base.specs.SortedLists.{set_of};
 ghost use Rattle.match_features.specs.Kept.{has_some, pairs_cmp, texts_cmp};
 ghost use Rattle.match_features.specs.Gathering.{own_pair, assigned_pair, types_of, date_in, features};

@@ -3,7 +3,7 @@
 //!
 //! Guarantee: the laws of both traits, by specs/SmallSets.antt. Cost: a set is one word, and no call takes memory but
 //! `index_keys`.
-ghost use Rattle.std.specs.Prelude.{◌≡◌, ◌≢◌, ◌+◌, ◌-◌, ◌<◌, ◌↔◌, ℕ, IfOk, IfSome, IsNone, Contains, AllPairs};
+ghost use Rattle.std.specs.Prelude.{◌≡◌, ◌+◌, ◌-◌, ◌<◌, ◌↔◌, ℕ, IfSome, IsNone};
 ghost use Rattle.merge_laws.specs.SmallSets.{HasNumber, union, meet, union_laws, meet_laws, number_laws, numbers_exact};
 
 use crate::join::Join;

@@ -3,7 +3,7 @@
 //! Guarantee: what it answers is a resolution of its list (specs/Resolution.antt). Cost: at most k * k match tests and
 //! fewer than k merges for k values; values are moved and never copied. Values that are known not to match, as those of an
 //! earlier resolution, are tested against more values alone.
-ghost use Rattle.std.specs.Prelude.{◌≡◌, ℕ, ◌+◌, ◌*◌, ◌<◌, ◌≤◌, ◌++◌, false, IsTrue, length, slice_index_or, IfOk, IfSome, IfNone, All};
+ghost use Rattle.std.specs.Prelude.{◌≡◌, ◌+◌, ◌*◌, ◌<◌, ◌≤◌, ◌++◌, false, IsTrue, length, slice_index_or, IfOk, IfSome, IfNone, All};
 ghost use Rattle.merge_laws.specs.Resolution.{AreApart, IsResolution};
 
 use crate::resolvable::Resolvable;

@@ -1,7 +1,6 @@
 //! The heading and the title that a field's subfields make: the forms of their texts, joined by one blank, as
 //! `heading_of` and `title_of` in `specs/Heading.antt` have them.
-ghost use Rattle.std.specs.Prelude.{◌≡◌, ◌==◌, ◌||◌, ℕ, false, All, IsUtf8, chars, IfOk, OnOk};
-ghost use Rattle.std.specs.List.{list_any};
+ghost use Rattle.std.specs.Prelude.{◌≡◌, ◌==◌, ◌||◌, false, All, IsUtf8, chars, IfOk, OnOk};
 ghost use Rattle.naco_normal.specs.Heading.{heading_of, title_of, skipped};
 ghost use Rattle.naco_normal.specs.Parts.{first_form, subfield_form, parts_of};
 ghost use Rattle.naco_normal.specs.Words.{joined};

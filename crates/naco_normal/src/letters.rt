@@ -4,7 +4,7 @@ ghost use Rattle.std.specs.List.{list_any};
 ghost use Rattle.unicode.specs.CaseFolding.{full_fold};
 ghost use Rattle.unicode_normalization.specs.Forms.{nfkd};
 ghost use Rattle.caseless.specs.Caseless.{default_case_fold};
-ghost use Rattle.naco_normal.specs.Normal.{comma_sign, is_deleted, plain_letters, is_letter_or_number, is_kept, folded, letters, with_plain_letters, without_deleted, spaced};
+ghost use Rattle.naco_normal.specs.Normal.{is_deleted, plain_letters, is_letter_or_number, is_kept, folded, letters, with_plain_letters, without_deleted, spaced};
 ghost use Rattle.naco_normal.specs.Shown.{is_shown};
 ghost use Rattle.naco_normal.specs.Words.{joined};
 

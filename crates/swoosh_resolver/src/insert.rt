@@ -1,10 +1,9 @@
 //! The insertion of a value.
-ghost use Rattle.std.specs.Prelude.{◌≡◌, ◌+◌, ◌<◌, ◌≤◌, ◌↔◌, ◌++◌, ℕ, [], ◌∷◌, Some, false, IsTrue, is_some, if◌then◌else◌};
-ghost use Rattle.std.specs.Prelude.{IfOk, IfSome, IfNone, OnOk, All, List, Contains, length, slice_index_or, count_by};
+ghost use Rattle.std.specs.Prelude.{◌≡◌, ◌+◌, ◌<◌, ◌≤◌, ◌++◌, [], ◌∷◌, Some, false, is_some, if◌then◌else◌};
+ghost use Rattle.std.specs.Prelude.{IfOk, IfSome, IfNone, OnOk, All, List, Contains, count_by};
 ghost use Rattle.merge_laws.specs.Resolution.{IsResolution, IsDominated};
 ghost use Rattle.merge_laws.specs.Reach.{near, reach};
-ghost use Rattle.feature_index.specs.Postings.{Ascends};
-ghost use Rattle.swoosh_resolver.specs.Tables.{Entry, block_at, blocks_in};
+ghost use Rattle.swoosh_resolver.specs.Tables.{block_at, blocks_in};
 ghost use Rattle.swoosh_resolver.specs.Changes.{without, view_of, Fits};
 ghost use Rattle.swoosh_resolver.specs.Insertions.{passes, IsMatchAt, Merges, Inserts};
 

@@ -1,9 +1,9 @@
 //! Changes take effect.
-ghost use Rattle.std.specs.Prelude.{◌≡◌, ◌≢◌, ◌+◌, ◌-◌, ◌^◌, ◌<◌, ◌≤◌, ◌↔◌, ◌⊎◌, ◌++◌, ◌∷◌, [], ℕ, Some, None, IsSome, IfOk};
-ghost use Rattle.std.specs.Prelude.{OnOk, AllPairs, Contains, length, slice_index, slice_index_or, slice_set, vec_capacity};
-ghost use Rattle.std.specs.Prelude.{vec_len, if◌then◌else◌, nat_lt, count_by};
+ghost use Rattle.std.specs.Prelude.{◌≡◌, ◌≢◌, ◌+◌, ◌-◌, ◌^◌, ◌<◌, ◌≤◌, ◌⊎◌, ◌++◌, ℕ, Some, None, IsSome, IfOk};
+ghost use Rattle.std.specs.Prelude.{OnOk, AllPairs, Contains, length, slice_set, vec_capacity};
+ghost use Rattle.std.specs.Prelude.{count_by};
 ghost use Rattle.std.specs.List.Sorted.{IsPermutation};
-ghost use Rattle.feature_index.specs.Postings.{numbers_of, spare_of};
+ghost use Rattle.feature_index.specs.Postings.{spare_of};
 ghost use Rattle.swoosh_resolver.specs.Tables.{Entry, ArePosted, block_at, blocks_in, put, values_of};
 ghost use Rattle.swoosh_resolver.specs.Changes.{AreNumbers, AreOpened, Fits, HasRoom, keys_in, number_at, view_of, without};
 

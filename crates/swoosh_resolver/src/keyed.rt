@@ -1,12 +1,10 @@
 //! Values with their index keys.
-ghost use Rattle.std.specs.Prelude.{◌≡◌, ◌+◌, ◌≤◌, if◌then◌else◌, IfOk};
+ghost use Rattle.std.specs.Prelude.{◌≡◌, IfOk};
 ghost use Rattle.swoosh_resolver.specs.Tables.{AreKeys};
 
 use merge_laws::resolvable::Resolvable;
-use merge_laws::steps::Steps;
 use std::alloc::Global;
 use std::marker::Model;
-use std::sync::ledger::Ledger;
 use union_base::memory::Memory;
 
 /// A value, and its index keys, each once.

@@ -2,7 +2,6 @@
 ghost use Rattle.std.specs.Prelude.{◌≡◌, ◌∷◌, ◌++◌, IsSome, IfOk, IfSome, OnOk, option_copied, option_map};
 ghost use Rattle.std.specs.List.Sorted.{IsPermutation};
 ghost use Rattle.merge_laws.specs.Resolution.{AreApart};
-ghost use Rattle.swoosh_resolver.specs.Tables.{Entry};
 ghost use Rattle.swoosh_resolver.specs.Changes.{Fits, view_of};
 ghost use Rattle.swoosh_resolver.specs.Splits.{Splits, member_at, others_of, opened_after, closed_after, Opens};
 

@@ -1,7 +1,7 @@
 //! What holds of every sorted list: the union makes a set of two, and a common value stays one.
 //!
 //! Each function here does nothing when it runs: its contract is the law.
-ghost use Rattle.std.specs.Prelude.{◌≡◌, ◌∷◌, ◌||◌, true, List, IsTrue};
+ghost use Rattle.std.specs.Prelude.{◌≡◌, ◌∷◌, ◌||◌, List, IsTrue};
 ghost use Rattle.union_base.specs.SortedLists.{is_ascending, union, have_common};
 
 use crate::sorted_list::Element;

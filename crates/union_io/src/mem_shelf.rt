@@ -1,5 +1,5 @@
 //! A shelf in memory, whose opens and reads fail where its scripts say so.
-ghost use Rattle.std.specs.Prelude.{◌≡◌, ◌≢◌, ◌<◌, ◌≤◌, ◌↔◌, ℕ, List, [], Some, None, false, IsTrue, IsErrOf, IfOk, OnOk, OnErr, IsSomeAnd, MatchOption};
+ghost use Rattle.std.specs.Prelude.{◌≡◌, ◌≢◌, ◌<◌, ◌≤◌, ℕ, List, [], Some, None, false, IsTrue, IsErrOf, IfOk, OnOk, OnErr, IsSomeAnd, MatchOption};
 ghost use Rattle.union_io.specs.Counts.{SameCounts, SameElsewhere};
 ghost use Rattle.union_io.specs.Files.{told_of};
 ghost use Rattle.union_io.specs.Names.{AddsName};

@@ -1,5 +1,5 @@
 //! A reader, as an opened file, as a source. Each read is one read of the reader, straight into the caller's buffer.
-ghost use Rattle.std.specs.Prelude.{◌≡◌, ◌<◌, None, List, ℕ, length};
+ghost use Rattle.std.specs.Prelude.{◌≡◌, ◌<◌, None, length};
 ghost use Rattle.std.specs.Io.{ReadsAtMost};
 ghost use Rattle.std.specs.Io.KnownBytes.{ReadConsumes};
 ghost use Rattle.union_io.specs.Causes.{HasCause};

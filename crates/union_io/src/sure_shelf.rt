@@ -1,5 +1,5 @@
 //! A shelf in memory of which nothing fails.
-ghost use Rattle.std.specs.Prelude.{◌≡◌, ◌≢◌, ◌<◌, ℕ, List, [], Some, IsErrOf, IfOk, IfSome, OnOk, OnErr, MatchOption};
+ghost use Rattle.std.specs.Prelude.{◌≡◌, ◌≢◌, ◌<◌, ℕ, List, [], Some, IfOk, IfSome, OnOk, OnErr, MatchOption};
 ghost use Rattle.union_io.specs.Files.{told_of};
 ghost use Rattle.union_io.specs.Opening.{ListsOpen};
 ghost use Rattle.union_io.specs.Opened.{names_in};

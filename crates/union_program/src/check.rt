@@ -2,7 +2,7 @@
 //!
 //! No record is made, and none is kept. The source is read piece by piece to its end before anything is written; memory
 //! grows with the number of refused frames alone.
-ghost use Rattle.std.specs.Prelude.{◌≡◌, ◌++◌, ◌<◌, ◌≤◌, ◌+◌, ℕ, List, length, IsTrue, IfOk, OnOk};
+ghost use Rattle.std.specs.Prelude.{◌≡◌, ◌++◌, ◌<◌, ◌+◌, List, length, IsTrue, IfOk, OnOk};
 ghost use Rattle.iso2709_frame.specs.Frames.{frames};
 ghost use Rattle.union_program.specs.Readings.{Reads};
 ghost use Rattle.union_reports.specs.Reports.{check_line, check_text};

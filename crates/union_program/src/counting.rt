@@ -1,5 +1,5 @@
 //! The counting of a stream's frames.
-ghost use Rattle.std.specs.Prelude.{◌≡◌, ◌<◌, ◌≤◌, ◌+◌, ◌++◌, ◌∷◌, [], List, None, Some, OnOk};
+ghost use Rattle.std.specs.Prelude.{◌≡◌, ◌<◌, ◌+◌, ◌++◌, ◌∷◌, [], List, None, Some, OnOk};
 ghost use Rattle.iso2709_frame.specs.Frames.{IsWhole};
 ghost use Rattle.marc_rules.specs.NineteenRules.{status_of};
 ghost use Rattle.library_batches.specs.Streams.{Frame, failure_of};

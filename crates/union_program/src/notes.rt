@@ -1,5 +1,5 @@
 //! The one line of a run that ended early.
-ghost use Rattle.std.specs.Prelude.{◌≡◌, ◌++◌, OnOk, OnErr};
+ghost use Rattle.std.specs.Prelude.{◌++◌, OnOk, OnErr};
 ghost use Rattle.std.specs.Io.KnownBytes.{Appends};
 ghost use Rattle.union_io.specs.Causes.{HasCause};
 ghost use Rattle.union_io.specs.Writing.{AppendsFront};

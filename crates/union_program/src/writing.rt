@@ -1,8 +1,8 @@
 //! The writing of what libraries came to: of the catalogue's editions on `out`, and of the reports on `notes` behind it.
-ghost use Rattle.std.specs.Prelude.{◌≡◌, ◌++◌, IfOk, IsTrue};
+ghost use Rattle.std.specs.Prelude.{◌≡◌, ◌++◌, IfOk};
 ghost use Rattle.std.specs.List.{flat_map};
 ghost use Rattle.union_reports.specs.Reports.{left_line};
-ghost use Rattle.union_words.specs.Statuses.{end_by, is_done};
+ghost use Rattle.union_words.specs.Statuses.{end_by};
 ghost use Rattle.union_program.specs.Runs.{exported, listed, showing_of, IsReported, Shows};
 
 use crate::notes::put_early;

@@ -1,7 +1,7 @@
 //! The lines that tell of a library's frames.
 //!
 //! Each function adds its text behind what stands in a buffer. The texts are those of specs/Reports.antt.
-ghost use Rattle.std.specs.Prelude.{◌≡◌, ◌++◌, ℕ, List, OnOk, codes};
+ghost use Rattle.std.specs.Prelude.{◌≡◌, ◌++◌, OnOk};
 ghost use Rattle.union_reports.specs.Reports.{rule_name, counted, refused_line, refused_lines};
 
 use itoa::Buffer;

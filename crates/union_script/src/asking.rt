@@ -1,6 +1,5 @@
 //! A line of a script that asks something of the catalogue.
 ghost use Rattle.std.specs.Prelude.{◌∷◌, [], IfOk};
-ghost use Rattle.catalogue_query.specs.declared.query.Query.{Query as QueryModel};
 ghost use Rattle.union_words.specs.Flows.{ShelfFlow, IsCalm};
 ghost use Rattle.union_words.specs.ScriptLines.{Ask as AskLine};
 ghost use Rattle.union_script.specs.Lines.{LinesRun};

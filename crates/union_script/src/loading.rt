@@ -1,10 +1,9 @@
 //! The loading of a library's file: its batches are applied to the catalogue, and its report is made.
-ghost use Rattle.std.specs.Prelude.{◌≡◌, ◌≤◌, ◌++◌, ℕ, List, OnOk};
+ghost use Rattle.std.specs.Prelude.{◌≡◌};
 ghost use Rattle.iso2709_frame.specs.Frames.{frames};
 ghost use Rattle.library_batches.specs.Reading.{begun};
 ghost use Rattle.library_stream.specs.declared.frame_reader.TheConstants.{LARGEST_SOURCE};
 ghost use Rattle.union_words.specs.Meanings.{file_meaning};
-ghost use Rattle.union_words.specs.Words;
 ghost use Rattle.union_script.specs.Batches.{AreApplied, IsLoaded};
 ghost use Rattle.union_script.specs.Readings.{Reads, ReadsFile};
 

@@ -1,9 +1,9 @@
 //! The passes that ask: one beside the sessions, and one when these have ended.
-ghost use Rattle.std.specs.Prelude.{◌≡◌, ◌+◌, ◌<◌, ◌≤◌, ◌++◌, ◌∷◌, [], length, IfOk};
+ghost use Rattle.std.specs.Prelude.{◌≡◌, ◌+◌, ◌<◌, ◌++◌, ◌∷◌, [], IfOk};
 ghost use Rattle.catalogue_core.specs.declared.batch.Batch.{Batch};
 ghost use Rattle.catalogue_lock.specs.Ended.{Ended};
 ghost use Rattle.catalogue_lock.specs.Tokens.{root_of, view, IsPassOf, IsRootOf};
-ghost use Rattle.load_sessions.specs.Askers.{Asks, IsAsker};
+ghost use Rattle.load_sessions.specs.Askers.{IsAsker};
 ghost use Rattle.union_sessions.specs.Replies.{HasAsked, left_by};
 ghost use Rattle.union_sessions.specs.Sessions.{HasEnded};
 

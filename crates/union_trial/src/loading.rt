@@ -1,5 +1,5 @@
 //! The loading of a library's stream.
-ghost use Rattle.std.specs.Prelude.{◌≡◌, ◌++◌, ◌∷◌, [], ◌<◌, ◌≤◌, IfOk, IsTrue, OnOk};
+ghost use Rattle.std.specs.Prelude.{◌≡◌, [], ◌<◌, ◌≤◌, IfOk, OnOk};
 ghost use Rattle.union_trial.specs.Blocks.{IsBlockOf};
 ghost use Rattle.union_trial.specs.Streams.{library_code, Loads, still_drawn, AreLoaded};
 

@@ -2,7 +2,6 @@
 ghost use Rattle.std.specs.Prelude.{◌≡◌, ◌++◌, ◌∷◌, [], map, IfOk, OnOk};
 ghost use Rattle.std.specs.List.{list_any};
 ghost use Rattle.std.specs.Result.{is_err};
-ghost use Rattle.union_words.specs.Lines.{lines_of, kept};
 ghost use Rattle.union_watch.specs.AskLines.{line_meaning, read_line, question_of, lines_in, questions_in};
 
 use crate::ask_line::AskLine;

@@ -1,7 +1,7 @@
 //! The lines of the text.
 //!
 //! Each function adds its text behind what stands in a buffer.
-ghost use Rattle.std.specs.Prelude.{◌≡◌, ◌++◌, ◌∷◌, [], map, drop, OnOk};
+ghost use Rattle.std.specs.Prelude.{◌≡◌, ◌++◌, OnOk};
 ghost use Rattle.union_watch.specs.AskLines.{line_meaning};
 ghost use Rattle.union_watch.specs.Told.{shown_byte, shown, reply_line, told_first, left_behind, told_text_of};
 ghost use Rattle.union_watch.specs.TurnLines.{turn_of, turn_text, six_digits};

@@ -1,5 +1,5 @@
 //! What the words of the command line ask for.
-ghost use Rattle.std.specs.Prelude.{◌≡◌, ℕ, List};
+ghost use Rattle.std.specs.Prelude.{◌≡◌};
 ghost use Rattle.std.specs.Option.{option_copied, option_map};
 ghost use Rattle.union_words.specs.Meanings.{job_meaning};
 ghost use Rattle.union_words.specs.Words;

@@ -1,5 +1,5 @@
 //! The libraries that the words of one command name, each with the path of its file.
-ghost use Rattle.std.specs.Prelude.{◌≡◌, ◌<◌, ◌≤◌, ◌&&◌, ℕ, List, length, map, not, true, Some, None, IsTrue, if◌then◌else◌, nat_le, slice_get};
+ghost use Rattle.std.specs.Prelude.{◌≡◌, ◌<◌, ◌≤◌, ◌&&◌, length, true, Some, None, IsTrue, if◌then◌else◌, nat_le, slice_get};
 ghost use Rattle.std.specs.Option.{option_map};
 ghost use Rattle.std.specs.List.{list_all, list_any};
 ghost use Rattle.union_words.specs.Words;

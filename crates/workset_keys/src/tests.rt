@@ -1,5 +1,5 @@
 //! Work keys whose expected values another program made.
-ghost use Rattle.std.specs.Prelude.{◌≡◌, All, IsUtf8, IfOk, OnOk};
+ghost use Rattle.std.specs.Prelude.{All, IsUtf8, IfOk, OnOk};
 ghost use Rattle.std.specs.Option.{ForSome, option_copied};
 ghost use Rattle.workset_keys.specs.Names.{HasTexts};
 

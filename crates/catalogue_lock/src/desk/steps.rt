@@ -1,5 +1,5 @@
 //! The single steps of a call at the desk, each over the pass's seat.
-ghost use Rattle.std.specs.Prelude.{◌≡◌, ◌≢◌, ℕ, ◌+◌, ◌/◌, ◌%◌, ◌≤◌, List, [], ◌∷◌, ◌++◌, true, Some, None};
+ghost use Rattle.std.specs.Prelude.{◌≡◌, ◌≢◌, ◌+◌, ◌/◌, ◌%◌, ◌≤◌, [], ◌∷◌, ◌++◌, true, Some, None};
 ghost use Rattle.catalogue_lock.specs.Ended.Role.{AsPass};
 ghost use Rattle.catalogue_lock.specs.Views.{looked, released};
 ghost use Rattle.catalogue_lock.specs.Steps.{Rests, Works, Waited};
