@@ -1,7 +1,8 @@
 //! Values that share no key with another.
 //!
 //! Guarantee: no two of the strangers match, and none of them has a key of one of the others, since values that match have a key in
-//! common. Cost: two look-ups for each key of each value; values are moved and never copied.
+//! common. Cost: the keys of each value are made twice, and each is looked up three times at most; values are moved and never
+//! copied.
 ghost use Rattle.std.specs.Prelude.{◌≡◌, ◌++◌, true, not, IfOk, OnOk, Contains};
 ghost use Rattle.std.specs.List.{list_all};
 ghost use Rattle.indexmap.specs.IndexSet.{contains};
