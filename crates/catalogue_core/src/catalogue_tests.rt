@@ -37,7 +37,7 @@ fn turn_of(alloc: Global, frame: &[u8]) -> Result<Batch, Fail> {
     if is_frame(frame) {
         if let Ok(rec) = check_frame(alloc, Cut::Whole, frame) {
             let mut ops = Vec::new(alloc);
-            ops.push(op_of(alloc, &library, &rec)?)?;
+            ops.push(op_of(alloc, &library, rec)?)?;
             return Ok(Batch::of(library, ops));
         }
     }

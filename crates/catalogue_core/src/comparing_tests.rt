@@ -73,7 +73,7 @@ fn op_of_frame(alloc: Global, code: &LibraryCode, frame: &[u8]) -> Result<Op, Fa
 {
     if is_frame(frame) {
         if let Ok(rec) = check_frame(alloc, Cut::Whole, frame) {
-            return Ok(op_of(alloc, code, &rec)?);
+            return Ok(op_of(alloc, code, rec)?);
         }
     }
     let refused: Result<Op, &str> = Err("a record");

@@ -26,16 +26,16 @@ use union_base::memory::Memory;
 /// is no withdrawal can be loaded, and a frame can store its fields (`laws::accepted_can_be_loaded`).
 ///
 /// Answers `Memory` where memory ran out.
-pub fn edition_of(alloc: Global, library: &LibraryCode, rec: &Record) -> Result<Edition, Memory>
-    requires loadable { IsTrue (is_loadable rec.now) }
-    requires short { IsTrue (list_all is_short rec.now.fields) }
-    ensures parts { IfOk result (λ e. IsEditionOf library.now rec.now e) }
-    ensures value { IfOk result (λ e. edition library.now rec.now ≡ Some e) }
+pub fn edition_of(alloc: Global, library: &LibraryCode, rec: Record) -> Result<Edition, Memory>
+    requires loadable { IsTrue (is_loadable rec) }
+    requires short { IsTrue (list_all is_short rec.fields) }
+    ensures parts { IfOk result (λ e. IsEditionOf library.now rec e) }
+    ensures value { IfOk result (λ e. edition library.now rec ≡ Some e) }
 {
     rec.leader.prints();
     let _code = library.bytes();
     let parts = EditionParts {
-        features: features_of(alloc, library, rec)?,
+        features: features_of(alloc, library, &rec)?,
         content: content_of(alloc, library, rec)?,
     };
     Edition::of(alloc, parts)
@@ -54,13 +54,13 @@ pub fn control_of(alloc: Global, rec: &Record) -> Result<Bytes, Memory>
 /// else the load of its edition.
 ///
 /// Answers `Memory` where memory ran out.
-pub fn op_of(alloc: Global, library: &LibraryCode, rec: &Record) -> Result<Op, Memory>
-    requires { IsAccepted rec.now }
-    ensures value { IfOk result (λ done. op library.now rec.now ≡ Some done) }
+pub fn op_of(alloc: Global, library: &LibraryCode, rec: Record) -> Result<Op, Memory>
+    requires { IsAccepted rec }
+    ensures value { IfOk result (λ done. op library.now rec ≡ Some done) }
     ensures own { IfOk result (λ done. IsTrue (is_own_op library.now done)) }
 {
     if is_deleted(rec.leader.status) {
-        let number = control_of(alloc, rec)?;
+        let number = control_of(alloc, &rec)?;
         Ok(Op::Withdraw(number))
     } else {
         accepted_can_be_loaded();

@@ -40,7 +40,7 @@ fn edition_in(alloc: Global, library: &str, frame: &[u8]) -> Result<Edition, Fai
         if let Ok(rec) = check_frame(alloc, Cut::Whole, frame) {
             if !is_deleted(rec.leader.status) {
                 accepted_can_be_loaded();
-                return Ok(edition_of(alloc, &code, &rec)?);
+                return Ok(edition_of(alloc, &code, rec)?);
             }
         }
     }

@@ -1,7 +1,7 @@
 //! The content of one record.
 //!
-//! Guarantee: `content_of` answers what specs/Contents.antt defines. Cost: one walk over the fields, in which each field that
-//! the content has is copied once, then one sort of the united fields. Besides, the look-ups of 001, 005 and 008 end at those
+//! Guarantee: `content_of` answers what specs/Contents.antt defines. Cost: one walk over the fields, in which the united
+//! ones are moved and those of a slot copied, then one sort of the united fields. Besides, the look-ups of 001, 005 and 008 end at those
 //! fields, which stand in front.
 ghost use Rattle.std.specs.Prelude.{◌≡◌, ◌∷◌, [], IfOk, IsTrue};
 ghost use Rattle.marc_parts.specs.Loads.{is_loadable};
@@ -22,15 +22,16 @@ use union_base::record_id::RecordId;
 use union_base::sorted_list::SortedList;
 
 /// The content of a library's record. Memory where it runs out.
-pub fn content_of(alloc: Global, library: &LibraryCode, rec: &Record) -> Result<Content, Memory>
-    requires { IsTrue (is_loadable rec.now) }
-    ensures { IfOk result (λ c. c ≡ content library.now rec.now) }
+pub fn content_of(alloc: Global, library: &LibraryCode, rec: Record) -> Result<Content, Memory>
+    requires { IsTrue (is_loadable rec) }
+    ensures { IfOk result (λ c. c ≡ content library.now rec) }
 {
-    let rank = rank_of(alloc, library, rec)?;
-    let parts = parts_of(alloc, &rank, rec.fields.as_slice())?;
+    let contributors = contributors_of(alloc, library, &rec)?;
+    let fixed = fixed_of(alloc, rank_of(alloc, library, &rec)?, &rec)?;
+    let parts = parts_of(alloc, &fixed.rank, rec.fields.into_vec())?;
     Ok(Content {
-        contributors: contributors_of(alloc, library, rec)?,
-        fixed: fixed_of(alloc, rank, rec)?,
+        contributors,
+        fixed,
         f005: parts.f005,
         f010: parts.f010,
         f040: parts.f040,

@@ -1,4 +1,5 @@
-//! The parts of a record that make its content, gathered in one walk over its fields.
+//! The parts of a record that make its content, gathered in one walk over its fields: the united ones are moved, and those of a
+//! slot copied.
 ghost use Rattle.std.specs.Prelude.{◌≡◌, List, [], ◌∷◌, ◌++◌, IfOk, OnOk, Some, None, if◌then◌else◌, filter};
 ghost use Rattle.std.specs.Option.{option_or};
 ghost use Rattle.union_base.specs.declared.field.Field.{Field};
@@ -25,9 +26,9 @@ pub struct Parts {
     pub united: Vec<Field>,
 }
 
-/// Copies of the parts of the fields, in slots that share the rank. Memory where it runs out.
-pub fn parts_of(alloc: Global, rank: &Rank, fields: &[Field]) -> Result<Parts, Memory>
-    ensures { IfOk result (λ parts. ArePartsOf rank.now fields.now parts) }
+/// The parts of the fields, in slots that share the rank. Memory where it runs out.
+pub fn parts_of(alloc: Global, rank: &Rank, fields: Vec<Field>) -> Result<Parts, Memory>
+    ensures { IfOk result (λ parts. ArePartsOf rank.now fields.items parts) }
 {
     let mut parts = Parts {
         f005: None,
@@ -46,17 +47,17 @@ pub fn parts_of(alloc: Global, rank: &Rank, fields: &[Field]) -> Result<Parts, M
 
 impl Parts {
     /// One field more was seen. Memory where it runs out.
-    fn add(&mut self, alloc: Global, rank: &Rank, field: &Field) -> Result<(), Memory>
+    fn add(&mut self, alloc: Global, rank: &Rank, field: Field) -> Result<(), Memory>
         ensures { OnOk result ((fields : List Field) → ArePartsOf rank.now fields self.old
-            → ArePartsOf rank.now (fields ++ field.now ∷ []) self.new) }
+            → ArePartsOf rank.now (fields ++ field ∷ []) self.new) }
     {
-        fill(alloc, &mut self.f005, has_tag(b"005", field), rank, field)?;
-        fill(alloc, &mut self.f010, has_tag(b"010", field), rank, field)?;
-        fill(alloc, &mut self.f040, has_tag(b"040", field), rank, field)?;
-        fill(alloc, &mut self.f1xx, is_main_entry(field), rank, field)?;
-        fill(alloc, &mut self.f240, has_tag(b"240", field), rank, field)?;
-        fill(alloc, &mut self.f245, has_tag(b"245", field), rank, field)?;
-        push_united(alloc, &mut self.united, field)?;
+        fill(alloc, &mut self.f005, has_tag(b"005", &field), rank, &field)?;
+        fill(alloc, &mut self.f010, has_tag(b"010", &field), rank, &field)?;
+        fill(alloc, &mut self.f040, has_tag(b"040", &field), rank, &field)?;
+        fill(alloc, &mut self.f1xx, is_main_entry(&field), rank, &field)?;
+        fill(alloc, &mut self.f240, has_tag(b"240", &field), rank, &field)?;
+        fill(alloc, &mut self.f245, has_tag(b"245", &field), rank, &field)?;
+        push_united(&mut self.united, field)?;
         Ok(())
     }
 }
@@ -80,12 +81,12 @@ fn fill(
     Ok(())
 }
 
-/// Pushes a copy of the field where it is a united one.
-fn push_united(alloc: Global, united: &mut Vec<Field>, field: &Field) -> Result<(), Memory>
-    ensures { OnOk result (united.new.items ≡ united.old.items ++ filter is_united (field.now ∷ [])) }
+/// Pushes the field where it is a united one.
+fn push_united(united: &mut Vec<Field>, field: Field) -> Result<(), Memory>
+    ensures { OnOk result (united.new.items ≡ united.old.items ++ filter is_united (field ∷ [])) }
 {
-    if is_united(field) {
-        united.push(field.copied(alloc)?)?;
+    if is_united(&field) {
+        united.push(field)?;
     }
     Ok(())
 }

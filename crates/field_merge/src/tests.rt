@@ -100,7 +100,7 @@ fn content_of_frame(alloc: Global, library: &str, frame: &str) -> Result<Content
     let code = LibraryCode::read(library.as_bytes()).ok_or("a library code")?;
     let rec = record_of(alloc, frame.as_bytes())?;
     if is_loadable(&rec) {
-        return Ok(content_of(alloc, &code, &rec)?);
+        return Ok(content_of(alloc, &code, rec)?);
     }
     let refused: Result<Content, &str> = Err("a record that can be loaded");
     Ok(refused?)

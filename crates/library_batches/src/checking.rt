@@ -31,7 +31,7 @@ pub fn check_next(
 {
     match check_frame(alloc, cut, frame) {
         Ok(rec) => {
-            let asked = op_of(alloc, library, &rec)?;
+            let asked = op_of(alloc, library, rec)?;
             ops.push(asked)?;
             Ok(())
         }

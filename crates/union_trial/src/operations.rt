@@ -47,7 +47,7 @@ pub fn operation(
 {
     write_frame(alloc, draws, frame)?;
     match check_frame(alloc, Cut::Whole, frame.as_slice()) {
-        Ok(rec) => op_of(alloc, library, &rec),
+        Ok(rec) => op_of(alloc, library, rec),
         Err(Refusal::Memory) => Err(Memory),
         Err(Refusal::Rule { rule: _, place: _ }) => unreachable!(),
     }
