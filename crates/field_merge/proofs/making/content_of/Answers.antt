@@ -1,4 +1,4 @@
-use Rattle.std.proofs.Common.{sym, ap, subst, ◌∙◌}
+use Rattle.std.proofs.Common.{◌≡◌, sym, ap, subst, ◌∙◌}
 use Rattle.std.specs.Prelude.{codes, find}
 use Rattle.std.specs.Option.{option_map}
 use Rattle.union_base.specs.SortedLists.{set_of}
@@ -13,18 +13,19 @@ use Rattle.field_merge.proofs.making.content_of.Goals as goal
 
 pub unwrap-requires : goal.unwrap-requires
 unwrap-requires c =
-    some-from_parts c.in_ok-rank.rank c.args.rec.now c.in_ok-parts.parts c.requires
-    (subst (λ fields. ArePartsOf c.in_ok-rank.rank fields c.in_ok-parts.parts) c.as_slice.ensures c.in_ok-parts.ensures)
+    some-from_parts c.in_ok-fixed.fixed.rank c.args.rec c.in_ok-parts.parts c.requires
+    (subst (λ fields. ArePartsOf c.in_ok-fixed.fixed.rank fields c.in_ok-parts.parts) c.into_vec.ensures c.in_ok-parts.ensures)
 
 pub returns : goal.returns
 returns c =
     let library = c.args.library.now in
-    let r = c.args.rec.now in
-    let parts = subst (λ k. ArePartsOf k r.fields c.in_ok-parts.parts) c.in_ok-rank.ensures
-    (subst (λ fields. ArePartsOf c.in_ok-rank.rank fields c.in_ok-parts.parts) c.as_slice.ensures c.in_ok-parts.ensures) in
+    let r = c.args.rec in
+    let fixed : c.in_ok-fixed.fixed ≡ fixed_part (rank library r) r = c.in_ok-fixed.ensures ∙ ap (λ k. fixed_part k r) c.in_ok-rank_of.ensures in
+    let parts = subst (λ k. ArePartsOf k r.fields c.in_ok-parts.parts) (ap (λ f. f.rank) fixed)
+    (subst (λ fields. ArePartsOf c.in_ok-fixed.fixed.rank fields c.in_ok-parts.parts) c.into_vec.ensures c.in_ok-parts.ensures) in
     same_contents _ (content library r) (record {
-      contributors = c.in_ok-contributors_of.ensures;
-      fixed = c.in_ok-fixed_of.ensures ∙ ap (λ k. fixed_part k r) c.in_ok-rank.ensures;
+      contributors = c.contributors.view_is ∙ c.in_ok-contributors.ensures;
+      fixed = fixed;
       f005 = parts.f005;
       f010 = parts.f010;
       f040 = parts.f040;

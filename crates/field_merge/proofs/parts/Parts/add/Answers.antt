@@ -7,7 +7,7 @@ use Rattle.field_merge.proofs.parts.Parts.add.Goals as goal
 pub returns : goal.returns
 returns c fields old =
     let k = c.args.rank.now in
-    let field = c.args.field.now in
+    let field = c.args.field in
     record {
       f005 = slot-more k (has_tag (codes "005")) fields field _ _ c.has_tag.result old.f005 c.has_tag.ensures c.in_ok-fill.ensures;
       f010 = slot-more k (has_tag (codes "010")) fields field _ _ c.has_tag-2.result old.f010 c.has_tag-2.ensures c.in_ok-fill-2.ensures;
