@@ -1,6 +1,5 @@
 -- The content of one record.
-use Rattle.std.specs.Prelude.{ℕ, Bool, true, not, ◌||◌, List, [], ◌∷◌, refl, codes, filter, find}
-use Rattle.std.specs.declared.option.Option.{Option}
+use Rattle.std.specs.Prelude.{ℕ, Bool, not, ◌||◌, List, [], ◌∷◌, refl, codes, filter, find}
 use Rattle.std.specs.Option.{option_map, unwrap_or}
 use Rattle.union_base.specs.SortedLists.{set_of}
 use Rattle.union_base.specs.FieldOrder.{field_cmp}

@@ -1,5 +1,5 @@
 -- Contents that have the same parts are equal.
-use Rattle.std.proofs.Common.{◌≡◌, Bool, true, IsTrue, List}
+use Rattle.std.proofs.Common.{◌≡◌, true, IsTrue, List}
 use mathlib.Core.HLevel.{Σ_prop_path}
 use Rattle.std.proofs.Math.Bool.{Bool-set}
 use Rattle.union_base.specs.declared.record_id.RecordId.{RecordId}

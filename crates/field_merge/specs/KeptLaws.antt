@@ -1,5 +1,5 @@
 -- Unions keep what the lists of a content keep, and so do the lists of one record.
-use Rattle.std.proofs.Common.{◌≡◌, ℕ, suc, arith, Bool, true, ◌&&◌, IsTrue, List, [], ◌∷◌, length, refl}
+use Rattle.std.proofs.Common.{◌≡◌, ℕ, suc, arith, true, ◌&&◌, IsTrue, List, [], ◌∷◌, length, refl}
 use Rattle.std.specs.Prelude.{nat_le}
 use Rattle.std.specs.declared.cmp.Ordering.{Ordering}
 use Rattle.std.specs.declared.cmp.Ordering.TheVariants.{Less, Equal, Greater}

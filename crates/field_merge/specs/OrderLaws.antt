@@ -1,8 +1,5 @@
 -- Slots and fixed parts have total orders in which only equal ones tie.
-use Rattle.std.proofs.Common.{◌≡◌, refl, ap, rules}
-use Rattle.std.specs.declared.cmp.Ordering.{Ordering}
-use Rattle.std.specs.declared.cmp.Ordering.TheVariants.{Equal}
-use Rattle.std.specs.declared.option.Option.{Option}
+use Rattle.std.proofs.Common.{refl, ap, rules}
 use Rattle.std.specs.declared.option.Option.TheVariants.{Some, None}
 use Rattle.std.specs.Option.{option_cmp}
 use Rattle.std.specs.Cmp.{IsTotalOrder, nat_cmp_total, on_total, then_total}
@@ -11,12 +8,8 @@ use Rattle.std.specs.Cmp.Lexicographic.{options_total, nat_list_cmp_total}
 use Rattle.std.specs.FinMap.{IsAntisymmetric, nat_cmp-IsAntisymmetric}
 use Rattle.union_base.specs.Ties.{texts_apart, pairs_apart}
 use Rattle.union_base.specs.FieldLaws.{field_cmp-IsAntisymmetric}
-use Rattle.marc_leader.specs.Codes.{Codes}
 use Rattle.field_merge.specs.KeptLaws.{field_total}
 use Rattle.field_merge.specs.Orders.{rank_cmp, slot_cmp, codes_cmp, fixed_cmp}
-use Rattle.field_merge.specs.declared.rank.Rank.{Rank}
-use Rattle.field_merge.specs.declared.slot.Slot.{Slot}
-use Rattle.field_merge.specs.declared.fixed.Fixed.{Fixed}
 
 pub rank_total : IsTotalOrder rank_cmp
 rank_total = search (comparing, rules)

@@ -3,7 +3,6 @@ use Rattle.std.specs.declared.cmp.Ordering.{Ordering}
 use Rattle.std.specs.Ordering.{nat_cmp, then_cmp, on}
 use Rattle.std.specs.Cmp.Lexicographic.{slice_cmp}
 use Rattle.union_base.specs.FieldOrder.{field_cmp}
-use Rattle.union_base.specs.declared.record_id.RecordId.{RecordId}
 use Rattle.marc_leader.specs.Codes.{Codes}
 use Rattle.field_merge.specs.declared.rank.Rank.{Rank}
 use Rattle.field_merge.specs.declared.slot.Slot.{Slot}

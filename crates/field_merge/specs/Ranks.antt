@@ -1,6 +1,5 @@
 -- The rank of a record.
 use Rattle.std.specs.Prelude.{ℕ, List, length, ◌==◌, ◌||◌, if◌then◌else◌, replicate, codes}
-use Rattle.union_base.specs.declared.field.Field.{Field}
 use Rattle.marc_fields.specs.declared.marc_record.Record.{Record}
 use Rattle.marc_parts.specs.Parts.{text_under, control_number}
 use Rattle.field_merge.specs.declared.rank.Rank.{Rank}

@@ -1,6 +1,5 @@
 use Rattle.std.proofs.Common.{◌≡◌, sym, ap, subst, ◌∙◌}
-use Rattle.std.specs.Prelude.{codes, find}
-use Rattle.std.specs.Option.{option_map}
+use Rattle.std.specs.Prelude.{codes}
 use Rattle.union_base.specs.SortedLists.{set_of}
 use Rattle.union_base.specs.FieldOrder.{field_cmp}
 use Rattle.marc_parts.specs.Parts.{first_under}
