@@ -16,7 +16,7 @@ use Rattle.match_features.specs.JoinLaws.{parts}
 use Rattle.match_features.specs.Meeting.{meet_by_control, meet_by_isbn, meet_by_title, meet}
 use Rattle.match_features.specs.MeetLaws.{or_more}
 use Rattle.match_features.specs.MemberLaws.{or_cases, or_left, or_right, member-from_common, common-from_member, member-from_union, union-from_member, member-map, member-from_map, once-from_ascending, once-append, apart_maps}
-use Rattle.match_features.specs.Keys.{control_key, keys, HasKey, share_key, key_eq}
+use Rattle.match_features.specs.Keys.{keys, HasKey, share_key, key_eq}
 
 -- those that meet share a key: a control pair, an ISBN or a title
 share-from_meet : (x y : Features) → IsTrue (meet x y) → IsTrue (share_key x y)
@@ -37,14 +37,14 @@ key-from_share x y h =
       | inr e ↦ (let some = member-from_common nat_list_cmp_total texts_apart x.titles y.titles e in (Title some.0, some.1, some.2))
       | inl e ↦ elim (or_cases (have_common pairs_cmp x.control y.control) (have_common texts_cmp x.isbns y.isbns) e) [
         | inr f ↦ (let some = member-from_common nat_list_cmp_total texts_apart x.isbns y.isbns f in (Isbn some.0, some.1, some.2))
-        | inl f ↦ (let some = member-from_common pairs_total pairs_tie x.control y.control f in (Control some.0.0 some.0.1, some.1, some.2))
+        | inl f ↦ (let some = member-from_common pairs_total pairs_tie x.control y.control f in (Control some.0, some.1, some.2))
       ]
     ]
 
 share-from_key : (x y : Features) (k : FeatureKey) → HasKey x k → HasKey y k → IsTrue (share_key x y)
-share-from_key x y (Control source number) p q =
+share-from_key x y (Control pair) p q =
     or_left (have_common pairs_cmp x.control y.control || have_common texts_cmp x.isbns y.isbns) _
-    (or_left (have_common pairs_cmp x.control y.control) _ (common-from_member pairs_total pairs_tie x.control y.control (source, number) p q))
+    (or_left (have_common pairs_cmp x.control y.control) _ (common-from_member pairs_total pairs_tie x.control y.control pair p q))
 share-from_key x y (Isbn isbn) p q =
     or_left (have_common pairs_cmp x.control y.control || have_common texts_cmp x.isbns y.isbns) _
     (or_right (have_common pairs_cmp x.control y.control) _ (common-from_member nat_list_cmp_total texts_apart x.isbns y.isbns isbn p q))
@@ -53,9 +53,9 @@ share-from_key x y (Title title) p q =
     (common-from_member nat_list_cmp_total texts_apart x.titles y.titles title p q)
 
 key-join : (x y : Features) (k : FeatureKey) → HasKey (join x y) k ↔ (HasKey x k ⊎ HasKey y k)
-key-join x y (Control source number) = (
-  member-from_union pairs_total pairs_tie x.control y.control (source, number),
-  union-from_member pairs_total pairs_tie x.control y.control (source, number),
+key-join x y (Control pair) = (
+  member-from_union pairs_total pairs_tie x.control y.control pair,
+  union-from_member pairs_total pairs_tie x.control y.control pair,
 )
 key-join x y (Isbn isbn) = (
   member-from_union nat_list_cmp_total texts_apart x.isbns y.isbns isbn,
@@ -76,59 +76,53 @@ features_key_laws = record {
 -- the list of the keys has each key that features have
 key-from_member : (x : Features) (k : FeatureKey) → Contains (keys x) k → HasKey x k
 key-from_member x k h =
-    elim (Contains-append_cases (map control_key x.control ++ map Isbn x.isbns) (map Title x.titles) k h) [
+    elim (Contains-append_cases (map Control x.control ++ map Isbn x.isbns) (map Title x.titles) k h) [
       | inr e ↦ (let (title, there, is) = member-from_map Title x.titles k e in subst (HasKey x) is there)
-      | inl e ↦ elim (Contains-append_cases (map control_key x.control) (map Isbn x.isbns) k e) [
+      | inl e ↦ elim (Contains-append_cases (map Control x.control) (map Isbn x.isbns) k e) [
         | inr f ↦ (let (isbn, there, is) = member-from_map Isbn x.isbns k f in subst (HasKey x) is there)
-        | inl f ↦ (let (pair, there, is) = member-from_map control_key x.control k f in subst (HasKey x) is there)
+        | inl f ↦ (let (pair, there, is) = member-from_map Control x.control k f in subst (HasKey x) is there)
       ]
     ]
 
 member-from_key : (x : Features) (k : FeatureKey) → HasKey x k → Contains (keys x) k
-member-from_key x (Control source number) h =
-    Contains-append_left (map control_key x.control ++ map Isbn x.isbns) (map Title x.titles) (Control source number)
-    (Contains-append_left (map control_key x.control) (map Isbn x.isbns) (Control source number) (member-map control_key x.control (source, number) h))
+member-from_key x (Control pair) h =
+    Contains-append_left (map Control x.control ++ map Isbn x.isbns) (map Title x.titles) (Control pair)
+    (Contains-append_left (map Control x.control) (map Isbn x.isbns) (Control pair) (member-map Control x.control pair h))
 member-from_key x (Isbn isbn) h =
-    Contains-append_left (map control_key x.control ++ map Isbn x.isbns) (map Title x.titles) (Isbn isbn)
-    (Contains-append_right (map control_key x.control) (map Isbn x.isbns) (Isbn isbn) (member-map Isbn x.isbns isbn h))
+    Contains-append_left (map Control x.control ++ map Isbn x.isbns) (map Title x.titles) (Isbn isbn)
+    (Contains-append_right (map Control x.control) (map Isbn x.isbns) (Isbn isbn) (member-map Isbn x.isbns isbn h))
 member-from_key x (Title title) h =
-    Contains-append_right (map control_key x.control ++ map Isbn x.isbns) (map Title x.titles) (Title title) (member-map Title x.titles title h)
+    Contains-append_right (map Control x.control ++ map Isbn x.isbns) (map Title x.titles) (Title title) (member-map Title x.titles title h)
 
 pub features_keys : (x : Features) (k : FeatureKey) → Contains (keys x) k ↔ HasKey x k
 features_keys x k = (key-from_member x k, member-from_key x k)
-
-same_pairs : (p q : List ℕ × List ℕ) → control_key p ≡ control_key q → p ≡ q
-same_pairs p q e =
-    let source : p.0 ≡ q.0 = cc in
-    let number : p.1 ≡ q.1 = cc in
-    λ i. (source i, number i)
 
 -- the list has each key once
 pub features_keys_once : (x : Features) → AllPairs (λ j k. j ≢ k) (keys x)
 features_keys_once x =
     let kept = parts x in
-    once-append (map control_key x.control ++ map Isbn x.isbns) (map Title x.titles)
-    (once-append (map control_key x.control) (map Isbn x.isbns)
-    (once-from_ascending pairs_total pairs_tie control_key same_pairs x.control kept.control)
+    once-append (map Control x.control ++ map Isbn x.isbns) (map Title x.titles)
+    (once-append (map Control x.control) (map Isbn x.isbns)
+    (once-from_ascending pairs_total pairs_tie Control (λ p q e. cc) x.control kept.control)
     (once-from_ascending nat_list_cmp_total texts_apart Isbn (λ p q e. cc) x.isbns kept.isbns)
-    (apart_maps control_key Isbn (λ p q e. cc) x.control x.isbns))
+    (apart_maps Control Isbn (λ p q e. cc) x.control x.isbns))
     (once-from_ascending nat_list_cmp_total texts_apart Title (λ p q e. cc) x.titles kept.titles)
-    (All-append (λ j. All (λ k. j ≢ k) (map Title x.titles)) (map control_key x.control) (map Isbn x.isbns)
-    (apart_maps control_key Title (λ p q e. cc) x.control x.titles) (apart_maps Isbn Title (λ p q e. cc) x.isbns x.titles))
+    (All-append (λ j. All (λ k. j ≢ k) (map Title x.titles)) (map Control x.control) (map Isbn x.isbns)
+    (apart_maps Control Title (λ p q e. cc) x.control x.titles) (apart_maps Isbn Title (λ p q e. cc) x.isbns x.titles))
 
 same_texts : (a b : List ℕ) → pointwise nat_eq a b ≡ true → a ≡ b
 same_texts a b h = same_text a b (sym h)
 
 -- keys that compare as equal are one
 pub features_keys_exact : (j k : FeatureKey) → key_eq j k ≡ true → j ≡ k
-features_keys_exact (Control a b) (Control c d) h =
-    let both = both_true (pointwise nat_eq a c) (pointwise nat_eq b d) h in
-    λ i. Control (same_texts a c both.0 i) (same_texts b d both.1 i)
+features_keys_exact (Control p) (Control q) h =
+    let both = both_true (pointwise nat_eq p.0 q.0) (pointwise nat_eq p.1 q.1) h in
+    λ i. Control (same_texts p.0 q.0 both.0 i, same_texts p.1 q.1 both.1 i)
 features_keys_exact (Isbn a) (Isbn b) h = ap Isbn (same_texts a b h)
 features_keys_exact (Title a) (Title b) h = ap Title (same_texts a b h)
-features_keys_exact (Control a b) (Isbn c) h = cc
-features_keys_exact (Control a b) (Title c) h = cc
-features_keys_exact (Isbn a) (Control b c) h = cc
+features_keys_exact (Control p) (Isbn b) h = cc
+features_keys_exact (Control p) (Title b) h = cc
+features_keys_exact (Isbn a) (Control q) h = cc
 features_keys_exact (Isbn a) (Title b) h = cc
-features_keys_exact (Title a) (Control b c) h = cc
+features_keys_exact (Title a) (Control q) h = cc
 features_keys_exact (Title a) (Isbn b) h = cc

@@ -1,5 +1,5 @@
 -- The keys that features are looked up by.
-use Rattle.std.specs.Prelude.{ℕ, Bool, false, nat_eq, ◌&&◌, ◌||◌, List, ◌++◌, map, Contains}
+use Rattle.std.specs.Prelude.{Bool, false, nat_eq, ◌&&◌, ◌||◌, List, ◌++◌, map, Contains}
 use Rattle.std.specs.Cmp.Lexicographic.{pointwise}
 use Rattle.union_base.specs.SortedLists.{have_common}
 use Rattle.match_features.specs.declared.features.Features.{Features}
@@ -7,15 +7,12 @@ use Rattle.match_features.specs.declared.keys.FeatureKey.{FeatureKey}
 use Rattle.match_features.specs.declared.keys.FeatureKey.TheVariants.{Control, Isbn, Title}
 use Rattle.match_features.specs.Kept.{texts_cmp, pairs_cmp}
 
-abbrev pub control_key : List ℕ × List ℕ → FeatureKey
-control_key pair = Control pair.0 pair.1
-
 -- each control pair, each ISBN, each title
 abbrev pub keys : Features → List FeatureKey
-keys x = map control_key x.control ++ map Isbn x.isbns ++ map Title x.titles
+keys x = map Control x.control ++ map Isbn x.isbns ++ map Title x.titles
 
 abbrev pub HasKey : Features → FeatureKey → Type 0
-HasKey x (Control source number) = Contains x.control (source, number)
+HasKey x (Control pair) = Contains x.control pair
 HasKey x (Isbn isbn) = Contains x.isbns isbn
 HasKey x (Title title) = Contains x.titles title
 
@@ -26,12 +23,12 @@ share_key x y =
 
 -- keys of one kind compare as equal where their texts do, and keys of two kinds never
 abbrev pub key_eq : FeatureKey → FeatureKey → Bool
-key_eq (Control a b) (Control c d) = pointwise nat_eq a c && pointwise nat_eq b d
+key_eq (Control p) (Control q) = pointwise nat_eq p.0 q.0 && pointwise nat_eq p.1 q.1
 key_eq (Isbn a) (Isbn b) = pointwise nat_eq a b
 key_eq (Title a) (Title b) = pointwise nat_eq a b
-key_eq (Control a b) (Isbn c) = false
-key_eq (Control a b) (Title c) = false
-key_eq (Isbn a) (Control b c) = false
+key_eq (Control p) (Isbn b) = false
+key_eq (Control p) (Title b) = false
+key_eq (Isbn a) (Control q) = false
 key_eq (Isbn a) (Title b) = false
-key_eq (Title a) (Control b c) = false
+key_eq (Title a) (Control q) = false
 key_eq (Title a) (Isbn b) = false

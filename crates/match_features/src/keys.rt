@@ -1,7 +1,8 @@
 //! The keys that features are looked up by, as `specs/Keys.antt` has them.
 ghost use Rattle.std.specs.Prelude.{◌≡◌, ◌≢◌, ◌↔◌, ◌++◌, IfOk, OnOk, Contains, AllPairs, map};
-ghost use Rattle.match_features.specs.Keys.{control_key, keys, HasKey};
+ghost use Rattle.match_features.specs.Keys.{keys, HasKey};
 
+use crate::control_pair::ControlPair;
 use crate::features::Features;
 use std::alloc::Global;
 use union_base::bytes::Bytes;
@@ -12,7 +13,7 @@ use union_base::memory::Memory;
 #[derive(Debug, PartialEq, Eq, Hash, Drop)]
 pub enum FeatureKey {
     /// A control pair: the source and the number.
-    Control(Bytes, Bytes),
+    Control(ControlPair),
     /// An ISBN, of thirteen digits.
     Isbn([u8; 13]),
     /// A title in normal form.
@@ -22,10 +23,7 @@ pub enum FeatureKey {
 impl Copied for FeatureKey {
     fn copied(&self, alloc: Global) -> Result<FeatureKey, Memory> {
         match self {
-            FeatureKey::Control(source, number) => Ok(FeatureKey::Control(
-                source.copied(alloc)?,
-                number.copied(alloc)?,
-            )),
+            FeatureKey::Control(pair) => Ok(FeatureKey::Control(pair.copied(alloc)?)),
             FeatureKey::Isbn(isbn) => Ok(FeatureKey::Isbn(*isbn)),
             FeatureKey::Title(title) => Ok(FeatureKey::Title(title.copied(alloc)?)),
         }
@@ -56,11 +54,11 @@ fn push_control_keys(
     found: &mut Vec<FeatureKey>,
     control: &[(Bytes, Bytes)],
 ) -> Result<(), Memory>
-    ensures { OnOk result (found.new.items ≡ found.old.items ++ map control_key control.now) }
+    ensures { OnOk result (found.new.items ≡ found.old.items ++ map FeatureKey.Control control.now) }
 {
     for (source, number) in control {
-        let key = FeatureKey::Control(source.copied(alloc)?, number.copied(alloc)?);
-        found.push(key)?;
+        let pair = ControlPair::of(alloc, source.bytes(), number.bytes())?;
+        found.push(FeatureKey::Control(pair))?;
     }
     Ok(())
 }

@@ -7,6 +7,7 @@
 //! meeting walks sorted lists side by side and takes no memory.
 #![tactic(auto)]
 
+pub mod control_pair;
 pub mod features;
 mod gathering;
 pub mod joining;
