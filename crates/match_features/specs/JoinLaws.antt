@@ -1,5 +1,5 @@
 -- The union of features is idempotent, commutative and associative.
-use Rattle.std.proofs.Common.{◌≡◌, ℕ, true, IsTrue, List, refl}
+use Rattle.std.proofs.Common.{◌≡◌, ℕ, true, IsTrue, List}
 use mathlib.Core.HLevel.{Σ_prop_path}
 use Rattle.std.proofs.Math.Bool.{Bool-set}
 use Rattle.std.specs.Cmp.Lexicographic.{nat_list_cmp_total}
@@ -8,7 +8,7 @@ use Rattle.union_base.specs.SortedLists.{union, is_ascending}
 use Rattle.union_base.proofs.SortedListLaws.{union-idempotent, union-commutative, union-associative}
 use Rattle.merge_laws.specs.Resolution.{JoinLaws}
 use Rattle.match_features.specs.declared.features.Features.{Features}
-use Rattle.match_features.specs.Kept.{texts_cmp, pairs_cmp, are_features}
+use Rattle.match_features.specs.Kept.{texts_cmp, are_features}
 use Rattle.match_features.specs.KeptLaws.{AreKept, kept_parts, pairs_total, pairs_tie}
 use Rattle.match_features.specs.Joining.{join}
 

@@ -1,5 +1,5 @@
 -- Features that meet have a key in common, and a union has the keys of its two sides.
-use Rattle.std.proofs.Common.{nat_eq, ◌≡◌, ◌≢◌, ◌↔◌, ◌⊎◌, inl, inr, ℕ, Bool, true, false, ◌&&◌, ◌||◌, IsTrue, List, ◌++◌, map, All, AllPairs, Contains, refl, sym, ap, subst, ◌∙◌}
+use Rattle.std.proofs.Common.{nat_eq, ◌≡◌, ◌≢◌, ◌↔◌, ◌⊎◌, inl, inr, ℕ, true, ◌&&◌, ◌||◌, IsTrue, List, ◌++◌, map, All, AllPairs, Contains, sym, ap, subst}
 use Rattle.std.specs.Cmp.Lexicographic.{nat_list_cmp_total, pointwise, same_text}
 use Rattle.std.proofs.lemmas.List.Elements.{Contains-append_left, Contains-append_right, Contains-append_cases, All-append}
 use Rattle.union_base.specs.Both.{both_true}

@@ -2,11 +2,9 @@
 use Rattle.std.proofs.Common.{◌≡◌, Bool, true, false, ◌&&◌, ◌||◌, IsTrue, refl, sym, ap, ◌∙◌}
 use Rattle.std.specs.Cmp.Lexicographic.{nat_list_cmp_total}
 use Rattle.union_base.specs.Ties.{texts_apart}
-use Rattle.union_base.specs.SortedLists.{have_common}
 use Rattle.union_base.proofs.SortedListLaws.{have_common-symmetric}
 use Rattle.merge_laws.specs.Resolution.{MatchLaws}
 use Rattle.match_features.specs.declared.features.Features.{Features}
-use Rattle.match_features.specs.Kept.{texts_cmp, pairs_cmp}
 use Rattle.match_features.specs.KeptLaws.{pairs_total, pairs_tie}
 use Rattle.match_features.specs.Joining.{join}
 use Rattle.match_features.specs.JoinLaws.{parts}
