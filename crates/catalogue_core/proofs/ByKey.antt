@@ -39,12 +39,12 @@ use Rattle.catalogue_core.proofs.PlanLaws.{mapped-from_member, member-from_mappe
 -- ---- the test says whether an edition has a key
 
 has-from_key : (e : Edition) (key : FeatureKey) → HasFeatureKey e key → has_key key e ≡ true
-has-from_key e (Control source number) h = has-from_member pairs_total pairs_tie e.features.control (source, number) h
+has-from_key e (Control pair) h = has-from_member pairs_total pairs_tie e.features.control pair h
 has-from_key e (Isbn isbn) h = has-from_member nat_list_cmp_total texts_apart e.features.isbns isbn h
 has-from_key e (Title title) h = has-from_member nat_list_cmp_total texts_apart e.features.titles title h
 
 key-from_has : (e : Edition) (key : FeatureKey) → has_key key e ≡ true → HasFeatureKey e key
-key-from_has e (Control source number) h = member-from_has pairs_total pairs_tie e.features.control (source, number) h
+key-from_has e (Control pair) h = member-from_has pairs_total pairs_tie e.features.control pair h
 key-from_has e (Isbn isbn) h = member-from_has nat_list_cmp_total texts_apart e.features.isbns isbn h
 key-from_has e (Title title) h = member-from_has nat_list_cmp_total texts_apart e.features.titles title h
 

@@ -7,25 +7,25 @@ use Rattle.match_features.specs.declared.keys.FeatureKey.TheVariants.{Control, I
 
 -- the test answers as key_eq does, for keys of one kind, and tells the kinds apart
 pub record TellsKeys (eq : FeatureKey → FeatureKey → Bool) : Type 0 where
-  pub controls : (a b c d : List ℕ) → eq (Control a b) (Control c d) ≡ key_eq (Control a b) (Control c d)
+  pub controls : (p q : List ℕ × List ℕ) → eq (Control p) (Control q) ≡ key_eq (Control p) (Control q)
   pub isbns : (a b : List ℕ) → eq (Isbn a) (Isbn b) ≡ key_eq (Isbn a) (Isbn b)
   pub titles : (a b : List ℕ) → eq (Title a) (Title b) ≡ key_eq (Title a) (Title b)
-  pub control_isbn : (a b c : List ℕ) → eq (Control a b) (Isbn c) ≡ false
-  pub control_title : (a b c : List ℕ) → eq (Control a b) (Title c) ≡ false
-  pub isbn_control : (a b c : List ℕ) → eq (Isbn a) (Control b c) ≡ false
+  pub control_isbn : (p : List ℕ × List ℕ) (b : List ℕ) → eq (Control p) (Isbn b) ≡ false
+  pub control_title : (p : List ℕ × List ℕ) (b : List ℕ) → eq (Control p) (Title b) ≡ false
+  pub isbn_control : (a : List ℕ) (q : List ℕ × List ℕ) → eq (Isbn a) (Control q) ≡ false
   pub isbn_title : (a b : List ℕ) → eq (Isbn a) (Title b) ≡ false
-  pub title_control : (a b c : List ℕ) → eq (Title a) (Control b c) ≡ false
+  pub title_control : (a : List ℕ) (q : List ℕ × List ℕ) → eq (Title a) (Control q) ≡ false
   pub title_isbn : (a b : List ℕ) → eq (Title a) (Isbn b) ≡ false
 
 tells_key_eq : (eq : FeatureKey → FeatureKey → Bool) → TellsKeys eq → (j k : FeatureKey) → eq j k ≡ key_eq j k
-tells_key_eq eq t (Control a b) (Control c d) = t.controls a b c d
+tells_key_eq eq t (Control p) (Control q) = t.controls p q
 tells_key_eq eq t (Isbn a) (Isbn b) = t.isbns a b
 tells_key_eq eq t (Title a) (Title b) = t.titles a b
-tells_key_eq eq t (Control a b) (Isbn c) = t.control_isbn a b c
-tells_key_eq eq t (Control a b) (Title c) = t.control_title a b c
-tells_key_eq eq t (Isbn a) (Control b c) = t.isbn_control a b c
+tells_key_eq eq t (Control p) (Isbn b) = t.control_isbn p b
+tells_key_eq eq t (Control p) (Title b) = t.control_title p b
+tells_key_eq eq t (Isbn a) (Control q) = t.isbn_control a q
 tells_key_eq eq t (Isbn a) (Title b) = t.isbn_title a b
-tells_key_eq eq t (Title a) (Control b c) = t.title_control a b c
+tells_key_eq eq t (Title a) (Control q) = t.title_control a q
 tells_key_eq eq t (Title a) (Isbn b) = t.title_isbn a b
 
 pub exact_keys : {eq : FeatureKey → FeatureKey → Bool} → TellsKeys eq → (j k : FeatureKey) → eq j k ≡ true → j ≡ k

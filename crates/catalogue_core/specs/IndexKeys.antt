@@ -8,6 +8,6 @@ use Rattle.catalogue_core.specs.declared.edition.Edition.{Edition}
 
 -- the key is one of the control pairs, the ISBNs or the titles of the edition
 abbrev pub has_key : FeatureKey → Edition → Bool
-has_key (Control source number) e = has pairs_cmp e.features.control (source, number)
+has_key (Control pair) e = has pairs_cmp e.features.control pair
 has_key (Isbn isbn) e = has texts_cmp e.features.isbns isbn
 has_key (Title title) e = has texts_cmp e.features.titles title

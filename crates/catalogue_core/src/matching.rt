@@ -40,14 +40,14 @@ impl Resolvable for Edition {
     ghost key_laws = { edition_key_laws };
 
     ghost exact_keys = { exact_keys (record {
-      controls = λ a b c d. refl;
+      controls = λ p q. refl;
       isbns = λ a b. refl;
       titles = λ a b. refl;
-      control_isbn = λ a b c. refl;
-      control_title = λ a b c. refl;
-      isbn_control = λ a b c. refl;
+      control_isbn = λ p b. refl;
+      control_title = λ p b. refl;
+      isbn_control = λ a q. refl;
       isbn_title = λ a b. refl;
-      title_control = λ a b c. refl;
+      title_control = λ a q. refl;
       title_isbn = λ a b. refl;
     }) };
 }

@@ -50,10 +50,10 @@ module _ (records : MapOf Edition) (all : List Edition) where
       ap (map (λ e. edition_line (least e))) (filter_agree (has_key (key.Isbn digits)) (is_asked (Isbn digits)) (λ e. text-stands digits e.features.isbns) all)
       ∙ told-each (told (Isbn digits) records) (λ e. refl) (filter (is_asked (Isbn digits)) all)
 
-  pub told-control : (source number : List ℕ) → map (λ e. edition_line (least e)) (filter (has_key (key.Control source number)) all) ≡ told_of (Control source number) records all
+  pub told-control : (source number : List ℕ) → map (λ e. edition_line (least e)) (filter (has_key (key.Control (source, number))) all) ≡ told_of (Control source number) records all
   told-control source number =
       ap (map (λ e. edition_line (least e)))
-      (filter_agree (has_key (key.Control source number)) (is_asked (Control source number)) (λ e. pair-stands source number e.features.control) all)
+      (filter_agree (has_key (key.Control (source, number))) (is_asked (Control source number)) (λ e. pair-stands source number e.features.control) all)
       ∙ told-each (told (Control source number) records) (λ e. refl) (filter (is_asked (Control source number)) all)
 
   pub told-title : (form : List ℕ) → map (λ e. edition_line (least e)) (filter (has_key (key.Title form)) all) ≡ told_of (Title form) records all

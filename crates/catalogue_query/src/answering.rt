@@ -16,6 +16,7 @@ use crate::lines::{count_line, edition_line};
 use crate::query::Query;
 use crate::telling::add_told;
 use catalogue_core::catalogue::Catalogue;
+use match_features::control_pair::ControlPair;
 use match_features::keys::FeatureKey;
 use std::alloc::Global;
 use union_base::bytes::Bytes;
@@ -113,8 +114,8 @@ fn lines_of_control(
     ensures { IfOk result (λ lines. (all : List EditionModel) × AreEditionsOf catalogue.now all
         × (lines.items ≡ told_of (Control source.now number.now) (current catalogue.now) all)) }
 {
-    let key = FeatureKey::Control(source.copied(alloc)?, number.copied(alloc)?);
-    lines_with_key(alloc, catalogue, &key)
+    let pair = ControlPair::of(alloc, source.bytes(), number.bytes())?;
+    lines_with_key(alloc, catalogue, &FeatureKey::Control(pair))
 }
 
 /// What is told of the editions that have the title.

@@ -16,7 +16,7 @@ use Rattle.catalogue_core.proofs.records.edition_of.Goals as goal
 pub invariant_of-parts : goal.invariant_of-parts
 invariant_of-parts c =
     let library = c.args.library.now in
-    let r = c.args.rec.now in
+    let r = c.args.rec in
     let loaded : IsTrue (is_loaded library r) =
     true_both (is_library_code library && is_loadable r) (are_printable r.leader && list_all is_short r.fields)
     (true_both (is_library_code library) (is_loadable r) c.bytes-code.ensures.code c.requires.loadable)
@@ -30,7 +30,7 @@ invariant_of-parts c =
 pub returns-clause-value : goal.returns-clause-value
 returns-clause-value c =
     let library = c.args.library.now in
-    let r = c.args.rec.now in
+    let r = c.args.rec in
     let loaded : IsTrue (is_loaded library r) =
     true_both (is_library_code library && is_loadable r) (are_printable r.leader && list_all is_short r.fields)
     (true_both (is_library_code library) (is_loadable r) c.bytes-code.ensures.code c.requires.loadable)

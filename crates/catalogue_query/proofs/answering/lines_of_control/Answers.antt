@@ -1,6 +1,5 @@
-use Rattle.std.proofs.Common.{◌≡◌, map, filter, ap, ◌∙◌}
+use Rattle.std.proofs.Common.{map, filter, ap, ◌∙◌}
 use Rattle.std.proofs.lemmas.Result.{IfOk-weaker}
-use Rattle.match_features.specs.declared.keys.FeatureKey.{FeatureKey}
 use Rattle.match_features.specs.declared.keys.FeatureKey.TheVariants as key
 use Rattle.catalogue_core.specs.Histories.{current}
 use Rattle.catalogue_core.specs.Ids.{least}
@@ -13,13 +12,11 @@ pub returns : goal.returns
 returns c =
     let source = c.args.source.now in
     let number = c.args.number.now in
-    let same : ◌≡◌ {A = FeatureKey} (key.Control c.in_ok-copied.field-0 c.in_ok-copied-2.field-0) (key.Control source number) =
-    λ i. key.Control (c.in_ok-copied.ensures i) (c.in_ok-copied-2.ensures i) in
     IfOk-weaker c.lines_with_key.result _ _
     (λ lines found. (
       found.0,
       found.1,
-      found.2 ∙ ap (λ key. map (λ e. edition_line (least e)) (filter (has_key key) found.0)) same
+      found.2 ∙ ap (λ pair. map (λ e. edition_line (least e)) (filter (has_key (key.Control pair)) found.0)) c.in_ok-of.ensures
           ∙ told-control (current c.args.catalogue.now) found.0 source number,
     ))
     c.lines_with_key.ensures
