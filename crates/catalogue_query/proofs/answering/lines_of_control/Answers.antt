@@ -1,4 +1,4 @@
-use Rattle.std.proofs.Common.{map, filter, ap, ◌∙◌}
+use Rattle.std.proofs.Common.{◌≡◌, map, filter, ap, ◌∙◌}
 use Rattle.std.proofs.lemmas.Result.{IfOk-weaker}
 use Rattle.match_features.specs.declared.keys.FeatureKey.TheVariants as key
 use Rattle.catalogue_core.specs.Histories.{current}
@@ -12,11 +12,12 @@ pub returns : goal.returns
 returns c =
     let source = c.args.source.now in
     let number = c.args.number.now in
+    let same : c.in_ok-pair.pair ≡ (source, number) = c.in_ok-pair.ensures ∙ (λ i. (c.bytes.ensures i, c.bytes-2.ensures i)) in
     IfOk-weaker c.lines_with_key.result _ _
     (λ lines found. (
       found.0,
       found.1,
-      found.2 ∙ ap (λ pair. map (λ e. edition_line (least e)) (filter (has_key (key.Control pair)) found.0)) c.in_ok-of.ensures
+      found.2 ∙ ap (λ pair. map (λ e. edition_line (least e)) (filter (has_key (key.Control pair)) found.0)) same
           ∙ told-control (current c.args.catalogue.now) found.0 source number,
     ))
     c.lines_with_key.ensures
