@@ -16,7 +16,7 @@ use union_base::sorted_list::SortedList;
 ///
 /// There is at least one contributor, and contributors and united fields are in order and without repeats. What comes from one
 /// record shares its rank, and a copy shares the ranks of its source.
-#[derive(Debug, Drop)]
+#[derive(Debug)]
 pub struct Content {
     pub contributors: SortedList<RecordId>,
     pub fixed: Fixed,
@@ -29,6 +29,23 @@ pub struct Content {
     pub f245: Slot,
     pub united: SortedList<Field>,
     pub ghost kept: { IsTrue (are_kept contributors united) },
+}
+
+/// A drop of its own, as that of `Bytes`.
+impl Drop for Content {
+    fn drop(self) {
+        let Content {
+            contributors: _,
+            fixed: _,
+            f005: _,
+            f010: _,
+            f040: _,
+            f1xx: _,
+            f240: _,
+            f245: _,
+            united: _,
+        } = self;
+    }
 }
 
 impl Copied for Content {

@@ -8,11 +8,22 @@ use union_base::memory::Memory;
 
 /// The nine codes of a leader and the text of field 008, with the rank of the record that they come from. Ordered by rank,
 /// then by the codes, then by the text.
-#[derive(Debug, PartialEq, Eq, PartialOrd, Ord, Drop)]
+#[derive(Debug, PartialEq, Eq, PartialOrd, Ord)]
 pub struct Fixed {
     pub rank: Rank,
     pub codes: LeaderCodes,
     pub text: Bytes,
+}
+
+/// A drop of its own, as that of `Bytes`.
+impl Drop for Fixed {
+    fn drop(self) {
+        let Fixed {
+            rank: _,
+            codes: _,
+            text: _,
+        } = self;
+    }
 }
 
 impl Copied for Fixed {

@@ -6,10 +6,17 @@ use union_base::field::Field;
 use union_base::memory::Memory;
 
 /// A field and the rank of the record that it comes from, ordered by rank, then by field.
-#[derive(Debug, PartialEq, Eq, PartialOrd, Ord, Drop)]
+#[derive(Debug, PartialEq, Eq, PartialOrd, Ord)]
 pub struct Slot {
     pub rank: Rank,
     pub field: Field,
+}
+
+/// A drop of its own, as that of `Bytes`.
+impl Drop for Slot {
+    fn drop(self) {
+        let Slot { rank: _, field: _ } = self;
+    }
 }
 
 impl Copied for Slot {

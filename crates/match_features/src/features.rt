@@ -7,7 +7,7 @@ use union_base::sorted_list::SortedList;
 
 /// What a record, or an edition of several, is matched by (this project's own). Each list is in order and without repeats,
 /// and there is at least one control pair.
-#[derive(Debug, Drop)]
+#[derive(Debug)]
 pub struct Features {
     /// Pairs of a source and a control number. A library's own numbers have the source `=` and its code.
     pub control: SortedList<(Bytes, Bytes)>,
@@ -22,4 +22,18 @@ pub struct Features {
     /// Headings of the main entry in normal form, none of them empty.
     pub names: SortedList<Bytes>,
     pub ghost kept: { IsTrue (are_features control types isbns titles dates names) },
+}
+
+/// A drop of its own, as that of `Bytes`.
+impl Drop for Features {
+    fn drop(self) {
+        let Features {
+            control: _,
+            types: _,
+            isbns: _,
+            titles: _,
+            dates: _,
+            names: _,
+        } = self;
+    }
 }

@@ -10,7 +10,7 @@ use union_base::copied::Copied;
 use union_base::memory::Memory;
 
 /// What features are looked up by (this project's own). Features that meet have a key in common.
-#[derive(Debug, PartialEq, Eq, Hash, Drop)]
+#[derive(Debug, PartialEq, Eq, Hash)]
 pub enum FeatureKey {
     /// A control pair: the source and the number.
     Control(ControlPair),
@@ -18,6 +18,17 @@ pub enum FeatureKey {
     Isbn([u8; 13]),
     /// A title in normal form.
     Title(Bytes),
+}
+
+/// A drop of its own, as that of `Bytes`.
+impl Drop for FeatureKey {
+    fn drop(self) {
+        match self {
+            FeatureKey::Control(_) => (),
+            FeatureKey::Isbn(_) => (),
+            FeatureKey::Title(_) => (),
+        }
+    }
 }
 
 impl Copied for FeatureKey {

@@ -23,15 +23,6 @@ loop-key-preserved c =
       room = room_rest c.loop-key.self c.put_in_one.new.self _ rest (subst (HasRoom c.loop-key.self.room) c.in-Some.ensures.steps.0 c.loop-key.invariant.room) c.put_in_one.ensures;
     }
 
-pub loop-key-preserved-in-Some : goal.loop-key-preserved-in-Some
-loop-key-preserved-in-Some c =
-    let rest = c.next.new.self.rest.items in
-    record {
-      done = puts_in_more c.args.self.now c.loop-key.self c.put_in_one.new.self c.loop-key.yielded _ c.loop-key.invariant.done c.put_in_one.ensures;
-      all = c.loop-key.invariant.all ∙ ap (λ xs. c.loop-key.yielded ++ xs) c.in-Some.ensures.steps.0 ∙ sym (append_assoc c.loop-key.yielded ((c.in-Some.key, c.in-Some.id) ∷ []) rest);
-      room = room_rest c.loop-key.self c.put_in_one.new.self _ rest (subst (HasRoom c.loop-key.self.room) c.in-Some.ensures.steps.0 c.loop-key.invariant.room) c.put_in_one.ensures;
-    }
-
 pub returns : goal.returns
 returns c =
     let none : c.loop-key.key-iterator.rest.items ≡ [] = nil_from_length _ (sym c.loop-key.key-iterator.rest.ok.0 ∙ c.in-None.ensures.steps.0) in
