@@ -5,7 +5,7 @@ mod HomeLaws
 mod Apart
 mod Placing
 mod Growing
-mod Looking
+pub mod Looking
 mod Housing
 mod PlanLaws
 mod TurnLaws

@@ -1,116 +1,40 @@
--- Looking for an edition in a list of them, and which ids the editions of a history have as contributors.
-use Rattle.std.proofs.Common.{◌≡◌, ℕ, zero, suc, ◌<◌, ◌≤◌, Bool, true, false, cond, ◌||◌, ◌↔◌, IsTrue, List, [], ◌∷◌, ◌++◌, length, get_or, Contains, Bor, refl, sym, ap, subst, ◌∙◌, inl, inr, arith}
-use Rattle.std.specs.Prelude.{◌⊎◌, find, not, fold, Option, Some, None, is_some, is_none, slice_get}
+-- Looking for an edition by a contributor, and which ids the editions of a history have as contributors.
+use Rattle.std.proofs.Common.{◌≡◌, ℕ, Bool, true, false, cond, ◌||◌, ◌↔◌, IsTrue, List, [], ◌∷◌, length, Contains, Bor, refl, sym, ap, subst, ◌∙◌, inl, inr, arith}
+use Rattle.std.specs.Prelude.{◌⊎◌, find, not, fold, Option, Some, None, is_some, is_none}
 use Rattle.std.specs.Option.{option_map, option_and_then, option_flatten, option_copied}
-use Rattle.std.specs.Slice.{IsItemAt}
-use Rattle.std.proofs.lemmas.Option.{slice_get_past, slice_get_read}
 use Rattle.std.specs.List.{list_all, list_any}
-use Rattle.std.specs.List.Sorted.{IsPartitionedBy, IsPartitionPoint}
-use Rattle.std.specs.declared.cmp.Ordering.{Ordering}
 use Rattle.std.specs.declared.cmp.Ordering.TheVariants.{Less, Equal, Greater}
-use Rattle.std.specs.Ordering.{match_ordering, is_lt, is_eq}
+use Rattle.std.specs.Ordering.{match_ordering, is_eq}
 use Rattle.std.specs.BTreeMap.{is_at, insert_entry}
 use Rattle.std.specs.Map.{lookup, remove_entry, values_of}
 use Rattle.std.specs.Cmp.{both_ways}
-use Rattle.std.proofs.Math.Decide.{dec_lt}
-use Rattle.std.proofs.lemmas.List.{map-append, length-map}
-use Rattle.std.proofs.lemmas.List.Sums.{fold-append}
+use Rattle.std.proofs.lemmas.List.{length-map}
 use Rattle.union_base.specs.Both.{both_true}
-use Rattle.union_base.specs.SortedLists.{has, is_ascending}
+use Rattle.union_base.specs.SortedLists.{has}
 use Rattle.union_base.specs.IdLaws.{ids_apart}
 use Rattle.union_base.proofs.SortedListLaws.{has-union}
 use Rattle.union_base.specs.declared.record_id.RecordId.{RecordId}
 use Rattle.merge_laws.specs.Resolution.{member, IsResolution}
-use Rattle.merge_laws.proofs.Places.{Contains-head, Contains-tail, Contains-cases, AllPairs-none}
-use Rattle.merge_laws.proofs.Resolutions.{IsResolution-from_apart}
+use Rattle.merge_laws.proofs.Places.{Contains-head, Contains-tail, Contains-cases}
 use Rattle.merge_laws.proofs.Tags.{tag-from_dominated, member-from_tag}
 use Rattle.field_merge.specs.Kept.{id_cmp}
 use Rattle.field_merge.specs.KeptLaws.{id_total}
-use Rattle.work_clusters.specs.Works.{works_of}
-use Rattle.catalogue_core.specs.EditionKeys.{work_pairs}
 use Rattle.catalogue_core.specs.Batches.{is_one_of, is_own_op}
-use Rattle.catalogue_core.specs.Ids.{first_id, least, edition_cmp}
+use Rattle.catalogue_core.specs.Ids.{first_id, least}
 use Rattle.catalogue_core.specs.Joining.{join}
 use Rattle.catalogue_core.specs.JoinLaws.{edition_join_laws}
 use Rattle.catalogue_core.specs.Matching.{match}
 use Rattle.catalogue_core.specs.MatchLaws.{edition_match_laws}
-use Rattle.catalogue_core.specs.Histories.{MapOf, at_id, is_current, after_op, after_batch, current, bases, AreEditionsOf}
-use Rattle.catalogue_core.specs.Keeping.{batches, loaded_at, map_values, StandFor}
-use Rattle.catalogue_core.specs.PlainKeeping.{IsKeptPlainly}
+use Rattle.catalogue_core.specs.Histories.{MapOf, is_current, after_op, after_batch, current, bases, AreEditionsOf}
+use Rattle.catalogue_core.specs.Keeping.{loaded_at, StandFor}
 use Rattle.catalogue_core.specs.Plans.{AreSingle}
-use Rattle.catalogue_core.specs.Resolutions.{IsOrderedResolution}
-use Rattle.catalogue_core.specs.Walks.{first_of, holder_of}
+use Rattle.catalogue_core.specs.Walks.{holder_of}
 use Rattle.catalogue_core.specs.declared.edition.Edition.{Edition}
 use Rattle.catalogue_core.specs.declared.op.Op.{Op}
 use Rattle.catalogue_core.specs.declared.op.Op.TheVariants.{Load, Withdraw}
 use Rattle.catalogue_core.specs.declared.batch.Batch.{Batch}
 use Rattle.catalogue_core.specs.declared.history_entry.HistoryEntry.{HistoryEntry}
 use Rattle.catalogue_core.specs.declared.place.Place.{Place}
-use Rattle.catalogue_core.proofs.Placing.{lookup-values}
-
--- ---- the first that passes, among values of which those that fail come first
-
-find-at : {A : Type 0} (p : A → Bool) (xs : List A) (i : ℕ) → ((k : ℕ) (d : A) → k < i → p (get_or xs k d) ≡ false) → ((d : A) → i < length xs → p (get_or xs i d) ≡ true)
-    → i ≤ length xs → find p xs ≡ slice_get xs i
-find-at p [] i below at le = refl
-find-at p (x ∷ xs) zero below at le = ap (λ b. cond b (Some x) (find p xs)) (at x (omega arith))
-find-at p (x ∷ xs) (suc i) below at le =
-    ap (λ b. cond b (Some x) (find p xs)) (below 0 x (omega arith))
-    ∙ find-at p xs i (λ k d lt. below (suc k) d (omega arith)) (λ d lt. at d (omega arith)) (omega arith)
-
-not-true : (b : Bool) → not b ≡ true → b ≡ false
-not-true true h = cc
-not-true false h = refl
-
-not-false : (b : Bool) → not b ≡ false → b ≡ true
-not-false true h = refl
-not-false false h = cc
-
-pub find-partition : {A : Type 0} (p : A → Bool) (xs : List A) (i : ℕ) → IsPartitionPoint (λ y. not (p y) ≡ true) (λ y. not (p y) ≡ false) xs i → i ≤ length xs
-    → find p xs ≡ slice_get xs i
-find-partition p xs i h le =
-    find-at p xs i (λ k d lt. not-true (p (get_or xs k d)) (h.0 k d (omega arith) lt)) (λ d lt. not-false (p (get_or xs i d)) (h.1 i d (omega arith) lt)) le
-
--- editions in order whose least contributor is not behind an id come before the others
-
-all-place : {A : Type 0} (p : A → Bool) (xs : List A) → list_all p xs ≡ true → (j : ℕ) (d : A) → j < length xs → p (get_or xs j d) ≡ true
-all-place p [] all j d lt = absurd (omega arith)
-all-place p (x ∷ xs) all zero d lt = (both_true (p x) (list_all p xs) all).0
-all-place p (x ∷ xs) all (suc j) d lt = all-place p xs (both_true (p x) (list_all p xs) all).1 j d (omega arith)
-
-ascending-places : (xs : List Edition) → is_ascending edition_cmp xs ≡ true → (i j : ℕ) (d : Edition) → i < j → j < length xs
-    → is_lt (edition_cmp (get_or xs i d) (get_or xs j d)) ≡ true
-ascending-places [] up i j d ij jl = absurd (omega arith)
-ascending-places (x ∷ xs) up i zero d ij jl = absurd (omega arith)
-ascending-places (x ∷ xs) up zero (suc j) d ij jl =
-    all-place (λ y. is_lt (edition_cmp x y)) xs (both_true (list_all (λ y. is_lt (edition_cmp x y)) xs) (is_ascending edition_cmp xs) up).0 j d (omega arith)
-ascending-places (x ∷ xs) up (suc i) (suc j) d ij jl =
-    ascending-places xs (both_true (list_all (λ y. is_lt (edition_cmp x y)) xs) (is_ascending edition_cmp xs) up).1 i j d (omega arith) (omega arith)
-
-less-from_is_lt : (r : Ordering) → is_lt r ≡ true → r ≡ Less
-less-from_is_lt Less h = refl
-less-from_is_lt Equal h = cc
-less-from_is_lt Greater h = cc
-
--- what is before an id is behind neither that id nor what follows
-not-behind : (id a b : RecordId) → is_lt (id_cmp a b) ≡ true → not (is_lt (id_cmp id b)) ≡ true → not (is_lt (id_cmp id a)) ≡ true
-not-behind id a b ab h =
-    elim (is_lt (id_cmp id a)) as (λ t. is_lt (id_cmp id a) ≡ t → not t ≡ true) [
-      | true ↦ λ e. (let less : id_cmp id b ≡ Less = id_total.trans id a b (less-from_is_lt (id_cmp id a) e) (less-from_is_lt (id_cmp a b) ab) in
-          absurd (let clash : false ≡ true = sym (ap (λ r. not (is_lt r)) less) ∙ h in cc))
-      | false ↦ λ e. refl
-    ] refl
-
-pub partitioned : (id : RecordId) (xs : List Edition) → is_ascending edition_cmp xs ≡ true → IsPartitionedBy (λ e. not (is_lt (id_cmp id (least e)))) xs
-partitioned id xs up i j d le jl h =
-    elim (dec_lt i j) [
-      | yes lt ↦ not-behind id (least (get_or xs i d)) (least (get_or xs j d)) (ascending-places xs up i j d lt jl) h
-      | no ge ↦ (let same : j ≡ i = omega arith in ap (λ k. not (is_lt (id_cmp id (least (get_or xs k d))))) (sym same) ∙ h)
-    ]
-
-pub got-place : (xs : List Edition) (i : ℕ) (got : Option (Bor Edition)) → IsItemAt xs i got → option_copied got ≡ slice_get xs i
-got-place xs i None h = sym (slice_get_past xs i h.3)
-got-place xs i (Some x) h = sym (slice_get_read xs (length xs) i x.now refl h.3.0 h.1)
 
 pub none-copied : (got : Option (Bor Edition)) → is_none (option_copied got) ≡ is_none got
 none-copied None = refl
@@ -120,10 +44,6 @@ pub is_some-find : {A : Type 0} (p : A → Bool) (xs : List A) → is_some (find
 is_some-find p [] = refl
 is_some-find p (x ∷ xs) =
     elim (p x) as (λ b. is_some (cond b (Some x) (find p xs)) ≡ (b || list_any p xs)) [ true ↦ refl | false ↦ is_some-find p xs ]
-
-pub first-first_of : (xs : List Edition) → slice_get xs 0 ≡ first_of xs
-first-first_of [] = refl
-first-first_of (x ∷ xs) = refl
 
 -- ---- some value passes
 
@@ -222,33 +142,6 @@ pub holder-current : (history : List HistoryEntry) (editions : List Edition) →
 holder-current history editions r id =
     ap not (is_some-find (bears id) editions ∙ bears-resolution (bases history) editions r.resolved id ∙ bears-current (current history) (single-turns [] history tt) id)
 
--- ---- what a catalogue keeps
-
-pub kept-empty : IsKeptPlainly [] [] [] []
-kept-empty = record {
-  current = record { loads = refl };
-  resolved = record {
-    resolved = IsResolution-from_apart edition_join_laws edition_match_laws [] [] (λ e (k, kl, h). absurd (omega arith)) (λ x (k, kl, h). absurd (omega arith)) (AllPairs-none (λ x y. (IsTrue (match x y) → ⊥) × (IsTrue (match y x) → ⊥)));
-    ascending = refl;
-  };
-  clustered = refl;
-}
-
-pub kept-turn : (history : List HistoryEntry) (number : ℕ) (batch : Batch) (places : MapOf Place) (editions : List Edition) (works : List (List ℕ × List RecordId))
-    → StandFor (batches history ++ batch ∷ []) places (after_batch (current history) batch)
-    → IsOrderedResolution (values_of (after_batch (current history) batch)) editions
-    → works ≡ works_of (work_pairs editions)
-    → IsKeptPlainly (history ++ record { pass = number; batch = batch } ∷ []) places editions works
-kept-turn history number batch places editions works s r w =
-    let turn : HistoryEntry = record { pass = number; batch = batch } in
-    let now : current (history ++ turn ∷ []) ≡ after_batch (current history) batch = fold-append (λ all (entry : HistoryEntry). after_batch all entry.batch) [] history (turn ∷ []) in
-    let all : batches (history ++ turn ∷ []) ≡ batches history ++ batch ∷ [] = map-append (λ (t : HistoryEntry). t.batch) history (turn ∷ []) in
-    record {
-      current = record { loads = ap (λ bs. map_values (loaded_at bs) places) all ∙ s.loads ∙ ap (map_values Some) (sym now) };
-      resolved = subst (λ list. IsOrderedResolution list editions) (ap values_of (sym now)) r;
-      clustered = w;
-    }
-
 -- the base under an id
 pub flat-then : {A B : Type 0} (f : A → Option B) (o : Option A) → option_flatten (option_map f o) ≡ option_and_then f o
 flat-then f None = refl
@@ -257,13 +150,6 @@ flat-then f (Some x) = refl
 pub flat-some : {A : Type 0} (o : Option A) → option_flatten (option_map Some o) ≡ o
 flat-some None = refl
 flat-some (Some x) = refl
-
-pub base-kept : (all : List Batch) (places : MapOf Place) (editions : MapOf Edition) → StandFor all places editions → (id : RecordId)
-    → option_and_then (loaded_at all) (at_id places id) ≡ at_id editions id
-base-kept all places editions s id =
-    sym (flat-then (loaded_at all) (at_id places id))
-    ∙ ap option_flatten (sym (lookup-values (loaded_at all) places (is_at (id_cmp id))) ∙ ap (lookup (is_at (id_cmp id))) s.loads ∙ lookup-values Some editions (is_at (id_cmp id)))
-    ∙ flat-some (at_id editions id)
 
 pub length-kept : (all : List Batch) (places : MapOf Place) (editions : MapOf Edition) → StandFor all places editions → length places ≡ length (values_of editions)
 length-kept all places editions s =

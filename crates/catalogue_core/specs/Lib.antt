@@ -22,7 +22,6 @@ pub mod Histories
 pub mod Walks
 pub mod Keeping
 pub mod Net
-pub mod PlainKeeping
 pub mod Homes
 pub mod Plans
 pub mod Reaches

@@ -4,26 +4,38 @@
 //! Where it runs out the catalogue is as before. Then everything is installed, which wants no memory and is not refused.
 ghost use Rattle.std.specs.Prelude.{◌≡◌, ◌++◌, ◌∷◌, [], IfOk, OnOk, OnErr};
 ghost use Rattle.swoosh_resolver.specs.Tables.{values_of};
-ghost use Rattle.catalogue_core.specs.EditionKeys.{work_pairs, closed_pairs};
+ghost use Rattle.catalogue_core.specs.EditionKeys.{work_key_of, work_pairs, closed_pairs};
 ghost use Rattle.catalogue_core.specs.Histories.{after_batch, current};
+ghost use Rattle.catalogue_core.specs.Ids.{least};
 ghost use Rattle.catalogue_core.specs.Keeping.{batches};
 ghost use Rattle.catalogue_core.specs.Kept.{IsKept};
 ghost use Rattle.catalogue_core.specs.Plans.{IsPlanned};
 
-use crate::clustering::work_pair;
 use crate::edition::Edition;
 use crate::history_entry::HistoryEntry;
 use crate::home::Home;
 use crate::homes::{admit, house_all, move_all, standing};
 use crate::plan::Plan;
+use crate::work_key::work_key_of;
 use std::alloc::Global;
 use std::collections::BTreeMap;
 use swoosh_resolver::blocks::Blocks;
+use swoosh_resolver::change::Change;
 use swoosh_resolver::keyed::Keyed;
 use union_base::bytes::Bytes;
+use union_base::copied::Copied;
 use union_base::memory::Memory;
 use union_base::record_id::RecordId;
+use work_clusters::change::WorkChange;
 use work_clusters::works::Works;
+
+/// The work key of the edition, with a copy of its least contributor. Memory where it runs out.
+fn work_pair(alloc: Global, edition: &Edition) -> Result<(Bytes, RecordId), Memory>
+    ensures { IfOk result (λ pair. pair ≡ (work_key_of edition.now, least edition.now)) }
+{
+    let key = work_key_of(alloc, edition)?;
+    Ok((key, edition.least().copied(alloc)?))
+}
 
 /// The work keys of the blocks under the numbers, each with its edition's least contributor. Memory where it runs out.
 fn closed_pairs(
@@ -53,6 +65,21 @@ fn opened_pairs(alloc: Global, opened: &[Keyed<Edition>]) -> Result<Vec<(Bytes, 
     Ok(pairs)
 }
 
+/// The change of the works that goes with one of the blocks. Memory where it runs out.
+fn regrouped(
+    alloc: Global,
+    blocks: &Blocks<Edition>,
+    works: &Works,
+    change: &Change<Edition>,
+) -> Result<WorkChange, Memory>
+    ensures gone { IfOk result (λ works. works.gone ≡ closed_pairs blocks.now.blocks change.now.closed.items) }
+    ensures come { IfOk result (λ works. works.come ≡ work_pairs (values_of change.now.opened.items)) }
+{
+    let gone = closed_pairs(alloc, blocks, change.closed.as_slice())?;
+    let come = opened_pairs(alloc, change.opened.as_slice())?;
+    works.plan(alloc, gone, come)
+}
+
 /// Appends the turn to the history, and makes the homes, the blocks and the works those of the plan. Memory where it runs out;
 /// then all is as before, but for room.
 pub fn install(
@@ -72,10 +99,8 @@ pub fn install(
     ensures appended { OnOk result (history.new.items ≡ history.old.items ++ entry ∷ []) }
     ensures same { OnErr result (history.new.items ≡ history.old.items) }
 {
-    let gone = closed_pairs(alloc, blocks, plan.change.closed.as_slice())?;
-    let come = opened_pairs(alloc, plan.change.opened.as_slice())?;
     let ids = standing(alloc, &plan.touched)?;
-    let regrouped = works.plan(alloc, gone, come)?;
+    let regrouped = regrouped(alloc, blocks, works, &plan.change)?;
     works.make_room(alloc, &regrouped)?;
     let numbers = blocks.make_room(alloc, &plan.change)?;
     history.reserve(1)?;

@@ -17,11 +17,6 @@
 pub mod batch;
 mod by_key;
 pub mod catalogue;
-#[cfg(test)]
-mod catalogue_tests;
-mod clustering;
-#[cfg(test)]
-mod comparing_tests;
 pub mod edition;
 pub mod history_entry;
 mod home;
@@ -40,17 +35,10 @@ pub mod outcome;
 mod parts_planning;
 mod parts_turn;
 mod place;
-pub mod plain_catalogue;
-mod plain_turn;
 mod plan;
 mod planning;
 pub mod prepared;
-#[cfg(test)]
-mod prepared_tests;
 pub mod records;
-#[cfg(test)]
-mod tests;
 mod turn;
 mod walk;
-mod walking;
 pub mod work_key;

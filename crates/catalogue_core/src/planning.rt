@@ -30,7 +30,6 @@ use crate::op::Op;
 use crate::outcome::Outcome;
 use crate::place::Place;
 use crate::plan::Plan;
-use crate::walking::has_contributor;
 use cluster_reopen::parts::reopen;
 use merge_laws::join::Join;
 use merge_laws::steps::Steps;
@@ -122,6 +121,14 @@ fn kept_holder(
         Some(_) => Some(home.block),
         None => None,
     }
+}
+
+/// Whether the record of that id is a contributor. Takes no memory.
+fn has_contributor(edition: &Edition, id: &RecordId) -> bool
+    ensures { result ≡ has_contributor id.now edition.now }
+{
+    let ids = edition.content().contributors.as_slice();
+    ids.iter().any(|other| id.cmp(other).is_eq())
 }
 
 /// The place of the first of the opened values that has the contributor: None exactly where none has it. Takes no memory.

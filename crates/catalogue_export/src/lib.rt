@@ -16,6 +16,4 @@ mod fields;
 mod fitting;
 pub mod laws;
 pub mod pending;
-#[cfg(test)]
-mod tests;
 pub mod works_text;

@@ -74,6 +74,4 @@ pub mod desk;
 pub mod machine;
 pub mod pass;
 pub mod root;
-#[cfg(test)]
-mod tests;
 pub mod view;

@@ -7,13 +7,9 @@
 #![tactic(auto)]
 
 pub mod answer;
-#[cfg(test)]
-mod answer_tests;
 pub mod answering;
 mod grammar;
 mod lines;
 pub mod query;
 mod telling;
-#[cfg(test)]
-mod tests;
 mod word;

@@ -1,2 +1,1 @@
-mod Holding
 mod Splitting

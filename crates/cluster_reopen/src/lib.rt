@@ -5,14 +5,10 @@
 //! parts that they come to take the place of the block. All other blocks stay as they are.
 //!
 //! Guarantee: `reopen` answers the resolution of what is left, and by `laws` the view with the parts in place of the block is
-//! the resolution of the list without the withdrawn value, where no part matches another block. `withdrawal` plans this for
-//! the view of a change. Cost: at most k * k match tests for k values that are left, whatever the number of blocks; values
-//! are moved and never copied. The definitions are in specs/Resolution.antt and specs/Withdrawal.antt of merge_laws, and in
-//! specs/Withdrawals.antt.
+//! the resolution of the list without the withdrawn value, where no part matches another block. Cost: at most k * k match
+//! tests for k values that are left, whatever the number of blocks; values are moved and never copied. The definitions are
+//! in specs/Resolution.antt and specs/Withdrawal.antt of merge_laws.
 #![tactic(auto)]
 
 pub mod laws;
 pub mod parts;
-#[cfg(test)]
-mod tests;
-pub mod withdrawal;

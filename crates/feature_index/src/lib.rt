@@ -10,5 +10,3 @@
 mod places;
 pub mod postings;
 mod row;
-#[cfg(test)]
-mod tests;

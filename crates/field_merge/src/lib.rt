@@ -18,5 +18,3 @@ pub mod merging;
 pub mod parts;
 pub mod rank;
 pub mod slot;
-#[cfg(test)]
-mod tests;

@@ -6,5 +6,3 @@
 #![tactic(auto)]
 
 pub mod holdings;
-#[cfg(test)]
-mod tests;

@@ -14,6 +14,4 @@ pub mod control;
 pub mod isbn;
 pub mod issn;
 pub mod lccn;
-#[cfg(test)]
-mod tests;
 mod text;

@@ -9,5 +9,3 @@
 pub mod cut;
 pub mod cutter;
 pub mod stream;
-#[cfg(test)]
-mod tests;

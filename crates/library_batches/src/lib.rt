@@ -16,5 +16,3 @@ pub mod laws;
 pub mod outcome_counts;
 pub mod refused;
 pub mod stop;
-#[cfg(test)]
-mod tests;

@@ -11,7 +11,3 @@ pub mod answer;
 pub mod course;
 pub mod frame_reader;
 mod piece;
-#[cfg(test)]
-mod streams;
-#[cfg(test)]
-mod tests;

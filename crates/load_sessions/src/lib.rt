@@ -20,6 +20,4 @@ pub mod report;
 pub mod running;
 pub mod served;
 pub mod session;
-#[cfg(test)]
-mod tests;
 mod turning;

@@ -14,6 +14,4 @@ pub mod laws;
 pub mod marc_record;
 pub mod rules;
 pub mod shape;
-#[cfg(test)]
-mod tests;
 pub mod tiling;

@@ -10,5 +10,3 @@ pub mod codes;
 pub mod entry;
 pub mod leader;
 pub mod numeral;
-#[cfg(test)]
-mod tests;

@@ -7,6 +7,4 @@
 
 pub mod loads;
 pub mod parts;
-#[cfg(test)]
-mod tests;
 pub mod trimming;

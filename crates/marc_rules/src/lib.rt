@@ -8,5 +8,3 @@ pub mod contents;
 pub mod laws;
 pub mod numbers;
 pub mod parts;
-#[cfg(test)]
-mod tests;

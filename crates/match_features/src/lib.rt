@@ -15,5 +15,3 @@ pub mod keys;
 pub mod laws;
 pub mod meeting;
 pub mod of_record;
-#[cfg(test)]
-mod tests;

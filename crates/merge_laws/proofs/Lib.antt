@@ -1,4 +1,3 @@
-mod Digits
 pub mod Inserting
 pub mod Places
 pub mod Resolutions

@@ -1,4 +1,3 @@
 pub mod Reach
 pub mod Resolution
-pub mod SmallSets
 pub mod Withdrawal

@@ -12,8 +12,5 @@
 pub mod join;
 pub mod laws;
 pub mod resolvable;
-pub mod small_sets;
 pub mod steps;
 pub mod swoosh;
-#[cfg(test)]
-mod tests;

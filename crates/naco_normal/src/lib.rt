@@ -16,6 +16,4 @@ mod ascii;
 pub mod form;
 pub mod heading;
 mod letters;
-#[cfg(test)]
-mod tests;
 mod words;

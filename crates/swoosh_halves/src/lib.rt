@@ -10,5 +10,3 @@
 
 pub mod halves;
 mod strangers;
-#[cfg(test)]
-mod tests;

@@ -16,5 +16,3 @@ pub mod keyed;
 pub mod opened;
 mod posting;
 mod split;
-#[cfg(test)]
-mod tests;

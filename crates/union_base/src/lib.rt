@@ -14,5 +14,3 @@ pub mod sequence;
 pub mod sorted_list;
 pub mod subfield;
 pub mod subfields;
-#[cfg(test)]
-mod tests;

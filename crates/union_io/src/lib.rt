@@ -25,6 +25,4 @@ pub mod source;
 pub mod sure_shelf;
 pub mod sure_sink;
 pub mod sure_source;
-#[cfg(test)]
-mod tests;
 pub mod writer_sink;

@@ -6,5 +6,3 @@
 
 pub mod lines;
 pub mod reports;
-#[cfg(test)]
-mod tests;

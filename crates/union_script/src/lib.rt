@@ -18,8 +18,6 @@ mod loading;
 pub mod run;
 mod saying;
 mod stops;
-#[cfg(test)]
-mod tests;
 pub mod text_file;
 mod union;
 mod whole;

@@ -11,7 +11,5 @@ pub mod measuring;
 pub mod numerals;
 pub mod operations;
 pub mod records;
-#[cfg(test)]
-mod tests;
 pub mod texts;
 pub mod trial;

@@ -15,6 +15,4 @@ pub mod ask_line;
 pub mod laws;
 mod lines;
 pub mod questions;
-#[cfg(test)]
-mod tests;
 pub mod writing;

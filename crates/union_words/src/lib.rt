@@ -15,8 +15,6 @@ pub mod lines;
 pub mod number;
 pub mod script_line;
 pub mod status;
-#[cfg(test)]
-mod tests;
 pub mod texts;
 pub mod trial;
 pub mod workers;

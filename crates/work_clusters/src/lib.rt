@@ -12,7 +12,5 @@
 pub mod change;
 mod ids;
 pub mod laws;
-#[cfg(test)]
-mod tests;
 mod work;
 pub mod works;

@@ -7,7 +7,5 @@
 
 pub mod fields;
 mod names;
-#[cfg(test)]
-mod tests;
 mod texts;
 pub mod work_key;

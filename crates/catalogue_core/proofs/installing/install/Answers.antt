@@ -1,9 +1,4 @@
 use Rattle.std.proofs.Common.{rules, ◌≡◌, List, sym, ap, ◌∙◌}
-use Rattle.std.specs.Prelude.{Result, Ok}
-use Rattle.swoosh_resolver.specs.Tables.{values_of}
-use Rattle.work_clusters.specs.declared.change.WorkChange.{WorkChange}
-use Rattle.union_base.specs.declared.memory.Memory.{Memory}
-use Rattle.catalogue_core.specs.EditionKeys.{work_pairs, closed_pairs}
 use Rattle.catalogue_core.specs.Homes.{Block, housed_all}
 use Rattle.catalogue_core.proofs.InstallLaws.{installed}
 use Rattle.catalogue_core.proofs.installing.install.Goals as goal
@@ -11,19 +6,17 @@ use Rattle.catalogue_core.proofs.installing.install.Goals as goal
 pub returns-clause-kept : goal.returns-clause-kept
 returns-clause-kept c =
     let change = c.args.plan.change in
-    let regrouped : c.in_ok-regrouped.regrouped ≡ record { gone = c.in_ok-gone.gone.items; come = c.in_ok-come.come.items } =
-    (let both : ◌≡◌ {A = Result WorkChange Memory} (Ok c.in_ok-regrouped.regrouped) (Ok (record { gone = c.in_ok-gone.gone.items; come = c.in_ok-come.come.items })) = sym c.in_ok-regrouped.was ∙ c.plan.ensures in cc) in
     installed c.args.history.now.items c.args.entry c.args.homes.now.entries c.args.blocks.now.blocks c.args.works.now.works c.requires.kept
     change.closed.items change.opened.items c.args.plan.touched.entries c.requires.planned
     c.in_ok-ids.ids.items c.in_ok-ids.ensures
-    c.admit.new.homes.entries (rw c.as_slice-3.ensures.value at c.in_ok-admit.ensures.admitted)
+    c.admit.new.homes.entries (rw c.as_slice.ensures.value at c.in_ok-admit.ensures.admitted)
     c.move_all.new.homes.entries c.move_all.ensures
     c.in_ok-numbers.numbers.items c.in_ok-numbers.ensures.numbers
-    c.house_all.new.homes.entries (c.house_all.ensures ∙ ap (λ (es : List Block). housed_all c.move_all.new.homes.entries es c.as_slice-5.result.now) c.as_slice-4.ensures.value ∙ ap (housed_all c.move_all.new.homes.entries change.opened.items) c.as_slice-5.ensures.value)
+    c.house_all.new.homes.entries (c.house_all.ensures ∙ ap (λ (es : List Block). housed_all c.move_all.new.homes.entries es c.as_slice-3.result.now) c.as_slice-2.ensures.value ∙ ap (housed_all c.move_all.new.homes.entries change.opened.items) c.as_slice-3.ensures.value)
     c.make_room-2.new.self.blocks c.make_room-2.ensures.blocks
     c.install.new.self.blocks c.install.ensures.kept c.install.ensures.opened c.install.ensures.view
     c.in_ok-regrouped.regrouped.gone c.in_ok-regrouped.regrouped.come
-    (ap (λ (w : WorkChange). w.gone) regrouped ∙ c.in_ok-gone.ensures ∙ ap (closed_pairs c.args.blocks.now.blocks) c.as_slice.ensures.value)
-    (ap (λ (w : WorkChange). w.come) regrouped ∙ c.in_ok-come.ensures ∙ ap (λ (es : List Block). work_pairs (values_of es)) c.as_slice-2.ensures.value)
+    c.in_ok-regrouped.ensures.gone
+    c.in_ok-regrouped.ensures.come
     c.make_room.new.self.works c.install-2.new.self.works c.make_room.ensures.works c.install-2.ensures
     c.reserve.new.self.items c.push.new.self.items c.reserve.ensures.items (search rules)

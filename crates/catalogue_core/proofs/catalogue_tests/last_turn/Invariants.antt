@@ -1,5 +1,0 @@
--- the ledger of this one catalogue
-use Rattle.catalogue_core.proofs.catalogue_tests.last_turn.Given as goal
-
-abbrev pub ghosts-bridge_goes : goal.ghosts-bridge_goes
-ghosts-bridge_goes a b = record { name = b.blank.name; parts = b.blank.parts }

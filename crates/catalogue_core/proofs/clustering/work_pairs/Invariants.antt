@@ -1,6 +1,0 @@
-use Rattle.std.proofs.Common.{◌≡◌, take}
-use Rattle.catalogue_core.specs.EditionKeys.{work_pairs}
-use Rattle.catalogue_core.proofs.clustering.work_pairs.Given as goal
-
-abbrev pub invariant-loop-edition : goal.invariant-loop-edition
-invariant-loop-edition l = l.pairs.items ≡ work_pairs (take l.edition-index l.editions)

@@ -1,5 +1,0 @@
--- the ledger of this one catalogue
-use Rattle.catalogue_core.proofs.comparing_tests.drawn_histories.Given as goal
-
-abbrev pub ghosts-agree : goal.ghosts-agree
-ghosts-agree a b = record { name = b.blank.name; parts = b.blank.parts }

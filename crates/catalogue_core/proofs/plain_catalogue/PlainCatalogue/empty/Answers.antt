@@ -1,5 +1,0 @@
-use Rattle.catalogue_core.proofs.Looking.{kept-empty}
-use Rattle.catalogue_core.proofs.plain_catalogue.PlainCatalogue.empty.Goals as goal
-
-pub invariant_of-result : goal.invariant_of-result
-invariant_of-result c = rw (c.new.ensures.items, c.new-2.ensures.empty, c.new-3.ensures.items, c.empty.ensures) kept-empty

@@ -1,5 +1,0 @@
--- the ledger of these two catalogues
-use Rattle.catalogue_core.proofs.prepared_tests.prepared_batch_that_merges.Given as goal
-
-abbrev pub ghosts-come_true : goal.ghosts-come_true
-ghosts-come_true a b = record { name = b.blank.name; parts = b.blank.parts }

@@ -1,6 +1,0 @@
-use Rattle.std.proofs.Common.{◌≤◌}
-use Rattle.catalogue_lock.specs.Tokens.{IsPassOf}
-use Rattle.catalogue_lock.proofs.tests.work.Given as goal
-
-abbrev pub invariant-loop-k : goal.invariant-loop-k
-invariant-loop-k g l = IsPassOf l.pass l.desk × (l.done ≤ l.k) × (l.answered ≤ l.k)

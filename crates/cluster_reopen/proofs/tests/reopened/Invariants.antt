@@ -1,5 +1,0 @@
--- the ledger of this one test
-use Rattle.cluster_reopen.proofs.tests.reopened.Given as goal
-
-abbrev pub ghosts-reopened_by : goal.ghosts-reopened_by
-ghosts-reopened_by a = record { name = a.blank.name; parts = a.blank.parts }

@@ -1,0 +1,28 @@
+//! The tests of the crates of the program's commands: union_words, union_script, union_trial, union_watch and union_program.
+//!
+//! What a proof cannot see is tested here by the public calls of each crate: the forms of words, worked files and their texts, each
+//! fault in turn, and sessions that are held by gates. The tests stand in a crate of their own since a crate with tests is
+//! proved twice, with them and without, and so are these libraries only once. There is a module for each of them, and two
+//! more for the program: `union_tests`, on several libraries at once, and `gate_tests`, on the order of their turns.
+#![tactic(auto)]
+
+#[cfg(test)]
+mod gate_tests;
+#[cfg(test)]
+mod records;
+#[cfg(test)]
+mod runs;
+#[cfg(test)]
+mod texts;
+#[cfg(test)]
+mod union_program_tests;
+#[cfg(test)]
+mod union_script_tests;
+#[cfg(test)]
+mod union_tests;
+#[cfg(test)]
+mod union_trial_tests;
+#[cfg(test)]
+mod union_watch_tests;
+#[cfg(test)]
+mod union_words_tests;

@@ -1,0 +1,184 @@
+//! Features whose expected values another program made, and worked records.
+use crate::frames::{next_library, next_record};
+use crate::made::{Made, is_written, makes, merges, next_pair};
+use crate::tables::{CELL_END, assert_cases};
+use match_features::control_pair::ControlPair;
+use match_features::features::Features;
+use match_features::keys::{FeatureKey, feature_keys};
+use match_features::of_record::features_of;
+use merge_laws::join::Join;
+use std::alloc::Global;
+use std::str::Split;
+use std::test::Fail;
+use union_base::bytes::Bytes;
+use union_base::copied::Copied;
+use union_base::memory::Memory;
+
+mod merged;
+mod pairs;
+mod records;
+mod worked;
+
+#[test]
+fn features_of_records(rt: HostRuntime) -> Result<(), Fail> {
+    assert_cases(&rt, rt.alloc(), records::RECORDS, 87, makes::<Features>)
+}
+
+#[test]
+fn matches_of_pairs(rt: HostRuntime) -> Result<(), Fail> {
+    assert_cases(&rt, rt.alloc(), pairs::PAIRS, 89, meet_or_not)
+}
+
+#[test]
+fn features_of_merges(rt: HostRuntime) -> Result<(), Fail> {
+    assert_cases(&rt, rt.alloc(), merged::MERGED, 64, merges::<Features>)
+}
+
+/// The number in front of a text is its ISBN, and a text without one gives none.
+#[test]
+fn isbn_in_a_text(rt: HostRuntime) -> Result<(), Fail> {
+    assert_cases(&rt, rt.alloc(), worked::ISBNS, 5, makes::<Features>)
+}
+
+/// One ISBN in its two forms makes one edition of two records of one type, and of no others.
+#[test]
+fn isbn_with_type(rt: HostRuntime) -> Result<(), Fail> {
+    assert_cases(&rt, rt.alloc(), worked::TYPES, 2, meet_or_not)
+}
+
+/// A copy has the same lists, and meets what it was copied from.
+#[test]
+fn copy_of_features(rt: HostRuntime) -> Result<(), Fail> {
+    assert_cases(&rt, rt.alloc(), worked::OWN, 1, copy_makes)
+}
+
+/// A library's own record is found by each of its numbers, its ISBN and its title.
+#[test]
+fn keys_of_a_record(rt: HostRuntime) -> Result<(), Fail> {
+    assert_cases(&rt, rt.alloc(), worked::OWN, 1, has_keys)
+}
+
+/// A pair has the two texts that it was made of, in its place or in a block, and is another where it is cut elsewhere.
+#[test]
+fn control_pairs(rt: HostRuntime) -> Result<(), Fail> {
+    let alloc = rt.alloc();
+    let short = ControlPair::of(alloc, b"DLC", b"75425165")?;
+    assert!(rt; is_pair(&short, b"DLC", b"75425165"));
+    let long = ControlPair::of(alloc, b"=LIBRARYLIBRARY7", b"123456789012345")?;
+    assert!(rt; is_pair(&long, b"=LIBRARYLIBRARY7", b"123456789012345"));
+    assert!(rt; short != ControlPair::of(alloc, b"DLC7", b"5425165")?);
+    Ok(())
+}
+
+fn is_pair(pair: &ControlPair, source: &[u8], number: &[u8]) -> bool {
+    pair.source() == source && pair.number() == number
+}
+
+/// Whether the two records of a case meet where that is expected, in both orders, and nowhere else.
+fn meet_or_not(alloc: Global, case: &str) -> Result<bool, Fail> {
+    let mut cells = case.split(CELL_END);
+    let (left, right) = next_pair::<Features>(alloc, &mut cells)?;
+    let met = cells.next() == Some("yes");
+    Ok(left.meets(&right) == met && right.meets(&left) == met)
+}
+
+/// Whether a copy of the features of a case's record is as expected, and meets what it was copied from.
+fn copy_makes(alloc: Global, case: &str) -> Result<bool, Fail> {
+    let mut cells = case.split(CELL_END);
+    let made = Features::next_made(alloc, &mut cells)?;
+    copy_is(alloc, &made, cells.next())
+}
+
+fn copy_is(alloc: Global, made: &Features, expected: Option<&str>) -> Result<bool, Fail> {
+    let copy = Join::copied(made, alloc)?;
+    Ok(copy.meets(made) && is_written(alloc, &copy, expected)?)
+}
+
+/// Whether the record of a case has the keys that are expected, by copies of them.
+fn has_keys(alloc: Global, case: &str) -> Result<bool, Fail> {
+    let mut cells = case.split(CELL_END);
+    let made = Features::next_made(alloc, &mut cells)?;
+    let _lists = cells.next();
+    keys_are(alloc, &made, cells.next())
+}
+
+fn keys_are(alloc: Global, made: &Features, expected: Option<&str>) -> Result<bool, Fail> {
+    let mut text = Vec::new(alloc);
+    push_keys(alloc, &mut text, &feature_keys(alloc, made)?)?;
+    Ok(expected.is_some_and(|expected| text.as_slice() == expected.as_bytes()))
+}
+
+impl Made for Features {
+    fn next_made(alloc: Global, cells: &mut Split<'_, char>) -> Result<Features, Fail> {
+        let library = next_library(cells)?;
+        let rec = next_record(alloc, cells)?;
+        Ok(features_of(alloc, &library, &rec)?)
+    }
+
+    /// The six lists parted by ` | `, their values by `; `, and a source in parentheses.
+    fn push_to(&self, text: &mut Vec<u8>) -> Result<(), Memory> {
+        push_pairs(text, self.control.as_slice())?;
+        push_arrays(text, self.types.as_slice())?;
+        push_arrays(text, self.isbns.as_slice())?;
+        push_texts(text, self.titles.as_slice())?;
+        push_arrays(text, self.dates.as_slice())?;
+        push_texts(text, self.names.as_slice())
+    }
+}
+
+fn push_pairs(text: &mut Vec<u8>, pairs: &[(Bytes, Bytes)]) -> Result<(), Memory> {
+    for (place, (source, number)) in pairs.iter().enumerate() {
+        push_gap(text, place)?;
+        push_pair(text, source.bytes(), number.bytes())?;
+    }
+    Ok(())
+}
+
+fn push_arrays<const N: usize>(text: &mut Vec<u8>, values: &[[u8; N]]) -> Result<(), Memory> {
+    text.extend_from_slice(b" | ")?;
+    for (place, value) in values.iter().enumerate() {
+        push_gap(text, place)?;
+        text.extend_from_slice(value)?;
+    }
+    Ok(())
+}
+
+fn push_texts(text: &mut Vec<u8>, values: &[Bytes]) -> Result<(), Memory> {
+    text.extend_from_slice(b" | ")?;
+    for (place, value) in values.iter().enumerate() {
+        push_gap(text, place)?;
+        text.extend_from_slice(value.bytes())?;
+    }
+    Ok(())
+}
+
+/// Pushes copies of the keys.
+fn push_keys(alloc: Global, text: &mut Vec<u8>, keys: &[FeatureKey]) -> Result<(), Memory> {
+    for (place, key) in keys.iter().enumerate() {
+        push_gap(text, place)?;
+        push_key(text, &key.copied(alloc)?)?;
+    }
+    Ok(())
+}
+
+fn push_key(text: &mut Vec<u8>, key: &FeatureKey) -> Result<(), Memory> {
+    match key {
+        FeatureKey::Control(pair) => push_pair(text, pair.source(), pair.number()),
+        FeatureKey::Isbn(isbn) => Ok(text.extend_from_slice(isbn)?),
+        FeatureKey::Title(title) => Ok(text.extend_from_slice(title.bytes())?),
+    }
+}
+
+fn push_pair(text: &mut Vec<u8>, source: &[u8], number: &[u8]) -> Result<(), Memory> {
+    text.push(b'(')?;
+    text.extend_from_slice(source)?;
+    text.push(b')')?;
+    text.extend_from_slice(number)?;
+    Ok(())
+}
+
+/// Pushes what stands in front of the value at the place of a list.
+fn push_gap(text: &mut Vec<u8>, place: usize) -> Result<(), Memory> {
+    text.extend_from_slice(if place == 0 { b"" } else { b"; " })?;
+    Ok(())
+}

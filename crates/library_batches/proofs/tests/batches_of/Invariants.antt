@@ -1,5 +1,0 @@
-use Rattle.library_stream.specs.Streaming.{most_ahead}
-use Rattle.library_batches.proofs.tests.batches_of.Given as goal
-
-abbrev pub decreases-loop-batches : goal.decreases-loop-batches
-decreases-loop-batches g l = most_ahead l.reader.stream

@@ -1,0 +1,139 @@
+//! Two libraries at one desk, on one worker and on two, beside an asker; and the limit of a source.
+ghost use Rattle.std.specs.Prelude.{◌≤◌, ◌+◌, IfOk};
+ghost use Rattle.catalogue_lock.specs.Tokens.{IsRootOf, root_of};
+ghost use Rattle.load_sessions.specs.Sessions.{IsReady};
+
+use catalogue_lock::desk::Desk;
+use catalogue_lock::root::Root;
+use catalogue_query::query::Query;
+use load_sessions::asker::Asker;
+use load_sessions::end::End;
+use load_sessions::running::run_sessions;
+use load_sessions::served::Served;
+use load_sessions::session::Session;
+use std::alloc::Global;
+use std::sync::Wait;
+use std::test::Fail;
+use std::thread::Threads;
+use union_base::bytes::Bytes;
+use union_base::library_code::LibraryCode;
+use union_base::memory::Memory;
+use union_io::gate::OpenGate;
+use union_io::sure_source::SureSource;
+
+/// A record with the control number `id`, a frame that is too short, and a withdrawal of the record `b1`.
+const STREAM: &[u8] =
+    b"00114nam a2200061 a 4500001000300000008004100003245000800044\x1Eid\x1E240101s1999    xx                  eng d\x1E00\x1FaCat\x1E\x1D\x1D00041dam a2200037 a 4500001000300000\x1Eb1\x1E\x1D";
+
+/// The record with the control number `id`, of 114 bytes.
+const ONE: &[u8; 114] =
+    b"00114nam a2200061 a 4500001000300000008004100003245000800044\x1Eid\x1E240101s1999    xx                  eng d\x1E00\x1FaCat\x1E\x1D";
+
+/// A session of the library on these bytes, in pieces of 50 of them.
+fn session_at(
+    alloc: Global,
+    desk: &Desk<Served>,
+    root: &mut Root<Served>,
+    library: LibraryCode,
+    content: &[u8],
+    limit: u64,
+) -> Result<Session<SureSource>, Memory>
+    requires desk { IsRootOf root.old desk.now }
+    requires few { (root_of root.old).made ≤ 10 }
+    requires least { 1 ≤ limit }
+    requires most { limit ≤ 1000 }
+    ensures desk { IsRootOf root.new desk.now }
+    ensures made { (root_of root.new).made ≤ (root_of root.old).made + 1 }
+    ensures ready { IfOk result (λ session. IsReady desk.now.board.shared.table_id session) }
+{
+    let pass = desk.make_pass(root);
+    let source = SureSource::of(Bytes::of(alloc, content)?, 50);
+    Ok(Session::new(alloc, library, source, limit, pass))
+}
+
+/// Whether the session ended with Done and has the report of the stream.
+fn is_done(session: &Session<SureSource>) -> bool {
+    let report = &session.report;
+    let counts = (report.added, report.replaced, report.removed, report.absent);
+    session.end == End::Done
+        && report.frames == 3
+        && report.refused.len() == 1
+        && counts == (1, 0, 0, 1)
+}
+
+/// Whether two libraries are loaded by so many workers, beside an asker with one question.
+fn are_loaded<R: Threads + Wait + Sync>(
+    rt: &R,
+    alloc: Global,
+    libraries: (LibraryCode, LibraryCode),
+    workers: u32,
+) -> Result<bool, Memory>
+    requires least { 1 ≤ workers }
+    requires most { workers ≤ 64 }
+{
+    let (desk, mut root) = Desk::open(alloc, Served::empty(alloc)?)?;
+    let first = session_at(alloc, &desk, &mut root, libraries.0, STREAM, 1_000)?;
+    let second = session_at(alloc, &desk, &mut root, libraries.1, STREAM, 1_000)?;
+    let pass = desk.make_pass(&mut root);
+    let mut questions = Vec::new(alloc);
+    questions.push(Query::Count)?;
+    let mut asker = Asker::new(alloc, pass, questions);
+    let mut sessions = [first, second];
+    run_sessions(
+        rt,
+        alloc,
+        &desk,
+        &mut sessions,
+        Some(&mut asker),
+        workers,
+        &OpenGate,
+    );
+    // One worker asks last, so behind the one turn of each session.
+    let over = asker.replies.first().map(|reply| reply.0);
+    let asked = asker.end == End::Done && (workers > 1 || over == Some(2));
+    Ok(asked && sessions.iter().all(is_done))
+}
+
+#[test]
+fn two_libraries_are_loaded(rt: HostRuntime) -> Result<(), Fail> {
+    let alloc = rt.alloc();
+    let one = LibraryCode::read(b"LIBA").ok_or("a library code")?;
+    let other = LibraryCode::read(b"LIBB").ok_or("a library code")?;
+    let loaded = are_loaded(&rt, alloc, (one, other), 1)?;
+    assert!(rt; loaded, "one worker");
+    let loaded = are_loaded(&rt, alloc, (one, other), 2)?;
+    assert!(rt; loaded, "two workers");
+    Ok(())
+}
+
+/// The session of a library on so many copies of the record, of which 228 bytes are read, run alone by four workers.
+fn limited<R: Threads + Wait + Sync>(
+    rt: &R,
+    alloc: Global,
+    library: LibraryCode,
+    copies: u32,
+) -> Result<Session<SureSource>, Memory> {
+    let mut content = Vec::new(alloc);
+    for _ in 0..copies {
+        content.extend_from_slice(ONE)?;
+    }
+    let (desk, mut root) = Desk::open(alloc, Served::empty(alloc)?)?;
+    let session = session_at(alloc, &desk, &mut root, library, content.as_slice(), 228)?;
+    let mut sessions = [session];
+    run_sessions(rt, alloc, &desk, &mut sessions, None, 4, &OpenGate);
+    let [session] = sessions;
+    Ok(session)
+}
+
+#[test]
+fn source_is_read_to_the_limit(rt: HostRuntime) -> Result<(), Fail> {
+    let alloc = rt.alloc();
+    let library = LibraryCode::read(b"LIBA").ok_or("a library code")?;
+    let twice = limited(&rt, alloc, library, 2)?;
+    let report = &twice.report;
+    assert!(rt; twice.end == End::Done && report.frames == 2);
+    assert!(rt; report.added == 1 && report.replaced == 1);
+    let thrice = limited(&rt, alloc, library, 3)?;
+    assert!(rt; thrice.end == End::TooLong);
+    Ok(())
+}

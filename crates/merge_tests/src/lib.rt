@@ -1,0 +1,21 @@
+//! The tests of the crates by which editions and works are resolved: merge_laws, feature_index, swoosh_resolver,
+//! cluster_reopen, swoosh_halves and work_clusters.
+//!
+//! There is a module for each of them, and `small_sets`, the values on which the resolvers are run. The tests stand in a
+//! crate of their own since a crate with tests is proved twice, with them and without, and so these libraries are proved
+//! once.
+#![tactic(auto)]
+
+#[cfg(test)]
+mod cluster_reopen_tests;
+#[cfg(test)]
+mod feature_index_tests;
+#[cfg(test)]
+mod merge_laws_tests;
+pub mod small_sets;
+#[cfg(test)]
+mod swoosh_halves_tests;
+#[cfg(test)]
+mod swoosh_resolver_tests;
+#[cfg(test)]
+mod work_clusters_tests;

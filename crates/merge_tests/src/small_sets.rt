@@ -1,0 +1,105 @@
+//! A worked example of the traits: sets of numbers below 64 that are not empty, which match where they meet and merge by
+//! union. The tests of the resolvers run on it.
+//!
+//! Guarantee: the laws of both traits, by specs/SmallSets.antt. Cost: a set is one word, and no call takes memory but
+//! `index_keys`.
+ghost use Rattle.std.specs.Prelude.{◌≡◌, ◌+◌, ◌-◌, ◌<◌, ◌↔◌, ℕ, IfSome, IsNone};
+ghost use Rattle.merge_tests.specs.SmallSets.{HasNumber, union, meet, union_laws, meet_laws, number_laws, numbers_exact};
+
+use merge_laws::join::Join;
+use merge_laws::resolvable::Resolvable;
+use merge_laws::steps::Steps;
+use std::alloc::Global;
+use std::marker::Model;
+use std::sync::ledger::Ledger;
+use union_base::memory::Memory;
+
+/// A set of numbers below 64 that is not empty. Contracts see it as the number that is one less than its mask, the sum
+/// of 2 to the power of k over its numbers k.
+#[derive(Drop)]
+pub struct SmallSet {
+    mask: u64,
+}
+
+impl Model for SmallSet {
+    ghost use Rattle.std.specs.Prelude.{ℕ, ◌-◌, ◌<◌};
+
+    ghost Value = { ℕ };
+
+    ghost view = { λ s. s.mask - 1 };
+
+    ghost invariant = { λ s. 0 < s.mask };
+}
+
+impl SmallSet {
+    /// The set of the places of the mask's binary digits 1. None exactly where it has none. Takes no memory.
+    pub fn of(mask: u64) -> Option<SmallSet>
+        ensures some { IfSome result (λ s. s + 1 ≡ mask) }
+        ensures none { IsNone result ↔ (mask ≡ 0) }
+    {
+        if mask == 0 {
+            None
+        } else {
+            Some(SmallSet { mask })
+        }
+    }
+
+    /// The mask. Takes no memory.
+    pub fn mask(&self) -> u64
+        ensures { result ≡ self.now + 1 }
+    {
+        self.mask
+    }
+}
+
+impl Join for SmallSet {
+    ghost join = { union };
+
+    fn joined(&self, _alloc: Global, other: &SmallSet) -> Result<SmallSet, Memory> {
+        Ok(SmallSet {
+            mask: self.mask | other.mask,
+        })
+    }
+
+    fn copied(&self, _alloc: Global) -> Result<SmallSet, Memory> {
+        Ok(SmallSet { mask: self.mask })
+    }
+
+    ghost join_laws = { union_laws };
+}
+
+impl Resolvable for SmallSet {
+    type Key = u32;
+
+    ghost meets = { meet };
+
+    ghost has_key = { HasNumber };
+
+    ghost shares = { meet };
+
+    fn matches<L: Ledger>(&self, other: &SmallSet, steps: &mut Steps<L>) -> bool {
+        steps.tick();
+        self.mask & other.mask != 0
+    }
+
+    fn index_keys(&self, alloc: Global) -> Result<Vec<u32>, Memory> {
+        let mask = self.mask;
+        let mut keys = Vec::new(alloc);
+        for k in 0..64 {
+            if mask >> k & 1 == 1 {
+                keys.push(k)?;
+            }
+        }
+        Ok(keys)
+    }
+
+    fn copy_key(_alloc: Global, key: &u32) -> Result<u32, Memory> {
+        Ok(*key)
+    }
+
+    ghost match_laws = { meet_laws };
+
+    ghost key_laws = { number_laws };
+
+    ghost exact_keys = { numbers_exact };
+}

@@ -1,0 +1,115 @@
+//! Small sets of numbers, resolved by one worker and by several.
+ghost use Rattle.std.specs.Prelude.{◌≡◌, ◌<◌, ◌≤◌};
+
+use crate::small_sets::SmallSet;
+use merge_laws::steps::Steps;
+use merge_laws::swoosh::resolve_plain;
+use std::alloc::Global;
+use std::marker::Brand;
+use std::sync::ledger::{Blank, Ledger};
+use std::test::Fail;
+use std::thread::Threads;
+use swoosh_halves::halves::resolve_halves;
+use union_base::memory::Memory;
+
+/// The sets of the masks.
+fn sets_of(alloc: Global, masks: &[u64]) -> Result<Vec<SmallSet>, Memory> {
+    let mut sets = Vec::new(alloc);
+    for mask in masks {
+        if let Some(set) = SmallSet::of(*mask) {
+            sets.push(set)?;
+        }
+    }
+    Ok(sets)
+}
+
+/// The masks of the sets, in ascending order.
+fn masks_of(alloc: Global, sets: &[SmallSet]) -> Result<Vec<u64>, Memory> {
+    let mut masks = Vec::new(alloc);
+    for set in sets {
+        masks.push(set.mask())?;
+    }
+    masks.sort()?;
+    Ok(masks)
+}
+
+/// The masks that the masks resolve to by so many workers, in ascending order.
+fn resolved<R: Threads + Sync>(
+    rt: &R,
+    alloc: Global,
+    masks: &[u64],
+    workers: u32,
+) -> Result<Vec<u64>, Memory>
+    requires some { 1 ≤ workers }
+    requires most { workers ≤ 64 }
+{
+    let sets = sets_of(alloc, masks)?;
+    masks_of(alloc, resolve_halves(rt, sets, workers)?.as_slice())
+}
+
+/// The masks that the masks resolve to by the plain resolver, in ascending order.
+fn plainly_resolved<L: Ledger>(
+    alloc: Global,
+    masks: &[u64],
+    blank: Blank,
+) -> Result<Vec<u64>, Memory>
+    requires name { blank.name ≡ L.name }
+    requires parts { blank.parts ≡ L.parts }
+    requires some { 0 < L.parts }
+{
+    let mut steps: Steps<L> = Steps::open(blank);
+    let sets = sets_of(alloc, masks)?;
+    masks_of(alloc, resolve_plain(sets, &mut steps)?.as_slice())
+}
+
+/// So many masks of one or two numbers, drawn one after the other.
+fn drawn(alloc: Global, seed: u64, count: u64) -> Result<Vec<u64>, Memory> {
+    let mut state = seed;
+    let mut masks = Vec::new(alloc);
+    for _ in 0..count {
+        state = state
+            .wrapping_mul(6364136223846793005)
+            .wrapping_add(1442695040888963407);
+        let (one, other) = ((state >> 33) % 64, (state >> 41) % 64);
+        masks.push((1u64 << one) | (1u64 << other))?;
+    }
+    Ok(masks)
+}
+
+#[test]
+fn any_number_of_workers(rt: HostRuntime) -> Result<(), Fail> {
+    // The digits say which numbers are in a set, from 0 at the right.
+    let cases: [(&[u64], &[u64]); 6] = [
+        (&[0b10, 0b100, 0b110], &[0b110]),
+        (&[0b110, 0b10, 0b100], &[0b110]),
+        (&[0b10, 0b110, 0b100], &[0b110]),
+        // Each half has parts of both blocks.
+        (
+            &[0b1, 0b100000, 0b10, 0b110000, 0b11, 0b1010000],
+            &[0b11, 0b1110000],
+        ),
+        (&[0b10], &[0b10]),
+        (&[], &[]),
+    ];
+    for (masks, want) in cases {
+        for workers in 1..5 {
+            assert_eq!(rt; resolved(&rt, rt.alloc(), masks, workers)?.as_slice(), want);
+        }
+        assert_eq!(rt; resolved(&rt, rt.alloc(), masks, 64)?.as_slice(), want);
+    }
+    Ok(())
+}
+
+#[test]
+fn drawn_lists(rt: HostRuntime) -> Result<(), Fail> {
+    // From few that meet to one that is all.
+    for (seed, count) in [(1, 8), (2, 20), (3, 40), (4, 200)] {
+        let masks = drawn(rt.alloc(), seed, count)?;
+        let want = plainly_resolved::<Brand>(rt.alloc(), masks.as_slice(), Blank::new(1))?;
+        for workers in 1..5 {
+            let found = resolved(&rt, rt.alloc(), masks.as_slice(), workers)?;
+            assert_eq!(rt; found.as_slice(), want.as_slice());
+        }
+    }
+    Ok(())
+}

@@ -1,5 +1,0 @@
--- the ledger of these insertions
-use Rattle.swoosh_resolver.proofs.tests.changed.Given as goal
-
-abbrev pub ghosts-changed_by : goal.ghosts-changed_by
-ghosts-changed_by a = record { name = a.blank.name; parts = a.blank.parts }

@@ -1,9 +1,0 @@
-use Rattle.std.proofs.Common.{All, subst, sym}
-use Rattle.workset_keys.specs.Names.{HasTexts}
-use Rattle.workset_keys.proofs.tests.key_of_record.Goals as goal
-
-pub key_of_fields-requires-clause-fields : goal.key_of_fields-requires-clause-fields
-key_of_fields-requires-clause-fields c = subst (All HasTexts) (sym c.deref.ensures.value) c.in_ok-fields.ensures
-
-pub key_of_fields-requires-clause-added : goal.key_of_fields-requires-clause-added
-key_of_fields-requires-clause-added c = subst (All HasTexts) (sym c.deref-2.ensures.value) c.in_ok-added.ensures
