@@ -1,5 +1,5 @@
 //! Copies that may be refused for want of memory.
-ghost use Rattle.std.specs.Prelude.{◌≡◌, IfOk};
+ghost use Rattle.std.specs.Prelude.{◌≡◌, [], ◌∷◌, ◌++◌, List, IfOk, OnOk};
 
 use crate::memory::Memory;
 use std::alloc::Global;
@@ -21,4 +21,30 @@ impl<A: Copied, B: Copied> Copied for (A, B) {
     fn copied(&self, alloc: Global) -> Result<(A, B), Memory> {
         Ok((self.0.copied(alloc)?, self.1.copied(alloc)?))
     }
+}
+
+/// Pushes a copy of the value.
+pub(crate) fn push_copy<T: Copied>(
+    alloc: Global,
+    items: &mut Vec<T>,
+    value: &T,
+) -> Result<(), Memory>
+    ensures { OnOk result (items.new.items ≡ items.old.items ++ value.now ∷ []) }
+{
+    items.push(value.copied(alloc)?)?;
+    Ok(())
+}
+
+/// Pushes a copy of each value.
+pub(crate) fn push_copies<T: Copied>(
+    alloc: Global,
+    items: &mut Vec<T>,
+    values: &[T],
+) -> Result<(), Memory>
+    ensures { OnOk result (items.new.items ≡ items.old.items ++ values.now) }
+{
+    for value in values {
+        push_copy(alloc, items, value)?;
+    }
+    Ok(())
 }

@@ -1,7 +1,7 @@
 //! A list of values in order.
 ghost use Rattle.std.specs.Prelude.{◌≡◌};
 
-use crate::copied::Copied;
+use crate::copied::{Copied, push_copies};
 use crate::memory::Memory;
 use std::alloc::Global;
 use std::marker::Model;
@@ -48,9 +48,7 @@ impl<T> From<Vec<T>> for Sequence<T> {
 impl<T: Copied> Copied for Sequence<T> {
     fn copied(&self, alloc: Global) -> Result<Sequence<T>, Memory> {
         let mut items = Vec::with_capacity(alloc, self.items.len())?;
-        for item in self.items.iter() {
-            items.push(item.copied(alloc)?)?;
-        }
+        push_copies(alloc, &mut items, self.items.as_slice())?;
         Ok(Sequence { items })
     }
 }

@@ -4,7 +4,7 @@
 ghost use Rattle.std.specs.Prelude.{◌≡◌, ◌++◌, IfOk, OnOk, IsTrue};
 ghost use Rattle.union_base.specs.SortedLists.{is_ascending, union, have_common, set_of};
 
-use crate::copied::Copied;
+use crate::copied::{Copied, push_copies, push_copy};
 use crate::memory::Memory;
 use std::alloc::Global;
 use std::cmp::Ordering;
@@ -100,16 +100,6 @@ impl<K: Element> Copied for SortedList<K> {
     }
 }
 
-/// Pushes a copy of each value.
-fn push_copies<K: Copied>(alloc: Global, items: &mut Vec<K>, values: &[K]) -> Result<(), Memory>
-    ensures { OnOk result (items.new.items ≡ items.old.items ++ values.now) }
-{
-    for value in values {
-        items.push(value.copied(alloc)?)?;
-    }
-    Ok(())
-}
-
 /// The values of two ascending lists, in order, each once.
 fn merged<K: Element>(alloc: Global, one: &[K], other: &[K]) -> Result<Vec<K>, Memory>
     requires one { IsTrue (is_ascending K.cmp one.now) }
@@ -122,15 +112,15 @@ fn merged<K: Element>(alloc: Global, one: &[K], other: &[K]) -> Result<Vec<K>, M
     while let (Some((x, lefts)), Some((y, rights))) = (left.split_first(), right.split_first()) {
         match x.cmp(y) {
             Ordering::Less => {
-                items.push(x.copied(alloc)?)?;
+                push_copy(alloc, &mut items, x)?;
                 left = lefts;
             }
             Ordering::Equal => {
-                items.push(x.copied(alloc)?)?;
+                push_copy(alloc, &mut items, x)?;
                 (left, right) = (lefts, rights);
             }
             Ordering::Greater => {
-                items.push(y.copied(alloc)?)?;
+                push_copy(alloc, &mut items, y)?;
                 right = rights;
             }
         }

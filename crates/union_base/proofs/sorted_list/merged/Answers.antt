@@ -4,20 +4,20 @@ use Rattle.union_base.proofs.SortedListLaws.{left_rest, right_rest, merged_less,
 use Rattle.union_base.proofs.sorted_list.merged.Goals as goal
 use Rattle.union_base.proofs.sorted_list.merged.Goals.{in_default, in_default-2}
 
-pub loop-x-preserved-in_ok-push-in-Less : goal.loop-x-preserved-in_ok-push-in-Less
-loop-x-preserved-in_ok-push-in-Less g c =
+pub loop-x-preserved-in_ok-push_copy-in-Less : goal.loop-x-preserved-in_ok-push_copy-in-Less
+loop-x-preserved-in_ok-push_copy-in-Less g c =
     record {
       left = left_rest g.met.K.Ord.total g.met.K.Element.ties c.in-Some-Some.x.now c.in-Some-Some.y.now c.in-Some-Some.lefts.now c.in-Some-Some.rights.now
           c.loop-x.left.now c.loop-x.right.now c.loop-x.items.items _ c.in-Some-Some.ensures.cases.0 c.in-Some-Some.ensures'.cases.0
           c.loop-x.invariant.left c.loop-x.invariant.right c.loop-x.invariant.all;
       right = c.loop-x.invariant.right;
-      all = rw (c.in_ok-push-in-Less.ensures.items, c.in_ok-copied-in-Less.ensures) (merged_less g.met.K.Ord.total g.met.K.Element.ties c.in-Some-Some.x.now c.in-Some-Some.y.now c.in-Some-Some.lefts.now c.in-Some-Some.rights.now
+      all = rw c.in_ok-push_copy-in-Less.ensures (merged_less g.met.K.Ord.total g.met.K.Element.ties c.in-Some-Some.x.now c.in-Some-Some.y.now c.in-Some-Some.lefts.now c.in-Some-Some.rights.now
           c.loop-x.left.now c.loop-x.right.now c.loop-x.items.items _ c.in-Some-Some.ensures.cases.0 c.in-Some-Some.ensures'.cases.0
           c.loop-x.invariant.left c.loop-x.invariant.right c.loop-x.invariant.all (sym c.in-Less.ensures));
     }
 
-pub loop-x-preserved-in_ok-push-in-Equal : goal.loop-x-preserved-in_ok-push-in-Equal
-loop-x-preserved-in_ok-push-in-Equal g c =
+pub loop-x-preserved-in_ok-push_copy-in-Equal : goal.loop-x-preserved-in_ok-push_copy-in-Equal
+loop-x-preserved-in_ok-push_copy-in-Equal g c =
     record {
       left = left_rest g.met.K.Ord.total g.met.K.Element.ties c.in-Some-Some.x.now c.in-Some-Some.y.now c.in-Some-Some.lefts.now c.in-Some-Some.rights.now
           c.loop-x.left.now c.loop-x.right.now c.loop-x.items.items _ c.in-Some-Some.ensures.cases.0 c.in-Some-Some.ensures'.cases.0
@@ -25,7 +25,7 @@ loop-x-preserved-in_ok-push-in-Equal g c =
       right = right_rest g.met.K.Ord.total g.met.K.Element.ties c.in-Some-Some.x.now c.in-Some-Some.y.now c.in-Some-Some.lefts.now c.in-Some-Some.rights.now
           c.loop-x.left.now c.loop-x.right.now c.loop-x.items.items _ c.in-Some-Some.ensures.cases.0 c.in-Some-Some.ensures'.cases.0
           c.loop-x.invariant.left c.loop-x.invariant.right c.loop-x.invariant.all;
-      all = rw (c.in_ok-push-in-Equal.ensures.items, c.in_ok-copied-in-Equal.ensures) (merged_equal g.met.K.Ord.total g.met.K.Element.ties c.in-Some-Some.x.now c.in-Some-Some.y.now c.in-Some-Some.lefts.now c.in-Some-Some.rights.now
+      all = rw c.in_ok-push_copy-in-Equal.ensures (merged_equal g.met.K.Ord.total g.met.K.Element.ties c.in-Some-Some.x.now c.in-Some-Some.y.now c.in-Some-Some.lefts.now c.in-Some-Some.rights.now
           c.loop-x.left.now c.loop-x.right.now c.loop-x.items.items _ c.in-Some-Some.ensures.cases.0 c.in-Some-Some.ensures'.cases.0
           c.loop-x.invariant.left c.loop-x.invariant.right c.loop-x.invariant.all (sym c.in-Equal.ensures));
     }
@@ -37,7 +37,7 @@ loop-x-preserved g c =
       right = right_rest g.met.K.Ord.total g.met.K.Element.ties c.in-Some-Some.x.now c.in-Some-Some.y.now c.in-Some-Some.lefts.now c.in-Some-Some.rights.now
           c.loop-x.left.now c.loop-x.right.now c.loop-x.items.items _ c.in-Some-Some.ensures.cases.0 c.in-Some-Some.ensures'.cases.0
           c.loop-x.invariant.left c.loop-x.invariant.right c.loop-x.invariant.all;
-      all = rw (c.in_ok-push-in-Greater.ensures.items, c.in_ok-copied-in-Greater.ensures) (merged_greater g.met.K.Ord.total g.met.K.Element.ties c.in-Some-Some.x.now c.in-Some-Some.y.now c.in-Some-Some.lefts.now c.in-Some-Some.rights.now
+      all = rw c.in_ok-push_copy-in-Greater.ensures (merged_greater g.met.K.Ord.total g.met.K.Element.ties c.in-Some-Some.x.now c.in-Some-Some.y.now c.in-Some-Some.lefts.now c.in-Some-Some.rights.now
           c.loop-x.left.now c.loop-x.right.now c.loop-x.items.items _ c.in-Some-Some.ensures.cases.0 c.in-Some-Some.ensures'.cases.0
           c.loop-x.invariant.left c.loop-x.invariant.right c.loop-x.invariant.all (sym c.in-Greater.ensures));
     }

@@ -1,5 +1,5 @@
 use Rattle.std.proofs.Common.{◌≡◌, ◌++◌, take}
-use Rattle.union_base.proofs.sorted_list.push_copies.Given as goal
+use Rattle.union_base.proofs.copied.push_copies.Given as goal
 
 -- the copies so far follow what was there
 abbrev pub invariant-loop-value : goal.invariant-loop-value
