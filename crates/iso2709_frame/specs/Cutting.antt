@@ -1,7 +1,6 @@
 -- What a cutter is: the bytes that wait for the end of their frame, and the frame that it lends.
 use Rattle.std.specs.Prelude.{ℕ, suc, List, [], ◌∷◌, replicate, Option, Some, None}
 use Rattle.iso2709_frame.specs.declared.cut.Cut.{Cut}
-use Rattle.iso2709_frame.specs.declared.cut.TheConstants.{LARGEST_FRAME}
 
 -- `pending` is as good as what was fed since the last cut: whatever follows, the frames are the same
 pub record Cutting : Type 0 where
@@ -14,7 +13,7 @@ fresh = record { pending = []; frame = [] }
 
 -- the length of the largest frame, as a number that is not computed with
 unfoldable pub largest : ℕ
-largest = LARGEST_FRAME
+largest = 99999
 
 -- what stands for the bytes of a frame that is too long already, which are not kept
 unfoldable pub too_long : List ℕ

@@ -5,7 +5,6 @@ use Rattle.iso2709_frame.specs.Cutting.{Cutting, too_long}
 use Rattle.iso2709_frame.specs.Frames.{is_terminator, skip_breaks}
 use Rattle.iso2709_frame.specs.declared.cut.Cut.{Cut}
 use Rattle.iso2709_frame.specs.declared.cut.Cut.TheVariants.{Whole, TooLong}
-use Rattle.iso2709_frame.specs.declared.cut.TheConstants.{LARGEST_FRAME}
 use Rattle.iso2709_frame.specs.declared.cutter.Cutter.TheInside.{Inside}
 use Rattle.iso2709_frame.specs.declared.cutter.Phase.{Phase}
 use Rattle.iso2709_frame.specs.declared.cutter.Phase.TheVariants.{Gathering, Overfull, Ended}
@@ -34,8 +33,8 @@ IsGathered Ended held = Unit {0}
 
 -- what the fields keep: room for the largest frame, and what is held
 pub record IsReady (c : Inside) : Type 0 where
-  pub room : LARGEST_FRAME ≤ vec_capacity c.held
-  pub size : vec_len c.held ≤ LARGEST_FRAME
+  pub room : 99999 ≤ vec_capacity c.held
+  pub size : vec_len c.held ≤ 99999
   pub gathered : IsGathered c.phase c.held.items
 
 -- what comes of a part: how it leaves what is held, and the cut where it ends its frame

@@ -4,7 +4,6 @@ use Rattle.std.specs.Char.{is_ascii_alphanumeric}
 use Rattle.std.specs.List.{list_all}
 use Rattle.marc_leader.specs.Numeral.{are_digits, number_of, numeral}
 use Rattle.marc_leader.specs.declared.entry.Entry.{Entry}
-use Rattle.marc_leader.specs.declared.entry.TheConstants.{TAG_END, SIZE_END, START_END}
 use Rattle.marc_leader.specs.declared.entry.EntryRule.{EntryRule}
 use Rattle.marc_leader.specs.declared.entry.EntryRule.TheVariants.{Digits, Tag}
 
@@ -18,15 +17,15 @@ is_tag text = list_all is_ascii_alphanumeric text
 
 -- bytes 0 to 2, the tag
 abbrev pub tag_place : List ℕ → List ℕ
-tag_place text = take TAG_END text
+tag_place text = take 3 text
 
 -- bytes 3 to 6, the length of the field
 abbrev pub size_place : List ℕ → List ℕ
-size_place text = slice_range text TAG_END SIZE_END
+size_place text = slice_range text 3 7
 
 -- bytes 7 to 11, where the field starts
 abbrev pub start_place : List ℕ → List ℕ
-start_place text = slice_range text SIZE_END START_END
+start_place text = slice_range text 7 12
 
 -- the entry that stands in the 12 bytes, or the first rule that they break
 abbrev pub entry_of : List ℕ → Result Entry EntryRule

@@ -3,7 +3,6 @@ use Rattle.std.specs.Prelude.{ℕ, suc, Bool, ◌==◌, ◌||◌, if◌then◌el
 use Rattle.marc_leader.specs.Codes.{Codes, is_printable}
 use Rattle.marc_leader.specs.Numeral.{are_digits, number_of, numeral}
 use Rattle.marc_leader.specs.declared.leader.Leader.{Leader}
-use Rattle.marc_leader.specs.declared.leader.TheConstants.{LENGTH_END, STATUS, KIND, LEVEL, CONTROL, CODING, INDICATOR_COUNT, CODE_COUNT, BASE, BASE_END, ENCODING, FORM, PART, LENGTH_PORTION, START_PORTION, OWN_PORTION, LAST}
 use Rattle.marc_leader.specs.declared.leader.LeaderRule.{LeaderRule}
 use Rattle.marc_leader.specs.declared.leader.LeaderRule.TheVariants.{LengthDigits, BaseDigits, Counts}
 
@@ -20,10 +19,10 @@ leader_text leader =
 -- the byte may stand at that offset: `2` at 10 and 11, `4`, `5` and `0` at 20 to 22, elsewhere an ASCII graphic or a blank
 abbrev pub may_stand : ℕ → ℕ → Bool
 may_stand at byte =
-    (if at == INDICATOR_COUNT || at == CODE_COUNT then byte == 50
-    else (if at == LENGTH_PORTION then byte == 52
-    else (if at == START_PORTION then byte == 53
-    else (if at == OWN_PORTION then byte == 48
+    (if at == 10 || at == 11 then byte == 50
+    else (if at == 20 then byte == 52
+    else (if at == 21 then byte == 53
+    else (if at == 22 then byte == 48
     else is_printable byte))))
 
 -- the least offset, counted from the first, of a byte that may not stand there
@@ -37,24 +36,24 @@ misfit text = misfit_from 0 text
 
 -- bytes 00 to 04, the record's length
 abbrev pub length_place : List ℕ → List ℕ
-length_place text = take LENGTH_END text
+length_place text = take 5 text
 
 -- bytes 12 to 16, the base address of data
 abbrev pub base_place : List ℕ → List ℕ
-base_place text = slice_range text BASE BASE_END
+base_place text = slice_range text 12 17
 
 -- the codes that stand in the 24 bytes
 abbrev pub codes_of : List ℕ → Codes
 codes_of text = record {
-  status = slice_index text STATUS;
-  kind = slice_index text KIND;
-  level = slice_index text LEVEL;
-  control = slice_index text CONTROL;
-  coding = slice_index text CODING;
-  encoding = slice_index text ENCODING;
-  form = slice_index text FORM;
-  part = slice_index text PART;
-  last = slice_index text LAST;
+  status = slice_index text 5;
+  kind = slice_index text 6;
+  level = slice_index text 7;
+  control = slice_index text 8;
+  coding = slice_index text 9;
+  encoding = slice_index text 17;
+  form = slice_index text 18;
+  part = slice_index text 19;
+  last = slice_index text 23;
 }
 
 -- the leader that stands in 24 bytes without a misfit, else the misfit

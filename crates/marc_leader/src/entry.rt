@@ -45,7 +45,7 @@ fn are_alphanumeric(text: &[u8]) -> bool
 
 /// The entry that stands in 12 bytes, or the first rule of `EntryRule` that they break. Takes no memory.
 pub fn read_entry(text: &[u8]) -> Result<Entry, EntryRule>
-    requires { length text.now ≡ ENTRY_SIZE }
+    requires { length text.now ≡ 12 }
     ensures value { result ≡ entry_of text.now }
     // What was read is written as the same bytes.
     ensures spelled { IfOk result (λ entry. text.now ≡ entry_text entry) }
@@ -68,7 +68,7 @@ pub fn read_entry(text: &[u8]) -> Result<Entry, EntryRule>
 
 /// Writes the entry's 12 bytes. Takes no memory.
 pub fn write_entry(entry: &Entry, into: &mut [u8])
-    requires room { length into.old ≡ ENTRY_SIZE }
+    requires room { length into.old ≡ 12 }
     requires length { entry.now.length ≤ 9999 }
     requires start { entry.now.start ≤ 99999 }
     ensures text { into.new ≡ entry_text entry.now }

@@ -81,7 +81,7 @@ fn stands(at: usize, byte: u8) -> bool
 
 /// The offset of the first byte that may not stand there.
 fn first_misfit(text: &[u8]) -> Option<u32>
-    requires { length text.now ≡ LEADER_SIZE }
+    requires { length text.now ≡ 24 }
     ensures { result ≡ misfit text.now }
 {
     for (at, byte) in text.iter().enumerate() {
@@ -95,7 +95,7 @@ fn first_misfit(text: &[u8]) -> Option<u32>
 impl Leader {
     /// The leader that stands in 24 bytes, or the first rule of `LeaderRule` that they break. Takes no memory.
     pub fn read(text: &[u8]) -> Result<Leader, LeaderRule>
-        requires { length text.now ≡ LEADER_SIZE }
+        requires { length text.now ≡ 24 }
         ensures value { result ≡ leader_of text.now }
         // What was read is written as the same bytes.
         ensures spelled { IfOk result (λ leader. text.now ≡ leader_text leader) }
@@ -131,7 +131,7 @@ impl Leader {
 
 /// Writes the leader's 24 bytes. Takes no memory.
 pub fn write_leader(leader: &Leader, into: &mut [u8])
-    requires room { length into.old ≡ LEADER_SIZE }
+    requires room { length into.old ≡ 24 }
     requires length { leader.now.length ≤ 99999 }
     requires base { leader.now.base ≤ 99999 }
     ensures text { into.new ≡ leader_text leader.now }
