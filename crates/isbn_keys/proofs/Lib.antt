@@ -1,3 +1,4 @@
 pub mod KeyLemmas
 pub mod CutLemmas
 pub mod SystemLemmas
+pub mod CheckLaws

@@ -4,3 +4,4 @@ pub mod Isbn
 pub mod Issn
 pub mod Lccn
 pub mod Control
+pub mod Laws

@@ -13,5 +13,6 @@ mod check;
 pub mod control;
 pub mod isbn;
 pub mod issn;
+pub mod laws;
 pub mod lccn;
 mod text;
