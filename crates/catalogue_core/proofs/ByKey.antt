@@ -24,14 +24,14 @@ use Rattle.match_features.specs.declared.keys.FeatureKey.TheVariants.{Control, I
 use Rattle.swoosh_resolver.specs.Tables.{block_at, blocks_in, values_of}
 use Rattle.swoosh_resolver.proofs.Places.{block-from_value, number-from_block}
 use Rattle.catalogue_core.specs.Homes.{Block}
-use Rattle.catalogue_core.specs.Ids.{edition_cmp}
-use Rattle.catalogue_core.specs.IndexKeys.{has_key}
-use Rattle.catalogue_core.specs.JoinLaws.{edition_join_laws}
-use Rattle.catalogue_core.specs.Matching.{match, HasFeatureKey}
-use Rattle.catalogue_core.specs.MatchLaws.{edition_match_laws}
-use Rattle.catalogue_core.specs.Resolutions.{IsOrderedResolution}
-use Rattle.catalogue_core.specs.declared.edition.Edition.{Edition}
-use Rattle.catalogue_core.proofs.Apart.{one-ordered, ordered-from_sorted}
+use Rattle.catalogue_editions.specs.Ids.{edition_cmp}
+use Rattle.catalogue_editions.specs.IndexKeys.{has_key}
+use Rattle.catalogue_editions.specs.JoinLaws.{edition_join_laws}
+use Rattle.catalogue_editions.specs.Matching.{match, HasFeatureKey}
+use Rattle.catalogue_editions.specs.MatchLaws.{edition_match_laws}
+use Rattle.catalogue_editions.specs.Resolutions.{IsOrderedResolution}
+use Rattle.catalogue_editions.specs.declared.edition.Edition.{Edition}
+use Rattle.catalogue_editions.proofs.Apart.{one-ordered, ordered-from_sorted}
 use Rattle.catalogue_core.proofs.Housing.{same-some}
 use Rattle.catalogue_core.proofs.InstallLaws.{block-stands, value-in, in-value}
 use Rattle.catalogue_core.proofs.PlanLaws.{mapped-from_member, member-from_mapped}

@@ -10,7 +10,7 @@ use Rattle.union_base.specs.declared.record_id.RecordId.{RecordId}
 use Rattle.merge_laws.proofs.Places.{Contains-head, Contains-tail, Contains-cases}
 use Rattle.field_merge.specs.Kept.{id_cmp}
 use Rattle.catalogue_core.specs.Histories.{MapOf, is_current}
-use Rattle.catalogue_core.specs.declared.edition.Edition.{Edition}
+use Rattle.catalogue_editions.specs.declared.edition.Edition.{Edition}
 
 -- the list next has the members of the list before, and those that came
 pub record IsGrown (before came next : List Edition) : Type 0 where

@@ -25,23 +25,24 @@ use Rattle.swoosh_resolver.specs.Tables.{block_at, blocks_in, values_of}
 use Rattle.swoosh_resolver.proofs.Places.{block-closed, block-kept, block-from_open, taken-from_set, number-from_block}
 use Rattle.work_clusters.specs.MemberLaws.{AreAfter, changed-members, works_of-permutation}
 use Rattle.work_clusters.specs.Works.{works_of, changed}
-use Rattle.catalogue_core.specs.EditionKeys.{work_key_of, work_pairs, closed_pairs}
+use Rattle.catalogue_editions.specs.EditionKeys.{work_key_of, work_pairs}
+use Rattle.catalogue_core.specs.ClosedKeys.{closed_pairs}
 use Rattle.catalogue_core.specs.Histories.{MapOf, at_id, is_current, after_batch, bases, current}
 use Rattle.catalogue_core.specs.Homes.{Block, has_contributor, place_of, places_in, standing, admitted, moved, housed_all}
-use Rattle.catalogue_core.specs.Ids.{least}
-use Rattle.catalogue_core.specs.Joining.{join}
-use Rattle.catalogue_core.specs.JoinLaws.{edition_join_laws}
+use Rattle.catalogue_editions.specs.Ids.{least}
+use Rattle.catalogue_editions.specs.Joining.{join}
+use Rattle.catalogue_editions.specs.JoinLaws.{edition_join_laws}
 use Rattle.catalogue_core.specs.Keeping.{batches, loaded_at, map_values, StandFor}
 use Rattle.catalogue_core.specs.Kept.{IsKept}
-use Rattle.catalogue_core.specs.Matching.{match}
-use Rattle.catalogue_core.specs.MatchLaws.{edition_match_laws}
+use Rattle.catalogue_editions.specs.Matching.{match}
+use Rattle.catalogue_editions.specs.MatchLaws.{edition_match_laws}
 use Rattle.catalogue_core.specs.Plans.{IsPlanned}
-use Rattle.catalogue_core.specs.declared.batch.Batch.{Batch}
-use Rattle.catalogue_core.specs.declared.edition.Edition.{Edition}
+use Rattle.catalogue_editions.specs.declared.batch.Batch.{Batch}
+use Rattle.catalogue_editions.specs.declared.edition.Edition.{Edition}
 use Rattle.catalogue_core.specs.declared.history_entry.HistoryEntry.{HistoryEntry}
 use Rattle.catalogue_core.specs.declared.home.Home.{Home}
 use Rattle.catalogue_core.specs.declared.place.Place.{Place}
-use Rattle.catalogue_core.proofs.Apart.{match-from_contributor, match-from_least}
+use Rattle.catalogue_editions.proofs.Apart.{match-from_contributor, match-from_least}
 use Rattle.catalogue_core.proofs.HomeLaws.{some-from_test, admitted-keeps, admitted-lets, admitted-only, ordered-admitted, moved_at, at-moved, ordered-moved, ordered-housed_all, place-housed_all, block-housed_all}
 use Rattle.catalogue_core.proofs.Looking.{member-from_any, any-from_member, bears-resolution, bears-current}
 use Rattle.catalogue_core.proofs.MapLaws.{same, one-id, same-itself, same-maps}

@@ -14,22 +14,22 @@ use Rattle.merge_laws.proofs.Resolutions.{IsResolution-append}
 use Rattle.swoosh_resolver.specs.Changes.{Fits, view_of}
 use Rattle.catalogue_core.specs.Histories.{MapOf, at_id, id_of, is_current, after_op, after_batch}
 use Rattle.catalogue_core.specs.Homes.{Block}
-use Rattle.catalogue_core.specs.Ids.{least}
-use Rattle.catalogue_core.specs.Joining.{join}
-use Rattle.catalogue_core.specs.JoinLaws.{edition_join_laws}
+use Rattle.catalogue_editions.specs.Ids.{least}
+use Rattle.catalogue_editions.specs.Joining.{join}
+use Rattle.catalogue_editions.specs.JoinLaws.{edition_join_laws}
 use Rattle.catalogue_core.specs.Keeping.{loaded}
-use Rattle.catalogue_core.specs.Matching.{match}
-use Rattle.catalogue_core.specs.MatchLaws.{edition_match_laws}
-use Rattle.catalogue_core.specs.Net.{net}
+use Rattle.catalogue_editions.specs.Matching.{match}
+use Rattle.catalogue_editions.specs.MatchLaws.{edition_match_laws}
+use Rattle.catalogue_editions.specs.Net.{net}
 use Rattle.catalogue_core.specs.Plans.{IsPlanned}
 use Rattle.catalogue_core.specs.Touches.{IsTouched}
 use Rattle.catalogue_core.specs.PreparedReaches.{without_named, without_all, IsReachOfLeaving}
 use Rattle.catalogue_core.specs.Reaches.{IsReachOfWithdrawal}
-use Rattle.catalogue_core.specs.declared.batch.Batch.{Batch}
-use Rattle.catalogue_core.specs.declared.edition.Edition.{Edition}
+use Rattle.catalogue_editions.specs.declared.batch.Batch.{Batch}
+use Rattle.catalogue_editions.specs.declared.edition.Edition.{Edition}
 use Rattle.catalogue_core.specs.declared.home.Home.{Home}
-use Rattle.catalogue_core.specs.declared.op.Op.{Op}
-use Rattle.catalogue_core.specs.declared.op.Op.TheVariants.{Load, Withdraw}
+use Rattle.catalogue_editions.specs.declared.op.Op.{Op}
+use Rattle.catalogue_editions.specs.declared.op.Op.TheVariants.{Load, Withdraw}
 use Rattle.catalogue_core.specs.declared.place.Place.{Place}
 use Rattle.catalogue_core.proofs.MapLaws.{same, same-maps, one-id, at-inserted, at-removed, ordered-inserted, ordered-removed, id-of_value, value-of_id}
 use Rattle.catalogue_core.proofs.PlanLaws.{resolved-by_members}

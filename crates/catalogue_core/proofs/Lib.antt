@@ -1,8 +1,5 @@
-mod KeyTexts
-mod EditionTexts
 mod MapLaws
 mod HomeLaws
-mod Apart
 mod Placing
 mod Growing
 pub mod Looking
@@ -13,7 +10,6 @@ mod InstallLaws
 mod NamedLaws
 mod ByKey
 mod Strangers
-mod Runs
 pub mod SameEditions
 pub mod Holders
 pub mod WalkLaws

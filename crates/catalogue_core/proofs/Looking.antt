@@ -19,20 +19,20 @@ use Rattle.merge_laws.proofs.Places.{Contains-head, Contains-tail, Contains-case
 use Rattle.merge_laws.proofs.Tags.{tag-from_dominated, member-from_tag}
 use Rattle.field_merge.specs.Kept.{id_cmp}
 use Rattle.field_merge.specs.KeptLaws.{id_total}
-use Rattle.catalogue_core.specs.Batches.{is_one_of, is_own_op}
-use Rattle.catalogue_core.specs.Ids.{first_id, least}
-use Rattle.catalogue_core.specs.Joining.{join}
-use Rattle.catalogue_core.specs.JoinLaws.{edition_join_laws}
-use Rattle.catalogue_core.specs.Matching.{match}
-use Rattle.catalogue_core.specs.MatchLaws.{edition_match_laws}
+use Rattle.catalogue_editions.specs.Batches.{is_one_of, is_own_op}
+use Rattle.catalogue_editions.specs.Ids.{first_id, least}
+use Rattle.catalogue_editions.specs.Joining.{join}
+use Rattle.catalogue_editions.specs.JoinLaws.{edition_join_laws}
+use Rattle.catalogue_editions.specs.Matching.{match}
+use Rattle.catalogue_editions.specs.MatchLaws.{edition_match_laws}
 use Rattle.catalogue_core.specs.Histories.{MapOf, is_current, after_op, after_batch, current, bases, AreEditionsOf}
 use Rattle.catalogue_core.specs.Keeping.{loaded_at, StandFor}
 use Rattle.catalogue_core.specs.Plans.{AreSingle}
 use Rattle.catalogue_core.specs.Walks.{holder_of}
-use Rattle.catalogue_core.specs.declared.edition.Edition.{Edition}
-use Rattle.catalogue_core.specs.declared.op.Op.{Op}
-use Rattle.catalogue_core.specs.declared.op.Op.TheVariants.{Load, Withdraw}
-use Rattle.catalogue_core.specs.declared.batch.Batch.{Batch}
+use Rattle.catalogue_editions.specs.declared.edition.Edition.{Edition}
+use Rattle.catalogue_editions.specs.declared.op.Op.{Op}
+use Rattle.catalogue_editions.specs.declared.op.Op.TheVariants.{Load, Withdraw}
+use Rattle.catalogue_editions.specs.declared.batch.Batch.{Batch}
 use Rattle.catalogue_core.specs.declared.history_entry.HistoryEntry.{HistoryEntry}
 use Rattle.catalogue_core.specs.declared.place.Place.{Place}
 

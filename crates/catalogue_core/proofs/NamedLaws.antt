@@ -24,20 +24,20 @@ use Rattle.swoosh_resolver.specs.Tables.{block_at, blocks_in, values_of}
 use Rattle.swoosh_resolver.proofs.Places.{number-from_block}
 use Rattle.work_clusters.specs.MemberLaws.{works_of-permutation}
 use Rattle.work_clusters.specs.Works.{works_of}
-use Rattle.catalogue_core.specs.EditionKeys.{work_key_of, work_pairs}
+use Rattle.catalogue_editions.specs.EditionKeys.{work_key_of, work_pairs}
 use Rattle.catalogue_core.specs.Histories.{MapOf, at_id, is_current, bases, current, AreEditionsOf}
 use Rattle.catalogue_core.specs.Homes.{Block, has_contributor, places_in, named, named_in}
-use Rattle.catalogue_core.specs.Ids.{least, edition_cmp}
-use Rattle.catalogue_core.specs.JoinLaws.{edition_join_laws}
+use Rattle.catalogue_editions.specs.Ids.{least, edition_cmp}
+use Rattle.catalogue_editions.specs.JoinLaws.{edition_join_laws}
 use Rattle.catalogue_core.specs.Keeping.{batches, loaded_at}
 use Rattle.catalogue_core.specs.Kept.{IsKept}
-use Rattle.catalogue_core.specs.Matching.{match}
-use Rattle.catalogue_core.specs.MatchLaws.{edition_match_laws}
+use Rattle.catalogue_editions.specs.Matching.{match}
+use Rattle.catalogue_editions.specs.MatchLaws.{edition_match_laws}
 use Rattle.catalogue_core.specs.Walks.{first_of, first_behind, holder_of}
-use Rattle.catalogue_core.specs.declared.edition.Edition.{Edition}
+use Rattle.catalogue_editions.specs.declared.edition.Edition.{Edition}
 use Rattle.catalogue_core.specs.declared.history_entry.HistoryEntry.{HistoryEntry}
 use Rattle.catalogue_core.specs.declared.home.Home.{Home}
-use Rattle.catalogue_core.proofs.Apart.{least-stands, match-from_contributor}
+use Rattle.catalogue_editions.proofs.Apart.{least-stands, match-from_contributor}
 use Rattle.catalogue_core.proofs.Housing.{same-some}
 use Rattle.catalogue_core.proofs.InstallLaws.{block-stands, value-in, in-value, keys-values}
 use Rattle.catalogue_core.proofs.Looking.{holder-current, length-kept}

@@ -7,13 +7,13 @@ use Rattle.std.proofs.lemmas.List.Sorted.{IsPermutation-sym, Contains-permutatio
 use Rattle.merge_laws.specs.Reach.{near, reach}
 use Rattle.merge_laws.specs.Resolution.{member, IsDominated, IsResolution, AreApart}
 use Rattle.merge_laws.proofs.Resolutions.{IsDominated-refl, Derives-through, IsPermutation-from_resolutions, IsResolution-from_apart, IsResolution-through, IsResolution-push}
-use Rattle.catalogue_core.specs.Joining.{join}
-use Rattle.catalogue_core.specs.JoinLaws.{edition_join_laws}
-use Rattle.catalogue_core.specs.Matching.{match, share}
-use Rattle.catalogue_core.specs.MatchLaws.{edition_match_laws}
+use Rattle.catalogue_editions.specs.Joining.{join}
+use Rattle.catalogue_editions.specs.JoinLaws.{edition_join_laws}
+use Rattle.catalogue_editions.specs.Matching.{match, share}
+use Rattle.catalogue_editions.specs.MatchLaws.{edition_match_laws}
 use Rattle.catalogue_core.specs.PreparedReaches.{IsReachOfComing}
 use Rattle.catalogue_core.specs.Reaches.{IsReachOfInsertion}
-use Rattle.catalogue_core.specs.declared.edition.Edition.{Edition}
+use Rattle.catalogue_editions.specs.declared.edition.Edition.{Edition}
 use Rattle.catalogue_core.proofs.PlanLaws.{resolved-by_members}
 
 -- what an insertion into the view costs, for whichever resolution is meant

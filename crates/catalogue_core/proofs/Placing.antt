@@ -7,8 +7,8 @@ use Rattle.union_base.specs.declared.record_id.RecordId.{RecordId}
 use Rattle.catalogue_core.specs.Histories.{MapOf}
 use Rattle.catalogue_core.specs.Keeping.{batches, loaded_at, map_values, StandFor}
 use Rattle.catalogue_core.specs.declared.history_entry.HistoryEntry.{HistoryEntry}
-use Rattle.catalogue_core.specs.declared.edition.Edition.{Edition}
-use Rattle.catalogue_core.specs.declared.batch.Batch.{Batch}
+use Rattle.catalogue_editions.specs.declared.edition.Edition.{Edition}
+use Rattle.catalogue_editions.specs.declared.batch.Batch.{Batch}
 use Rattle.catalogue_core.specs.declared.place.Place.{Place}
 
 -- what f makes of the values of a map

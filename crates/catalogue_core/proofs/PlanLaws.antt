@@ -28,18 +28,18 @@ use Rattle.swoosh_resolver.specs.declared.change.Place.{Place as Seat}
 use Rattle.swoosh_resolver.proofs.Splitting.{taken-at}
 use Rattle.catalogue_core.specs.Histories.{MapOf, at_id, is_current}
 use Rattle.catalogue_core.specs.Homes.{Block, has_contributor, place_of}
-use Rattle.catalogue_core.specs.Ids.{least}
-use Rattle.catalogue_core.specs.Joining.{join}
-use Rattle.catalogue_core.specs.JoinLaws.{edition_join_laws}
+use Rattle.catalogue_editions.specs.Ids.{least}
+use Rattle.catalogue_editions.specs.Joining.{join}
+use Rattle.catalogue_editions.specs.JoinLaws.{edition_join_laws}
 use Rattle.catalogue_core.specs.Keeping.{loaded_at}
-use Rattle.catalogue_core.specs.Matching.{match, share}
-use Rattle.catalogue_core.specs.MatchLaws.{edition_match_laws}
+use Rattle.catalogue_editions.specs.Matching.{match, share}
+use Rattle.catalogue_editions.specs.MatchLaws.{edition_match_laws}
 use Rattle.catalogue_core.specs.Plans.{AreSingle, IsPlanned, IsLeft, base_beside}
 use Rattle.catalogue_core.specs.Reaches.{IsReachOfInsertion, IsReachOfWithdrawal, IsReachOfReplacement, IsReachOfOp}
-use Rattle.catalogue_core.specs.declared.batch.Batch.{Batch}
-use Rattle.catalogue_core.specs.declared.edition.Edition.{Edition}
+use Rattle.catalogue_editions.specs.declared.batch.Batch.{Batch}
+use Rattle.catalogue_editions.specs.declared.edition.Edition.{Edition}
 use Rattle.catalogue_core.specs.declared.home.Home.{Home}
-use Rattle.catalogue_core.specs.declared.op.Op.TheVariants.{Load, Withdraw}
+use Rattle.catalogue_editions.specs.declared.op.Op.TheVariants.{Load, Withdraw}
 use Rattle.catalogue_core.specs.declared.place.Place.{Place}
 use Rattle.catalogue_core.proofs.Growing.{grown-insert}
 use Rattle.catalogue_core.proofs.Looking.{tags, any-from_member, bears-resolution, bears-current, single-insert, single-remove, flat-then, flat-some}

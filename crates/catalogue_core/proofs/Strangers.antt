@@ -11,13 +11,13 @@ use Rattle.merge_laws.proofs.Resolutions.{IsResolution-push}
 use Rattle.match_features.specs.MemberLaws.{member-from_has}
 use Rattle.union_base.specs.IdLaws.{ids_apart}
 use Rattle.field_merge.specs.KeptLaws.{id_total}
-use Rattle.catalogue_core.specs.Joining.{join}
-use Rattle.catalogue_core.specs.JoinLaws.{edition_join_laws}
-use Rattle.catalogue_core.specs.Matching.{match, share}
-use Rattle.catalogue_core.specs.MatchLaws.{edition_match_laws, edition_key_laws}
+use Rattle.catalogue_editions.specs.Joining.{join}
+use Rattle.catalogue_editions.specs.JoinLaws.{edition_join_laws}
+use Rattle.catalogue_editions.specs.Matching.{match, share}
+use Rattle.catalogue_editions.specs.MatchLaws.{edition_match_laws, edition_key_laws}
 use Rattle.catalogue_core.specs.Reaches.{IsReachOfInsertion, IsReachOfWithdrawal}
-use Rattle.catalogue_core.specs.declared.edition.Edition.{Edition}
-use Rattle.catalogue_core.proofs.Apart.{match-from_contributor}
+use Rattle.catalogue_editions.specs.declared.edition.Edition.{Edition}
+use Rattle.catalogue_editions.proofs.Apart.{match-from_contributor}
 use Rattle.catalogue_core.proofs.Holders.{none-left}
 use Rattle.catalogue_core.proofs.Housing.{false-from_never}
 use Rattle.catalogue_core.proofs.PlanLaws.{bears-own}

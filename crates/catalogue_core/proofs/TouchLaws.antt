@@ -9,19 +9,19 @@ use Rattle.std.specs.BTreeMap.{insert_entry}
 use Rattle.std.specs.Map.{keys_of, remove_entry}
 use Rattle.union_base.specs.declared.record_id.RecordId.{RecordId}
 use Rattle.field_merge.specs.Kept.{id_cmp}
-use Rattle.catalogue_core.specs.Batches.{is_own_op}
+use Rattle.catalogue_editions.specs.Batches.{is_own_op}
 use Rattle.catalogue_core.specs.Histories.{MapOf, at_id, id_of, after_op, current, outcome_of, outcomes}
 use Rattle.catalogue_core.specs.Homes.{place_of, places_in}
-use Rattle.catalogue_core.specs.Ids.{least}
+use Rattle.catalogue_editions.specs.Ids.{least}
 use Rattle.catalogue_core.specs.Keeping.{batches, loaded, loaded_at, StandFor}
 use Rattle.catalogue_core.specs.Touches.{IsTouched}
-use Rattle.catalogue_core.specs.declared.batch.Batch.{Batch}
-use Rattle.catalogue_core.specs.declared.edition.Edition.{Edition}
+use Rattle.catalogue_editions.specs.declared.batch.Batch.{Batch}
+use Rattle.catalogue_editions.specs.declared.edition.Edition.{Edition}
 use Rattle.catalogue_core.specs.declared.history_entry.HistoryEntry.{HistoryEntry}
 use Rattle.catalogue_core.specs.declared.home.Home.{Home}
-use Rattle.catalogue_core.specs.declared.op.Op.{Op}
-use Rattle.catalogue_core.specs.declared.op.Op.TheVariants.{Load, Withdraw}
-use Rattle.catalogue_core.specs.declared.outcome.Outcome.{Outcome}
+use Rattle.catalogue_editions.specs.declared.op.Op.{Op}
+use Rattle.catalogue_editions.specs.declared.op.Op.TheVariants.{Load, Withdraw}
+use Rattle.catalogue_editions.specs.declared.outcome.Outcome.{Outcome}
 use Rattle.catalogue_core.specs.declared.place.Place.{Place}
 use Rattle.catalogue_core.proofs.Looking.{single-op, single-remove, single-turns}
 use Rattle.catalogue_core.proofs.MapLaws.{same, at-inserted, at-removed, ordered-inserted, ordered-removed}

@@ -16,21 +16,21 @@ use Rattle.merge_laws.specs.Resolution.{IsResolution}
 use Rattle.field_merge.specs.Kept.{id_cmp}
 use Rattle.swoosh_resolver.specs.Changes.{Fits, view_of}
 use Rattle.swoosh_resolver.specs.Tables.{blocks_in, values_of}
-use Rattle.catalogue_core.specs.Batches.{is_own_op}
+use Rattle.catalogue_editions.specs.Batches.{is_own_op}
 use Rattle.catalogue_core.specs.Histories.{MapOf, at_id, after_op, after_batch, bases, current, outcome_of, outcomes}
 use Rattle.catalogue_core.specs.Homes.{Block, place_of, places_in}
-use Rattle.catalogue_core.specs.Joining.{join}
+use Rattle.catalogue_editions.specs.Joining.{join}
 use Rattle.catalogue_core.specs.Keeping.{batches, loaded, loaded_at, StandFor}
-use Rattle.catalogue_core.specs.Matching.{match}
+use Rattle.catalogue_editions.specs.Matching.{match}
 use Rattle.catalogue_core.specs.Plans.{IsPlanned}
 use Rattle.catalogue_core.specs.Reaches.{IsReachOf, IsReachOfOp}
-use Rattle.catalogue_core.specs.declared.batch.Batch.{Batch}
-use Rattle.catalogue_core.specs.declared.edition.Edition.{Edition}
+use Rattle.catalogue_editions.specs.declared.batch.Batch.{Batch}
+use Rattle.catalogue_editions.specs.declared.edition.Edition.{Edition}
 use Rattle.catalogue_core.specs.declared.history_entry.HistoryEntry.{HistoryEntry}
 use Rattle.catalogue_core.specs.declared.home.Home.{Home}
-use Rattle.catalogue_core.specs.declared.op.Op.{Op}
-use Rattle.catalogue_core.specs.declared.op.Op.TheVariants.{Load, Withdraw}
-use Rattle.catalogue_core.specs.declared.outcome.Outcome.{Outcome}
+use Rattle.catalogue_editions.specs.declared.op.Op.{Op}
+use Rattle.catalogue_editions.specs.declared.op.Op.TheVariants.{Load, Withdraw}
+use Rattle.catalogue_editions.specs.declared.outcome.Outcome.{Outcome}
 use Rattle.catalogue_core.specs.declared.place.Place.{Place}
 use Rattle.catalogue_core.proofs.Looking.{single-turns}
 use Rattle.catalogue_core.proofs.MapLaws.{ordered-inserted, ordered-removed}

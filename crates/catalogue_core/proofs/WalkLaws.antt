@@ -18,12 +18,12 @@ use Rattle.union_base.specs.SortedLists.{is_ascending}
 use Rattle.union_base.specs.declared.record_id.RecordId.{RecordId}
 use Rattle.field_merge.specs.Kept.{id_cmp}
 use Rattle.field_merge.specs.KeptLaws.{id_total}
-use Rattle.catalogue_core.specs.Ids.{least, edition_cmp}
+use Rattle.catalogue_editions.specs.Ids.{least, edition_cmp}
 use Rattle.catalogue_core.specs.Walks.{first_of, first_behind}
 use Rattle.catalogue_core.specs.Histories.{AreEditionsOf}
 use Rattle.catalogue_core.proofs.SameEditions.{same_editions_of}
 use Rattle.catalogue_core.specs.declared.history_entry.HistoryEntry.{HistoryEntry}
-use Rattle.catalogue_core.specs.declared.edition.Edition.{Edition}
+use Rattle.catalogue_editions.specs.declared.edition.Edition.{Edition}
 
 -- not below what is not above it
 reverse-not_below : (r s : Ordering) → s ≡ ordering_reverse r → is_lt r ≡ true → is_lt s ≡ false

@@ -9,9 +9,9 @@ use Rattle.match_features.specs.declared.keys.FeatureKey.{FeatureKey}
 use Rattle.field_merge.specs.Kept.{id_cmp}
 use Rattle.swoosh_resolver.specs.Tables.{Entry, block_at}
 use Rattle.catalogue_core.specs.Histories.{MapOf, at_id, is_current}
-use Rattle.catalogue_core.specs.Ids.{least}
+use Rattle.catalogue_editions.specs.Ids.{least}
 use Rattle.catalogue_core.specs.Keeping.{map_values}
-use Rattle.catalogue_core.specs.declared.edition.Edition.{Edition}
+use Rattle.catalogue_editions.specs.declared.edition.Edition.{Edition}
 use Rattle.catalogue_core.specs.declared.home.Home.{Home}
 use Rattle.catalogue_core.specs.declared.place.Place.{Place}
 

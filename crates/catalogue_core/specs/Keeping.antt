@@ -2,10 +2,10 @@
 use Rattle.std.specs.Prelude.{◌≡◌, List, map, Option, Some, None, slice_get}
 use Rattle.std.specs.Option.{option_and_then}
 use Rattle.catalogue_core.specs.Histories.{MapOf}
-use Rattle.catalogue_core.specs.declared.edition.Edition.{Edition}
-use Rattle.catalogue_core.specs.declared.op.Op.{Op}
-use Rattle.catalogue_core.specs.declared.op.Op.TheVariants.{Load, Withdraw}
-use Rattle.catalogue_core.specs.declared.batch.Batch.{Batch}
+use Rattle.catalogue_editions.specs.declared.edition.Edition.{Edition}
+use Rattle.catalogue_editions.specs.declared.op.Op.{Op}
+use Rattle.catalogue_editions.specs.declared.op.Op.TheVariants.{Load, Withdraw}
+use Rattle.catalogue_editions.specs.declared.batch.Batch.{Batch}
 use Rattle.catalogue_core.specs.declared.history_entry.HistoryEntry.{HistoryEntry}
 use Rattle.catalogue_core.specs.declared.place.Place.{Place}
 

@@ -4,12 +4,12 @@ use Rattle.union_base.specs.declared.record_id.RecordId.{RecordId}
 use Rattle.merge_laws.specs.Resolution.{IsResolution}
 use Rattle.swoosh_resolver.specs.Tables.{blocks_in, values_of}
 use Rattle.work_clusters.specs.Works.{works_of}
-use Rattle.catalogue_core.specs.EditionKeys.{work_pairs}
+use Rattle.catalogue_editions.specs.EditionKeys.{work_pairs}
 use Rattle.catalogue_core.specs.Histories.{MapOf, bases, current as current_of}
 use Rattle.catalogue_core.specs.Homes.{Block, AreHoused, places_in}
-use Rattle.catalogue_core.specs.Joining.{join}
+use Rattle.catalogue_editions.specs.Joining.{join}
 use Rattle.catalogue_core.specs.Keeping.{batches, StandFor}
-use Rattle.catalogue_core.specs.Matching.{match}
+use Rattle.catalogue_editions.specs.Matching.{match}
 use Rattle.catalogue_core.specs.declared.history_entry.HistoryEntry.{HistoryEntry}
 use Rattle.catalogue_core.specs.declared.home.Home.{Home}
 

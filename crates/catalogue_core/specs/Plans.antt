@@ -13,11 +13,11 @@ use Rattle.swoosh_resolver.specs.Splits.{member_at}
 use Rattle.swoosh_resolver.specs.declared.change.Place.{Place as Seat}
 use Rattle.catalogue_core.specs.Histories.{MapOf, at_id}
 use Rattle.catalogue_core.specs.Homes.{Block, has_contributor, place_of}
-use Rattle.catalogue_core.specs.Joining.{join}
+use Rattle.catalogue_editions.specs.Joining.{join}
 use Rattle.catalogue_core.specs.Keeping.{loaded_at}
-use Rattle.catalogue_core.specs.Matching.{match}
-use Rattle.catalogue_core.specs.declared.batch.Batch.{Batch}
-use Rattle.catalogue_core.specs.declared.edition.Edition.{Edition}
+use Rattle.catalogue_editions.specs.Matching.{match}
+use Rattle.catalogue_editions.specs.declared.batch.Batch.{Batch}
+use Rattle.catalogue_editions.specs.declared.edition.Edition.{Edition}
 use Rattle.catalogue_core.specs.declared.home.Home.{Home}
 use Rattle.catalogue_core.specs.declared.place.Place.{Place}
 

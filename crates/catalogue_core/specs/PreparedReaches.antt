@@ -5,8 +5,8 @@ use Rattle.std.specs.Map.{remove_entry, values_of}
 use Rattle.field_merge.specs.Kept.{id_cmp}
 use Rattle.catalogue_core.specs.Histories.{MapOf, id_of, is_current}
 use Rattle.catalogue_core.specs.Reaches.{IsReachOfWithdrawal, IsReachOfInsertion}
-use Rattle.catalogue_core.specs.declared.edition.Edition.{Edition}
-use Rattle.catalogue_core.specs.declared.op.Op.{Op}
+use Rattle.catalogue_editions.specs.declared.edition.Edition.{Edition}
+use Rattle.catalogue_editions.specs.declared.op.Op.{Op}
 
 -- without the record that the operation names
 abbrev pub without_named : List ℕ → MapOf Edition → Op → MapOf Edition

@@ -8,12 +8,12 @@ use Rattle.merge_laws.specs.Reach.{reach}
 use Rattle.merge_laws.specs.Resolution.{IsDominated, IsResolution}
 use Rattle.catalogue_core.specs.Histories.{MapOf, id_of, is_current, after_op}
 use Rattle.catalogue_core.specs.Homes.{has_contributor}
-use Rattle.catalogue_core.specs.Ids.{least}
-use Rattle.catalogue_core.specs.Joining.{join}
-use Rattle.catalogue_core.specs.Matching.{match, share}
-use Rattle.catalogue_core.specs.declared.edition.Edition.{Edition}
-use Rattle.catalogue_core.specs.declared.op.Op.{Op}
-use Rattle.catalogue_core.specs.declared.op.Op.TheVariants.{Load, Withdraw}
+use Rattle.catalogue_editions.specs.Ids.{least}
+use Rattle.catalogue_editions.specs.Joining.{join}
+use Rattle.catalogue_editions.specs.Matching.{match, share}
+use Rattle.catalogue_editions.specs.declared.edition.Edition.{Edition}
+use Rattle.catalogue_editions.specs.declared.op.Op.{Op}
+use Rattle.catalogue_editions.specs.declared.op.Op.TheVariants.{Load, Withdraw}
 
 -- the reach of the insertion of an edition into what a list of editions resolves to: one more than the editions that are merged
 -- with it, times the editions that share an index key with what they come to

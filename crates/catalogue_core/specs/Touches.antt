@@ -9,8 +9,8 @@ use Rattle.catalogue_core.specs.Histories.{MapOf, at_id}
 use Rattle.catalogue_core.specs.Homes.{place_of}
 use Rattle.catalogue_core.specs.Keeping.{loaded_at}
 use Rattle.catalogue_core.specs.Plans.{AreSingle}
-use Rattle.catalogue_core.specs.declared.batch.Batch.{Batch}
-use Rattle.catalogue_core.specs.declared.edition.Edition.{Edition}
+use Rattle.catalogue_editions.specs.declared.batch.Batch.{Batch}
+use Rattle.catalogue_editions.specs.declared.edition.Edition.{Edition}
 use Rattle.catalogue_core.specs.declared.home.Home.{Home}
 use Rattle.catalogue_core.specs.declared.place.Place.{Place}
 

@@ -4,8 +4,8 @@ use Rattle.std.specs.Ordering.{is_lt}
 use Rattle.union_base.specs.declared.record_id.RecordId.{RecordId}
 use Rattle.union_base.specs.SortedLists.{has}
 use Rattle.field_merge.specs.Kept.{id_cmp}
-use Rattle.catalogue_core.specs.Ids.{least}
-use Rattle.catalogue_core.specs.declared.edition.Edition.{Edition}
+use Rattle.catalogue_editions.specs.Ids.{least}
+use Rattle.catalogue_editions.specs.declared.edition.Edition.{Edition}
 
 -- the first of them
 abbrev pub first_of : List Edition → Option Edition

@@ -5,12 +5,12 @@ ghost use Rattle.std.specs.Prelude.{◌≡◌, List, map, filter, filter_map, If
 ghost use Rattle.std.specs.List.Sorted.{IsPermutation, IsSorted};
 ghost use Rattle.std.specs.Option.{option_map};
 ghost use Rattle.swoosh_resolver.specs.Tables.{block_at, blocks_in, values_of};
-ghost use Rattle.catalogue_core.specs.declared.edition.Edition.{Edition as EditionModel};
-ghost use Rattle.catalogue_core.specs.Ids.{edition_cmp};
-ghost use Rattle.catalogue_core.specs.IndexKeys.{has_key};
-ghost use Rattle.catalogue_core.specs.Resolutions.{IsOrderedResolution};
+ghost use Rattle.catalogue_editions.specs.declared.edition.Edition.{Edition as EditionModel};
+ghost use Rattle.catalogue_editions.specs.Ids.{edition_cmp};
+ghost use Rattle.catalogue_editions.specs.IndexKeys.{has_key};
+ghost use Rattle.catalogue_editions.specs.Resolutions.{IsOrderedResolution};
 
-use crate::edition::Edition;
+use catalogue_editions::edition::Edition;
 use match_features::keys::FeatureKey;
 use std::alloc::Global;
 use std::cmp::Ordering;

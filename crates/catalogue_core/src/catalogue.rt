@@ -9,29 +9,29 @@
 //! its batch (`specs/Reaches.antt`), whatever the size of the catalogue.
 ghost use Rattle.std.specs.Prelude.{◌≡◌, ◌≤◌, ◌+◌, ◌<◌, ◌^◌, ◌++◌, ◌∷◌, [], ℕ, List, length, map, filter, not, is_none, IfOk, OnOk, OnErr, Some, slice_get};
 ghost use Rattle.std.specs.Option.{option_copied};
-ghost use Rattle.catalogue_core.specs.declared.edition.Edition.{Edition as EditionModel};
+ghost use Rattle.catalogue_editions.specs.declared.edition.Edition.{Edition as EditionModel};
 ghost use Rattle.work_clusters.specs.Works.{works_of};
-ghost use Rattle.catalogue_core.specs.EditionKeys.{work_pairs};
+ghost use Rattle.catalogue_editions.specs.EditionKeys.{work_pairs};
 ghost use Rattle.catalogue_core.specs.Histories.{current, bases, at_id, is_current, outcomes, AreEditionsOf};
-ghost use Rattle.catalogue_core.specs.IndexKeys.{has_key};
-ghost use Rattle.catalogue_core.specs.Net.{net};
+ghost use Rattle.catalogue_editions.specs.IndexKeys.{has_key};
+ghost use Rattle.catalogue_editions.specs.Net.{net};
 ghost use Rattle.catalogue_core.specs.PreparedReaches.{IsReachOfParts};
 ghost use Rattle.catalogue_core.specs.Reaches.{IsReachOf};
-ghost use Rattle.catalogue_core.specs.Resolutions.{IsOrderedResolution};
+ghost use Rattle.catalogue_editions.specs.Resolutions.{IsOrderedResolution};
 ghost use Rattle.catalogue_core.specs.Walks.{first_of, first_behind, holder_of};
 
-use crate::batch::Batch;
 use crate::by_key;
-use crate::edition::Edition;
 use crate::history_entry::HistoryEntry;
 use crate::home::Home;
 use crate::installing::install;
 use crate::keeping::loaded_at;
-use crate::outcome::Outcome;
 use crate::parts_turn::apply_parts;
-use crate::prepared::Prepared;
 use crate::turn::planned;
 use crate::walk::first_named;
+use catalogue_editions::batch::Batch;
+use catalogue_editions::edition::Edition;
+use catalogue_editions::outcome::Outcome;
+use catalogue_editions::prepared::Prepared;
 use match_features::keys::FeatureKey;
 use merge_laws::steps::Steps;
 use std::alloc::Global;

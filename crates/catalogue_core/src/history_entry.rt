@@ -1,5 +1,5 @@
 //! One turn of a catalogue's history.
-use crate::batch::Batch;
+use catalogue_editions::batch::Batch;
 
 /// One turn of a catalogue's history: a batch, and the number under which it was applied.
 #[derive(Debug, Drop)]

@@ -5,9 +5,9 @@
 ghost use Rattle.std.specs.Prelude.{◌≡◌, ◌≤◌, length, fold, IfOk, OnOk, OnErr};
 ghost use Rattle.catalogue_core.specs.Homes.{change_at, standing, admitted, moved, housed, housed_all};
 
-use crate::edition::Edition;
 use crate::home::Home;
 use crate::place::Place;
+use catalogue_editions::edition::Edition;
 use std::alloc::Global;
 use std::collections::BTreeMap;
 use swoosh_resolver::keyed::Keyed;

@@ -4,19 +4,20 @@
 //! Where it runs out the catalogue is as before. Then everything is installed, which wants no memory and is not refused.
 ghost use Rattle.std.specs.Prelude.{◌≡◌, ◌++◌, ◌∷◌, [], IfOk, OnOk, OnErr};
 ghost use Rattle.swoosh_resolver.specs.Tables.{values_of};
-ghost use Rattle.catalogue_core.specs.EditionKeys.{work_key_of, work_pairs, closed_pairs};
+ghost use Rattle.catalogue_editions.specs.EditionKeys.{work_key_of, work_pairs};
+ghost use Rattle.catalogue_core.specs.ClosedKeys.{closed_pairs};
 ghost use Rattle.catalogue_core.specs.Histories.{after_batch, current};
-ghost use Rattle.catalogue_core.specs.Ids.{least};
+ghost use Rattle.catalogue_editions.specs.Ids.{least};
 ghost use Rattle.catalogue_core.specs.Keeping.{batches};
 ghost use Rattle.catalogue_core.specs.Kept.{IsKept};
 ghost use Rattle.catalogue_core.specs.Plans.{IsPlanned};
 
-use crate::edition::Edition;
 use crate::history_entry::HistoryEntry;
 use crate::home::Home;
 use crate::homes::{admit, house_all, move_all, standing};
 use crate::plan::Plan;
-use crate::work_key::work_key_of;
+use catalogue_editions::edition::Edition;
+use catalogue_editions::work_key::work_key_of;
 use std::alloc::Global;
 use std::collections::BTreeMap;
 use swoosh_resolver::blocks::Blocks;

@@ -1,46 +1,16 @@
-//! What holds of editions. Each function here does nothing when it runs: its contract is the law.
-ghost use Rattle.std.specs.Prelude.{◌≡◌, ◌≢◌, ◌⊎◌, ℕ, false, IsTrue, List, [], ◌∷◌, Contains};
-ghost use Rattle.std.specs.List.{list_all};
-ghost use Rattle.std.specs.List.Sorted.{IsPermutation, IsSorted};
+//! What holds of the editions of a catalogue. Each function here does nothing when it runs: its contract is the law.
+ghost use Rattle.std.specs.Prelude.{◌≡◌, ◌⊎◌, ℕ, false, List, [], ◌∷◌, Contains};
 ghost use Rattle.union_base.specs.declared.record_id.RecordId.{RecordId};
-ghost use Rattle.marc_fields.specs.Spelling.{is_short};
-ghost use Rattle.marc_fields.specs.declared.marc_record.Record.{Record};
-ghost use Rattle.marc_parts.specs.Loads.{is_deleted, is_loadable};
-ghost use Rattle.marc_rules.specs.Accepted.{IsAccepted};
-ghost use Rattle.merge_laws.specs.Resolution.{IsResolution};
-ghost use Rattle.catalogue_core.specs.declared.edition.Edition.{Edition};
+ghost use Rattle.catalogue_editions.specs.declared.edition.Edition.{Edition};
+ghost use Rattle.catalogue_editions.specs.Matching.{share};
 ghost use Rattle.catalogue_core.specs.declared.history_entry.HistoryEntry.{HistoryEntry};
 ghost use Rattle.catalogue_core.specs.Histories.{AreEditionsOf};
-ghost use Rattle.catalogue_core.specs.Ids.{least, edition_cmp};
-ghost use Rattle.catalogue_core.specs.Joining.{join};
-ghost use Rattle.catalogue_core.specs.Matching.{match as edition_match, share};
 ghost use Rattle.catalogue_core.specs.Reaches.{IsReachOfInsertion, IsReachOfWithdrawal};
-ghost use Rattle.catalogue_core.specs.Resolutions.{IsOrderedResolution};
 
-/// An accepted record that is no withdrawal is one that `records::edition_of` makes an edition of.
-pub fn accepted_can_be_loaded()
-    ensures loadable { (r : Record) → IsAccepted r → is_deleted r.leader.status ≡ false → IsTrue (is_loadable r) }
-    ensures short { (r : Record) → IsAccepted r → IsTrue (list_all is_short r.fields) }
-{}
-
-/// Editions that have a contributor in common match. So those that do not match have none, and their least contributors
-/// differ.
-pub fn common_contributor_matches()
-    ensures any { (x y : Edition) (id : RecordId) → Contains x.content.contributors id → Contains y.content.contributors id
-        → IsTrue (edition_match x y) }
-    ensures least { (x y : Edition) → edition_match x y ≡ false → least x ≢ least y }
-{}
-
-/// A resolution that was sorted by the least contributors is in strict order of them.
-pub fn sorted_resolution_is_ordered()
-    ensures { (list resolution sorted : List Edition) → IsResolution edition_match join list resolution
-        → IsPermutation resolution sorted → IsSorted edition_cmp sorted → IsOrderedResolution list sorted }
-{}
-
-/// A list of editions has one resolution that is in order of the least contributors.
-pub fn ordered_resolution_is_unique()
-    ensures { (list one other : List Edition) → IsOrderedResolution list one → IsOrderedResolution list other → one ≡ other }
-{}
+pub use catalogue_editions::laws::{
+    accepted_can_be_loaded, common_contributor_matches, ordered_resolution_is_unique,
+    sorted_resolution_is_ordered,
+};
 
 /// The editions of a history are one list.
 pub fn editions_of_a_history_are_unique()

@@ -2,19 +2,19 @@
 ghost use Rattle.std.specs.Prelude.{◌≡◌, ◌≤◌, ◌+◌, ◌++◌, ◌∷◌, [], ℕ, IfOk, OnOk, OnErr};
 ghost use Rattle.merge_laws.specs.Resolution.{IsResolution};
 ghost use Rattle.catalogue_core.specs.Histories.{current, outcomes};
-ghost use Rattle.catalogue_core.specs.Joining.{join};
+ghost use Rattle.catalogue_editions.specs.Joining.{join};
 ghost use Rattle.catalogue_core.specs.Kept.{IsKept};
-ghost use Rattle.catalogue_core.specs.Matching.{match as edition_match};
-ghost use Rattle.catalogue_core.specs.Net.{net};
+ghost use Rattle.catalogue_editions.specs.Matching.{match as edition_match};
+ghost use Rattle.catalogue_editions.specs.Net.{net};
 ghost use Rattle.catalogue_core.specs.PreparedReaches.{IsReachOfParts};
 
-use crate::batch::Batch;
-use crate::edition::Edition;
 use crate::history_entry::HistoryEntry;
 use crate::home::Home;
 use crate::installing::install;
-use crate::outcome::Outcome;
 use crate::parts_planning::planned_parts;
+use catalogue_editions::batch::Batch;
+use catalogue_editions::edition::Edition;
+use catalogue_editions::outcome::Outcome;
 use merge_laws::steps::Steps;
 use std::alloc::Global;
 use std::collections::BTreeMap;

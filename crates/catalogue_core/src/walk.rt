@@ -7,8 +7,8 @@ ghost use Rattle.std.specs.Option.{option_copied};
 ghost use Rattle.catalogue_core.specs.Homes.{named, named_in};
 ghost use Rattle.catalogue_core.specs.Walks.{first_of};
 
-use crate::edition::Edition;
 use crate::home::Home;
+use catalogue_editions::edition::Edition;
 use std::collections::btree_map::Range;
 use swoosh_resolver::blocks::Blocks;
 use union_base::record_id::RecordId;

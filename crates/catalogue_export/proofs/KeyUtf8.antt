@@ -21,7 +21,7 @@ use Rattle.field_merge.specs.Kept.{id_cmp}
 use Rattle.catalogue_core.specs.Sound.{is_id}
 use Rattle.catalogue_core.specs.Ids.{first_id, least}
 use Rattle.catalogue_core.specs.EditionKeys.{is_added_entry, field_in, work_key_of}
-use Rattle.catalogue_core.specs.declared.edition.Edition.{Edition}
+use Rattle.catalogue_editions.specs.declared.edition.Edition.{Edition}
 use Rattle.catalogue_export.specs.Editions.{edition_text}
 use Rattle.catalogue_export.specs.ExportedLaws.{EditionIsAccepted, EditionIsNumberedTooLong}
 use Rattle.catalogue_export.proofs.SoundLaws.{sound-ids}

@@ -4,7 +4,7 @@ use Rattle.std.specs.List.{flat_map}
 use Rattle.union_base.specs.declared.record_id.RecordId.{RecordId}
 use Rattle.catalogue_core.specs.Ids.{least}
 use Rattle.catalogue_core.specs.EditionKeys.{work_key_of}
-use Rattle.catalogue_core.specs.declared.edition.Edition.{Edition}
+use Rattle.catalogue_editions.specs.declared.edition.Edition.{Edition}
 use Rattle.catalogue_export.specs.Exported.{edition_bytes, left_out}
 
 -- an edition's record, under its own work key

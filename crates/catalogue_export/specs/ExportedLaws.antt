@@ -14,7 +14,7 @@ use Rattle.field_merge.specs.declared.content.Content.{Content}
 use Rattle.catalogue_core.specs.Sound.{is_sound}
 use Rattle.catalogue_core.specs.Ids.{least}
 use Rattle.catalogue_core.specs.EditionKeys.{work_key_of}
-use Rattle.catalogue_core.specs.declared.edition.Edition.{Edition}
+use Rattle.catalogue_editions.specs.declared.edition.Edition.{Edition}
 use Rattle.catalogue_export.specs.Exported.{exported, edition_bytes}
 use Rattle.catalogue_export.specs.Editions.{edition_text}
 

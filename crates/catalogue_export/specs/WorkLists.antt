@@ -5,7 +5,7 @@ use Rattle.union_base.specs.declared.record_id.RecordId.{RecordId}
 use Rattle.workset_keys.specs.WorkKeys.{own_name}
 use Rattle.work_clusters.specs.Works.{works_of}
 use Rattle.catalogue_core.specs.EditionKeys.{work_pairs}
-use Rattle.catalogue_core.specs.declared.edition.Edition.{Edition}
+use Rattle.catalogue_editions.specs.declared.edition.Edition.{Edition}
 
 -- ` LIB.CTL`: an edition, by its least contributor
 unfoldable pub edition_line : RecordId → List ℕ

@@ -1,7 +1,7 @@
 //! The export of a catalogue.
 ghost use Rattle.std.specs.Prelude.{◌≡◌, ◌++◌, OnOk, List};
 ghost use Rattle.catalogue_core.specs.Histories.{AreEditionsOf};
-ghost use Rattle.catalogue_core.specs.declared.edition.Edition.{Edition as EditionModel};
+ghost use Rattle.catalogue_editions.specs.declared.edition.Edition.{Edition as EditionModel};
 ghost use Rattle.catalogue_export.specs.Editions.{edition_text, export_text, left_of_one, left_of};
 ghost use Rattle.catalogue_export.specs.Writing.{HasMoved, HasWritten};
 

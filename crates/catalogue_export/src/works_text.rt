@@ -2,7 +2,7 @@
 ghost use Rattle.std.specs.Prelude.{◌≡◌, ◌++◌, OnOk, List};
 ghost use Rattle.std.specs.List.{flat_map};
 ghost use Rattle.catalogue_core.specs.Histories.{AreEditionsOf};
-ghost use Rattle.catalogue_core.specs.declared.edition.Edition.{Edition as EditionModel};
+ghost use Rattle.catalogue_editions.specs.declared.edition.Edition.{Edition as EditionModel};
 ghost use Rattle.catalogue_export.specs.WorkLists.{edition_line, work_text, works_text_of};
 ghost use Rattle.catalogue_export.specs.Writing.{HasMoved, HasWritten};
 

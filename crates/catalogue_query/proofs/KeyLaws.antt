@@ -12,7 +12,7 @@ use Rattle.match_features.specs.declared.keys.FeatureKey.TheVariants as key
 use Rattle.catalogue_core.specs.Histories.{MapOf}
 use Rattle.catalogue_core.specs.Ids.{least}
 use Rattle.catalogue_core.specs.IndexKeys.{has_key}
-use Rattle.catalogue_core.specs.declared.edition.Edition.{Edition}
+use Rattle.catalogue_editions.specs.declared.edition.Edition.{Edition}
 use Rattle.catalogue_query.specs.Queries.{is_text}
 use Rattle.catalogue_query.specs.Lines.{edition_line}
 use Rattle.catalogue_query.specs.Answers.{stands_in, pair_stands_in, is_asked, told, told_of}

@@ -15,7 +15,7 @@ use Rattle.work_clusters.specs.WorksLaws.{key_total, id_total, has-set_of, ids_u
 use Rattle.catalogue_core.specs.Ids.{least, edition_cmp}
 use Rattle.catalogue_core.specs.EditionKeys.{work_key_of, work_pairs}
 use Rattle.catalogue_core.specs.Histories.{MapOf}
-use Rattle.catalogue_core.specs.declared.edition.Edition.{Edition}
+use Rattle.catalogue_editions.specs.declared.edition.Edition.{Edition}
 use Rattle.catalogue_query.specs.Queries.{is_text}
 use Rattle.catalogue_query.specs.Lines.{edition_line}
 use Rattle.catalogue_query.specs.Answers.{is_asked, told, told_of, work_keys}

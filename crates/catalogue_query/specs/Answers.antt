@@ -12,7 +12,7 @@ use Rattle.holdings_book.specs.Holdings.{holdings_of}
 use Rattle.catalogue_core.specs.Ids.{least}
 use Rattle.catalogue_core.specs.EditionKeys.{work_key_of}
 use Rattle.catalogue_core.specs.Histories.{MapOf, at_id}
-use Rattle.catalogue_core.specs.declared.edition.Edition.{Edition}
+use Rattle.catalogue_editions.specs.declared.edition.Edition.{Edition}
 use Rattle.catalogue_query.specs.Lines.{edition_line, by_line, work_line, hold_line, count_line}
 use Rattle.catalogue_query.specs.Queries.{is_text}
 use Rattle.catalogue_query.specs.declared.query.Query.{Query}

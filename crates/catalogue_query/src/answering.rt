@@ -6,7 +6,7 @@ ghost use Rattle.std.specs.Prelude.{◌≡◌, List, map, filter, flat_map, IfOk
 ghost use Rattle.catalogue_core.specs.Histories.{current, AreEditionsOf};
 ghost use Rattle.catalogue_core.specs.Ids.{least};
 ghost use Rattle.catalogue_core.specs.IndexKeys.{has_key};
-ghost use Rattle.catalogue_core.specs.declared.edition.Edition.{Edition as EditionModel};
+ghost use Rattle.catalogue_editions.specs.declared.edition.Edition.{Edition as EditionModel};
 ghost use Rattle.catalogue_query.specs.declared.query.Query.TheVariants.{Isbn, Control, Title, Work, Count};
 ghost use Rattle.catalogue_query.specs.Lines.{edition_line};
 ghost use Rattle.catalogue_query.specs.Answers.{has_contributor, told, told_of, lines_of, or_none, answer_lines};

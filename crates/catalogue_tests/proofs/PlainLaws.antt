@@ -14,11 +14,11 @@ use Rattle.catalogue_core.specs.JoinLaws.{edition_join_laws}
 use Rattle.catalogue_core.specs.Matching.{match}
 use Rattle.catalogue_core.specs.MatchLaws.{edition_match_laws}
 use Rattle.catalogue_core.specs.Histories.{MapOf, at_id, after_op, outcome_of, outcomes, AreEditionsOf}
-use Rattle.catalogue_core.specs.declared.edition.Edition.{Edition}
-use Rattle.catalogue_core.specs.declared.op.Op.{Op}
-use Rattle.catalogue_core.specs.declared.op.Op.TheVariants.{Load, Withdraw}
-use Rattle.catalogue_core.specs.declared.outcome.Outcome.{Outcome}
-use Rattle.catalogue_core.specs.declared.outcome.Outcome.TheVariants.{Added, Replaced, Removed, Absent}
+use Rattle.catalogue_editions.specs.declared.edition.Edition.{Edition}
+use Rattle.catalogue_editions.specs.declared.op.Op.{Op}
+use Rattle.catalogue_editions.specs.declared.op.Op.TheVariants.{Load, Withdraw}
+use Rattle.catalogue_editions.specs.declared.outcome.Outcome.{Outcome}
+use Rattle.catalogue_editions.specs.declared.outcome.Outcome.TheVariants.{Added, Replaced, Removed, Absent}
 
 -- a catalogue without history has no editions
 pub nothing : AreEditionsOf [] []

@@ -14,7 +14,7 @@ ghost use Rattle.catalogue_core.specs.Histories.{after_batch, after_op, at_id, b
 ghost use Rattle.catalogue_core.specs.Ids.{least};
 ghost use Rattle.catalogue_core.specs.Resolutions.{IsOrderedResolution};
 ghost use Rattle.catalogue_core.specs.Walks.{first_of, first_behind, holder_of};
-ghost use Rattle.catalogue_core.specs.declared.edition.Edition.{Edition as EditionModel};
+ghost use Rattle.catalogue_editions.specs.declared.edition.Edition.{Edition as EditionModel};
 
 use catalogue_core::batch::Batch;
 use catalogue_core::edition::Edition;

@@ -5,9 +5,9 @@ use Rattle.std.proofs.lemmas.Bool.{ltb-false, ltb-true}
 use Rattle.std.proofs.lemmas.List.{take_all}
 use Rattle.std.proofs.lemmas.List.Sums.{fold-append}
 use Rattle.iso2709_frame.specs.Frames.{frames}
-use Rattle.catalogue_core.specs.Histories.{MapOf, after_batch, outcomes}
-use Rattle.catalogue_core.specs.declared.batch.Batch.{Batch}
-use Rattle.catalogue_core.specs.declared.edition.Edition.{Edition}
+use Rattle.catalogue_editions.specs.CurrentRecords.{MapOf, after_batch, outcomes}
+use Rattle.catalogue_editions.specs.declared.batch.Batch.{Batch}
+use Rattle.catalogue_editions.specs.declared.edition.Edition.{Edition}
 use Rattle.library_batches.specs.Streams.{Frame}
 use Rattle.library_batches.specs.Refused.{refused}
 use Rattle.library_batches.specs.Batches.{AreBatches, AreFirstBatches}

@@ -6,10 +6,10 @@ use Rattle.std.proofs.lemmas.List.{length-map}
 use Rattle.std.proofs.lemmas.List.Sums.{length-filter, count_by-le-length}
 use Rattle.std.proofs.lemmas.Slice.Zip.{AllZip-long}
 use Rattle.library_stream.specs.Streaming.{frames_on, passes, is_too_long, stopped}
-use Rattle.catalogue_core.specs.declared.batch.Batch.{Batch}
-use Rattle.catalogue_core.specs.Batches.{is_batch}
-use Rattle.catalogue_core.specs.declared.op.Op.{Op}
-use Rattle.catalogue_core.specs.declared.op.TheConstants.{LARGEST_BATCH}
+use Rattle.catalogue_editions.specs.declared.batch.Batch.{Batch}
+use Rattle.catalogue_editions.specs.Batches.{is_batch}
+use Rattle.catalogue_editions.specs.declared.op.Op.{Op}
+use Rattle.catalogue_editions.specs.declared.op.TheConstants.{LARGEST_BATCH}
 use Rattle.library_batches.specs.Streams.{Frame, is_accepted, accepted}
 use Rattle.library_batches.specs.Refused.{refused_from}
 use Rattle.library_batches.specs.Batches.{AreBatches, AreFirstBatches, IsBatchOf, IsOpOf}

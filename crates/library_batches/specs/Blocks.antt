@@ -4,9 +4,9 @@ use Rattle.std.specs.List.{AllZip, list_all}
 use Rattle.library_stream.specs.Streaming.{Streaming, stopped, most_ahead}
 use Rattle.library_stream.specs.Answering.{Takes}
 use Rattle.library_stream.specs.declared.course.Course.TheVariants.{Ended}
-use Rattle.catalogue_core.specs.Batches.{is_own_op}
-use Rattle.catalogue_core.specs.declared.op.Op.{Op}
-use Rattle.catalogue_core.specs.declared.op.TheConstants.{LARGEST_BATCH}
+use Rattle.catalogue_editions.specs.Batches.{is_own_op}
+use Rattle.catalogue_editions.specs.declared.op.Op.{Op}
+use Rattle.catalogue_editions.specs.declared.op.TheConstants.{LARGEST_BATCH}
 use Rattle.library_batches.specs.Streams.{Frame, accepted}
 use Rattle.library_batches.specs.Refused.{refused_from}
 use Rattle.library_batches.specs.Batches.{IsOpOf}

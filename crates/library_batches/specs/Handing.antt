@@ -2,7 +2,7 @@
 use Rattle.std.specs.Prelude.{◌≡◌, ℕ, ◌≤◌, ⊤, nat_lt, List, ◌++◌, length, take, Option, Some, None}
 use Rattle.iso2709_frame.specs.Frames.{frames}
 use Rattle.library_stream.specs.Streaming.{is_too_long}
-use Rattle.catalogue_core.specs.declared.batch.Batch.{Batch}
+use Rattle.catalogue_editions.specs.declared.batch.Batch.{Batch}
 use Rattle.library_batches.specs.Refused.{refused}
 use Rattle.library_batches.specs.Batches.{AreBatches, AreFirstBatches}
 use Rattle.library_batches.specs.Reading.{Batching, begun, ahead, KeepsFrames}

@@ -1,10 +1,10 @@
 -- What came of operations, counted.
 use Rattle.std.specs.Prelude.{◌≡◌, ℕ, ◌+◌, Bool, true, false, List, [], ◌∷◌, ◌++◌, fold, count_by}
-use Rattle.catalogue_core.specs.Histories.{MapOf, after_batch, outcomes}
-use Rattle.catalogue_core.specs.declared.edition.Edition.{Edition}
-use Rattle.catalogue_core.specs.declared.batch.Batch.{Batch}
-use Rattle.catalogue_core.specs.declared.outcome.Outcome.{Outcome}
-use Rattle.catalogue_core.specs.declared.outcome.Outcome.TheVariants.{Added, Replaced, Removed, Absent}
+use Rattle.catalogue_editions.specs.CurrentRecords.{MapOf, after_batch, outcomes}
+use Rattle.catalogue_editions.specs.declared.edition.Edition.{Edition}
+use Rattle.catalogue_editions.specs.declared.batch.Batch.{Batch}
+use Rattle.catalogue_editions.specs.declared.outcome.Outcome.{Outcome}
+use Rattle.catalogue_editions.specs.declared.outcome.Outcome.TheVariants.{Added, Replaced, Removed, Absent}
 use Rattle.library_batches.specs.declared.outcome_counts.OutcomeCounts.{OutcomeCounts}
 
 -- what comes of the operations of batches that are applied one after the other, from these current records on

@@ -1,7 +1,7 @@
 -- What a reader of batches is, and what is ahead of it.
 use Rattle.std.specs.Prelude.{◌≡◌, ℕ, ◌+◌, ⊤, false, true, List, [], ◌∷◌, ◌++◌, length, Option, Some, None, Result, Ok, Err}
 use Rattle.library_stream.specs.Streaming.{Streaming, opened, frames_ahead, is_too_long}
-use Rattle.catalogue_core.specs.declared.batch.Batch.{Batch}
+use Rattle.catalogue_editions.specs.declared.batch.Batch.{Batch}
 use Rattle.library_batches.specs.Streams.{Frame}
 use Rattle.library_batches.specs.Refused.{refused_from}
 use Rattle.library_batches.specs.Batches.{AreBatches, AreFirstBatches}

@@ -1,5 +1,5 @@
 //! What the frames of one block ask for.
-use catalogue_core::op::Op;
+use catalogue_editions::op::Op;
 
 /// What the frames of one block ask for.
 #[derive(Drop)]

@@ -6,8 +6,8 @@ ghost use Rattle.library_batches.specs.Blocks.{IsChecked};
 ghost use Rattle.library_batches.specs.declared.refused.RefusedFrame.{RefusedFrame as RefusedModel};
 
 use crate::refused::RefusedFrame;
-use catalogue_core::op::Op;
-use catalogue_core::records::op_of;
+use catalogue_editions::op::Op;
+use catalogue_editions::records::op_of;
 use iso2709_frame::cut::Cut;
 use marc_rules::check::{Refusal, check_frame};
 use std::alloc::Global;

@@ -2,9 +2,9 @@
 ghost use Rattle.std.specs.Prelude.{◌≡◌, ◌<◌, ◌++◌, ◌∷◌, [], ℕ, List, Ok, Err, Some, None, IfSome, take, length};
 ghost use Rattle.std.specs.declared.option.Option.{Option};
 ghost use Rattle.iso2709_frame.specs.Frames.{frames};
-ghost use Rattle.catalogue_core.specs.Histories.{MapOf, after_batch, outcomes};
-ghost use Rattle.catalogue_core.specs.declared.batch.Batch.{Batch};
-ghost use Rattle.catalogue_core.specs.declared.edition.Edition.{Edition};
+ghost use Rattle.catalogue_editions.specs.CurrentRecords.{MapOf, after_batch, outcomes};
+ghost use Rattle.catalogue_editions.specs.declared.batch.Batch.{Batch};
+ghost use Rattle.catalogue_editions.specs.declared.edition.Edition.{Edition};
 ghost use Rattle.library_batches.specs.Batches.{AreFirstBatches};
 ghost use Rattle.library_batches.specs.Handing.{HandsOut, IsRead};
 ghost use Rattle.library_batches.specs.Outcomes.{found_in, after_batches};

@@ -1,9 +1,9 @@
 //! How many operations had which outcome.
 ghost use Rattle.std.specs.Prelude.{◌≡◌, ◌+◌, ◌++◌, ◌∷◌, ◌≤◌, [], List, length};
-ghost use Rattle.catalogue_core.specs.declared.outcome.Outcome.{Outcome as OutcomeModel};
+ghost use Rattle.catalogue_editions.specs.declared.outcome.Outcome.{Outcome as OutcomeModel};
 ghost use Rattle.library_batches.specs.Outcomes.{AreCounted, counted};
 
-use catalogue_core::outcome::Outcome;
+use catalogue_editions::outcome::Outcome;
 
 /// How many operations had which outcome.
 #[derive(Clone, Copy, Debug, PartialEq, Eq)]

@@ -5,12 +5,12 @@ use Rattle.std.proofs.lemmas.List.{map-append}
 use Rattle.std.proofs.lemmas.List.Elements.{filter-append}
 use Rattle.std.proofs.lemmas.Bool.{cond-true, leb-true}
 use Rattle.catalogue_core.specs.Histories.{MapOf, after_op, after_batch, outcomes}
-use Rattle.catalogue_core.specs.declared.op.Op.{Op}
-use Rattle.catalogue_core.specs.declared.op.TheConstants.{LARGEST_BATCH}
+use Rattle.catalogue_editions.specs.declared.op.Op.{Op}
+use Rattle.catalogue_editions.specs.declared.op.TheConstants.{LARGEST_BATCH}
 use Rattle.std.specs.Cmp.{first_so, second_so}
-use Rattle.catalogue_core.specs.declared.batch.Batch.{Batch}
-use Rattle.catalogue_core.specs.declared.edition.Edition.{Edition}
-use Rattle.catalogue_core.specs.declared.outcome.Outcome.{Outcome}
+use Rattle.catalogue_editions.specs.declared.batch.Batch.{Batch}
+use Rattle.catalogue_editions.specs.declared.edition.Edition.{Edition}
+use Rattle.catalogue_editions.specs.declared.outcome.Outcome.{Outcome}
 use Rattle.catalogue_lock.specs.History.{changes_of, IsPrefix}
 use Rattle.load_sessions.specs.Entries.{history_of, gives}
 use Rattle.load_sessions.specs.Tallies.{found_from, found}

@@ -1,7 +1,7 @@
 -- What an asker is told.
 use Rattle.std.specs.Prelude.{◌≡◌, ◌⊎◌, ℕ, ◌≤◌, ⊤, List, [], ◌∷◌, length, take, Option, Some, None}
 use Rattle.std.proofs.Common.{inl, inr, MutBor}
-use Rattle.catalogue_core.specs.declared.batch.Batch.{Batch}
+use Rattle.catalogue_editions.specs.declared.batch.Batch.{Batch}
 use Rattle.catalogue_lock.specs.History.{IsPrefix}
 use Rattle.catalogue_lock.specs.Tokens.{view, IsSamePass}
 use Rattle.catalogue_lock.specs.declared.view.View.{View}

@@ -8,7 +8,7 @@ use Rattle.library_batches.specs.Refused.{refused}
 use Rattle.library_batches.specs.Batches.{AreBatches, AreFirstBatches}
 use Rattle.library_batches.specs.Outcomes.{AreCounted}
 use Rattle.library_batches.specs.declared.outcome_counts.OutcomeCounts.{OutcomeCounts}
-use Rattle.catalogue_core.specs.declared.batch.Batch.{Batch}
+use Rattle.catalogue_editions.specs.declared.batch.Batch.{Batch}
 use Rattle.load_sessions.specs.Tallies.{found}
 use Rattle.load_sessions.specs.declared.end.End.TheVariants.{NotRun, Done, ReadFault, TooLong}
 use Rattle.load_sessions.specs.declared.report.Report.{Report}

@@ -1,9 +1,9 @@
 -- What came of the batches of one pass in a history.
 use Rattle.std.specs.Prelude.{ℕ, ◌==◌, cond, List, [], ◌∷◌, ◌++◌}
 use Rattle.catalogue_core.specs.Histories.{MapOf, after_batch, outcomes}
-use Rattle.catalogue_core.specs.declared.batch.Batch.{Batch}
-use Rattle.catalogue_core.specs.declared.edition.Edition.{Edition}
-use Rattle.catalogue_core.specs.declared.outcome.Outcome.{Outcome}
+use Rattle.catalogue_editions.specs.declared.batch.Batch.{Batch}
+use Rattle.catalogue_editions.specs.declared.edition.Edition.{Edition}
+use Rattle.catalogue_editions.specs.declared.outcome.Outcome.{Outcome}
 
 -- what comes of the batches of that number among these entries, which are applied one after the other from these current
 -- records on

@@ -7,9 +7,9 @@ use Rattle.marc_parts.specs.Loads.{is_deleted}
 use Rattle.marc_rules.specs.NineteenRules.{status_of}
 use Rattle.union_base.specs.declared.record_id.RecordId.{RecordId}
 use Rattle.workset_keys.specs.WorkKeys.{own_name}
-use Rattle.catalogue_core.specs.declared.outcome.Outcome.{Outcome}
+use Rattle.catalogue_editions.specs.declared.outcome.Outcome.{Outcome}
 use Rattle.catalogue_export.specs.Editions.{left_of}
-use Rattle.catalogue_core.specs.declared.edition.Edition.{Edition}
+use Rattle.catalogue_editions.specs.declared.edition.Edition.{Edition}
 use Rattle.library_batches.specs.Streams.{Frame, accepted}
 use Rattle.library_batches.specs.Refused.{refused}
 use Rattle.library_batches.specs.Outcomes.{is_added, is_replaced, is_removed, is_absent}

@@ -3,7 +3,7 @@
 //! Each function adds its text behind what stands in a buffer. The texts are those of specs/Reports.antt.
 ghost use Rattle.std.specs.Prelude.{◌≡◌, ◌++◌, List, length, OnOk};
 ghost use Rattle.std.specs.List.{flat_map};
-ghost use Rattle.catalogue_core.specs.declared.outcome.Outcome.{Outcome};
+ghost use Rattle.catalogue_editions.specs.declared.outcome.Outcome.{Outcome};
 ghost use Rattle.library_batches.specs.Outcomes.{AreCounted};
 ghost use Rattle.library_batches.specs.Refused.{refused as refused_of};
 ghost use Rattle.library_batches.specs.Streams.{Frame};

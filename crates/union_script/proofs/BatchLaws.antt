@@ -9,10 +9,10 @@ use Rattle.iso2709_frame.specs.Frames.{frames}
 use Rattle.library_stream.specs.Streaming.{is_too_long, passes}
 use Rattle.library_stream.specs.declared.course.Course.TheVariants.{Open}
 use Rattle.catalogue_core.specs.Histories.{MapOf, current, after_op, after_batch, outcomes}
-use Rattle.catalogue_core.specs.declared.batch.Batch.{Batch}
-use Rattle.catalogue_core.specs.declared.op.Op.{Op}
+use Rattle.catalogue_editions.specs.declared.batch.Batch.{Batch}
+use Rattle.catalogue_editions.specs.declared.op.Op.{Op}
 use Rattle.catalogue_core.specs.Batches.{is_batch, is_own_op}
-use Rattle.catalogue_core.specs.declared.edition.Edition.{Edition}
+use Rattle.catalogue_editions.specs.declared.edition.Edition.{Edition}
 use Rattle.catalogue_core.specs.declared.history_entry.HistoryEntry.{HistoryEntry}
 use Rattle.library_batches.specs.Batches.{AreBatches}
 use Rattle.library_batches.specs.Outcomes.{found_in}

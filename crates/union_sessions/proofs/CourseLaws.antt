@@ -4,7 +4,7 @@ use Rattle.std.specs.Prelude.{map, filter, nat_lt, Option, Some, None, slice_get
 use Rattle.std.specs.List.{list_all, list_any, flat_map, AllZip, AllByRecursion}
 use Rattle.std.proofs.lemmas.Bool.Decides.{nat_tests}
 use Rattle.std.proofs.lemmas.Option.{same_Some}
-use Rattle.catalogue_core.specs.declared.batch.Batch.{Batch}
+use Rattle.catalogue_editions.specs.declared.batch.Batch.{Batch}
 use Rattle.catalogue_core.specs.declared.history_entry.HistoryEntry.{HistoryEntry}
 use Rattle.catalogue_lock.specs.Ended.{Ended}
 use Rattle.catalogue_lock.specs.History.{changes_of, IsPrefix}

@@ -18,14 +18,14 @@ use Rattle.field_merge.specs.KeptLaws.{id_total}
 use Rattle.catalogue_core.specs.Batches.{is_one_of, is_own, is_own_op}
 use Rattle.catalogue_core.specs.Ids.{first_id, least}
 use Rattle.catalogue_core.specs.Histories.{MapOf, at_id, is_current, id_of, after_op, after_batch, outcome_of, outcomes}
-use Rattle.catalogue_core.specs.declared.batch.Batch.{Batch}
-use Rattle.catalogue_core.specs.declared.edition.Edition.{Edition}
+use Rattle.catalogue_editions.specs.declared.batch.Batch.{Batch}
+use Rattle.catalogue_editions.specs.declared.edition.Edition.{Edition}
 use Rattle.catalogue_core.specs.declared.history_entry.HistoryEntry.{HistoryEntry}
-use Rattle.catalogue_core.specs.declared.op.Op.{Op}
-use Rattle.catalogue_core.specs.declared.op.Op.TheVariants.{Load, Withdraw}
-use Rattle.catalogue_core.specs.declared.op.TheConstants.{LARGEST_BATCH}
-use Rattle.catalogue_core.specs.declared.outcome.Outcome.{Outcome}
-use Rattle.catalogue_core.specs.declared.outcome.Outcome.TheVariants.{Added, Replaced, Removed, Absent}
+use Rattle.catalogue_editions.specs.declared.op.Op.{Op}
+use Rattle.catalogue_editions.specs.declared.op.Op.TheVariants.{Load, Withdraw}
+use Rattle.catalogue_editions.specs.declared.op.TheConstants.{LARGEST_BATCH}
+use Rattle.catalogue_editions.specs.declared.outcome.Outcome.{Outcome}
+use Rattle.catalogue_editions.specs.declared.outcome.Outcome.TheVariants.{Added, Replaced, Removed, Absent}
 use Rattle.library_batches.specs.Outcomes.{found_in}
 use Rattle.catalogue_lock.specs.History.{changes_of}
 use Rattle.load_sessions.specs.Tallies.{found_from, found}

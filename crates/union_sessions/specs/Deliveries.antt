@@ -1,7 +1,7 @@
 -- What libraries deliver, the batches that it makes, and the report on it.
 use Rattle.std.specs.Prelude.{◌≢◌, ℕ, Bool, nat_lt, List, [], ◌∷◌, length, map}
 use Rattle.std.specs.List.{flat_map, AllByRecursion}
-use Rattle.catalogue_core.specs.declared.batch.Batch.{Batch}
+use Rattle.catalogue_editions.specs.declared.batch.Batch.{Batch}
 use Rattle.library_batches.specs.Batches.{AreBatches}
 use Rattle.library_batches.specs.Outcomes.{found_in}
 use Rattle.library_batches.specs.Refused.{refused}

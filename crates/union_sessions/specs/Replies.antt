@@ -1,6 +1,6 @@
 -- What was asked beside a load and behind it.
 use Rattle.std.specs.Prelude.{◌≡◌, ℕ, List, [], length}
-use Rattle.catalogue_core.specs.declared.batch.Batch.{Batch}
+use Rattle.catalogue_editions.specs.declared.batch.Batch.{Batch}
 use Rattle.catalogue_core.specs.declared.history_entry.HistoryEntry.{HistoryEntry}
 use Rattle.catalogue_lock.specs.Ended.{Ended}
 use Rattle.catalogue_lock.specs.Tokens.{view}

@@ -2,7 +2,7 @@
 use Rattle.std.specs.Prelude.{◌≡◌, List, map}
 use Rattle.std.specs.List.{list_any}
 use Rattle.catalogue_core.specs.Histories.{AreEditionsOf}
-use Rattle.catalogue_core.specs.declared.edition.Edition.{Edition}
+use Rattle.catalogue_editions.specs.declared.edition.Edition.{Edition}
 use Rattle.catalogue_core.specs.declared.history_entry.HistoryEntry.{HistoryEntry}
 use Rattle.union_sessions.specs.Deliveries.{Delivery, Stream, delivered, batches_of, reports_of, has_refused}
 use Rattle.union_sessions.specs.Interleavings.{IsInterleaving}

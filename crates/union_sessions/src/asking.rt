@@ -1,6 +1,6 @@
 //! The passes that ask: one beside the sessions, and one when these have ended.
 ghost use Rattle.std.specs.Prelude.{◌≡◌, ◌+◌, ◌<◌, ◌++◌, ◌∷◌, [], IfOk};
-ghost use Rattle.catalogue_core.specs.declared.batch.Batch.{Batch};
+ghost use Rattle.catalogue_editions.specs.declared.batch.Batch.{Batch};
 ghost use Rattle.catalogue_lock.specs.Ended.{Ended};
 ghost use Rattle.catalogue_lock.specs.Tokens.{root_of, view, IsPassOf, IsRootOf};
 ghost use Rattle.load_sessions.specs.Askers.{IsAsker};

@@ -1,6 +1,6 @@
 //! The reports of the libraries of a load, one after the other.
 ghost use Rattle.std.specs.Prelude.{◌≡◌, ◌++◌, ◌||◌, [], false, nat_lt, List, length, OnOk};
-ghost use Rattle.catalogue_core.specs.declared.outcome.Outcome.{Outcome};
+ghost use Rattle.catalogue_editions.specs.declared.outcome.Outcome.{Outcome};
 ghost use Rattle.library_batches.specs.Outcomes.{AreCounted};
 ghost use Rattle.library_batches.specs.Refused.{refused as refused_of};
 ghost use Rattle.library_batches.specs.Streams.{Frame};

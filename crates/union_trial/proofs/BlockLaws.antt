@@ -9,10 +9,10 @@ use Rattle.std.proofs.lemmas.List.Folds.{list_all-append}
 use Rattle.marc_fields.specs.Spelling.{Spells, spelling}
 use Rattle.catalogue_core.specs.Batches.{is_own_op, is_batch}
 use Rattle.catalogue_core.specs.Ops.{op as op_of}
-use Rattle.catalogue_core.specs.declared.batch.Batch.{Batch}
+use Rattle.catalogue_editions.specs.declared.batch.Batch.{Batch}
 use Rattle.catalogue_core.specs.declared.history_entry.HistoryEntry.{HistoryEntry}
-use Rattle.catalogue_core.specs.declared.op.Op.{Op}
-use Rattle.catalogue_core.specs.declared.op.TheConstants.{LARGEST_BATCH}
+use Rattle.catalogue_editions.specs.declared.op.Op.{Op}
+use Rattle.catalogue_editions.specs.declared.op.TheConstants.{LARGEST_BATCH}
 use Rattle.library_batches.specs.Batches.{IsOpOf, IsBatchOf, AreBatches}
 use Rattle.library_batches.specs.Streams.{Frame, is_accepted, accepted}
 use Rattle.library_batches.proofs.BlockLaws.{IsBlockBefore, some_in, some_in-more, AreBatches-block}

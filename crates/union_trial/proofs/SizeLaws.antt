@@ -2,7 +2,7 @@
 use Rattle.std.proofs.Common.{◌≡◌, ℕ, ◌+◌, ◌≤◌, List, length, take, ap, ◌∙◌, length-append}
 use Rattle.std.specs.Prelude.{Some, slice_get}
 use Rattle.catalogue_core.specs.EditionKeys.{work_key_of}
-use Rattle.catalogue_core.specs.declared.edition.Edition.{Edition}
+use Rattle.catalogue_editions.specs.declared.edition.Edition.{Edition}
 use Rattle.catalogue_core.proofs.WalkLaws.{told-more}
 use Rattle.catalogue_export.specs.Editions.{edition_text, export_text}
 use Rattle.catalogue_export.proofs.ExportedProof.{exported-whole}

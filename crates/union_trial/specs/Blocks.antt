@@ -3,8 +3,8 @@ use Rattle.std.specs.Prelude.{◌≡◌, ℕ, ◌⊎◌, ◌≤◌, IsTrue, List
 use Rattle.std.specs.List.{AllZip, list_all}
 use Rattle.marc_fields.specs.Spelling.{spelling}
 use Rattle.catalogue_core.specs.Batches.{is_own_op}
-use Rattle.catalogue_core.specs.declared.op.Op.{Op}
-use Rattle.catalogue_core.specs.declared.op.TheConstants.{LARGEST_BATCH}
+use Rattle.catalogue_editions.specs.declared.op.Op.{Op}
+use Rattle.catalogue_editions.specs.declared.op.TheConstants.{LARGEST_BATCH}
 use Rattle.library_batches.specs.Batches.{IsOpOf}
 use Rattle.union_trial.specs.TrialRecords.{record_of}
 use Rattle.union_trial.specs.declared.draws.Draws.{Draws}

@@ -9,7 +9,7 @@ use Rattle.std.proofs.lemmas.Option.{slice_get_cases, slice_get-map, get_or_from
 use Rattle.std.specs.Option.{option_map}
 use Rattle.union_base.specs.Both.{both_true}
 use Rattle.library_batches.specs.Streams.{Frame}
-use Rattle.catalogue_core.specs.declared.batch.Batch.{Batch}
+use Rattle.catalogue_editions.specs.declared.batch.Batch.{Batch}
 use Rattle.catalogue_core.specs.declared.history_entry.HistoryEntry.{HistoryEntry}
 use Rattle.library_batches.specs.Batches.{IsBatchOf, AreBatches}
 use Rattle.union_words.specs.Alike.{is_text}

@@ -1,7 +1,7 @@
 -- The lines on the turns of a history, and the history that they stand for.
 use Rattle.std.specs.Prelude.{ℕ, ◌+◌, ◌==◌, cond, List, [], ◌∷◌, ◌++◌, length, drop, map, codes, decimal, slice_index_or}
 use Rattle.std.specs.List.{flat_map, position_or_len}
-use Rattle.catalogue_core.specs.declared.batch.Batch.{Batch}
+use Rattle.catalogue_editions.specs.declared.batch.Batch.{Batch}
 use Rattle.catalogue_core.specs.declared.history_entry.HistoryEntry.{HistoryEntry}
 use Rattle.union_reports.specs.Reports.{counted}
 use Rattle.union_words.specs.Alike.{is_text}

@@ -3,8 +3,8 @@ use Rattle.std.specs.Ordering.{is_lt}
 use Rattle.std.proofs.lemmas.List.MinMax.{ranks_by}
 use Rattle.std.proofs.lemmas.List.Sorted.{IsPermutation-map, answers_always}
 use Rattle.field_merge.specs.KeptLaws.{id_total}
-use Rattle.catalogue_core.specs.Ids.{least, edition_cmp}
-use Rattle.catalogue_core.specs.declared.edition.Edition.{Edition}
+use Rattle.catalogue_editions.specs.Ids.{least, edition_cmp}
+use Rattle.catalogue_editions.specs.declared.edition.Edition.{Edition}
 use Rattle.catalogue_core.proofs.ByKey.{sorted-seen}
 use Rattle.catalogue_core.proofs.by_key.by_least.Goals as goal
 

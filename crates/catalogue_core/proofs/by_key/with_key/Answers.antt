@@ -1,6 +1,6 @@
 use Rattle.std.proofs.Common.{Bor, map, subst}
 use Rattle.std.specs.List.Sorted.{IsPermutation}
-use Rattle.catalogue_core.specs.declared.edition.Edition.{Edition}
+use Rattle.catalogue_editions.specs.declared.edition.Edition.{Edition}
 use Rattle.catalogue_core.proofs.ByKey.{both-ok, kept-from_sorted}
 use Rattle.catalogue_core.proofs.by_key.with_key.Goals as goal
 

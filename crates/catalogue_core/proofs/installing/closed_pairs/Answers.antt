@@ -5,10 +5,10 @@ use Rattle.std.proofs.lemmas.List.{append-nil, get_or_default}
 use Rattle.union_base.specs.declared.record_id.RecordId.{RecordId}
 use Rattle.swoosh_resolver.specs.Tables.{block_at}
 use Rattle.swoosh_resolver.proofs.Places.{block-from_value, none-from_value}
-use Rattle.catalogue_core.specs.EditionKeys.{work_key_of}
+use Rattle.catalogue_editions.specs.EditionKeys.{work_key_of}
 use Rattle.catalogue_core.specs.Homes.{Block}
-use Rattle.catalogue_core.specs.Ids.{least}
-use Rattle.catalogue_core.specs.declared.edition.Edition.{Edition}
+use Rattle.catalogue_editions.specs.Ids.{least}
+use Rattle.catalogue_editions.specs.declared.edition.Edition.{Edition}
 use Rattle.catalogue_core.proofs.Housing.{mapped-next}
 use Rattle.catalogue_core.proofs.installing.closed_pairs.Goals as goal
 use Rattle.catalogue_core.proofs.installing.closed_pairs.Goals.{in-Some+in_ok-work_pair+in_ok-push, in_default}

@@ -1,5 +1,5 @@
 use Rattle.std.proofs.Common.{◌≡◌, take}
-use Rattle.catalogue_core.specs.EditionKeys.{closed_pairs}
+use Rattle.catalogue_core.specs.ClosedKeys.{closed_pairs}
 use Rattle.catalogue_core.proofs.installing.closed_pairs.Given as goal
 
 abbrev pub invariant-loop-number : goal.invariant-loop-number

@@ -1,6 +1,6 @@
 use Rattle.std.proofs.Common.{List, [], sym, subst}
 use Rattle.swoosh_resolver.specs.Changes.{view_of}
-use Rattle.catalogue_core.specs.declared.edition.Edition.{Edition}
+use Rattle.catalogue_editions.specs.declared.edition.Edition.{Edition}
 use Rattle.catalogue_core.proofs.PartsLaws.{ComesOn, comes-begin, comes-next, comes-paid}
 use Rattle.catalogue_core.proofs.parts_planning.insert_parts.Goals as goal
 

@@ -1,5 +1,5 @@
 use Rattle.swoosh_resolver.specs.Changes.{Fits, view_of}
-use Rattle.catalogue_core.specs.Matching.{match}
+use Rattle.catalogue_editions.specs.Matching.{match}
 use Rattle.catalogue_core.proofs.PartsLaws.{ComesOn}
 use Rattle.catalogue_core.proofs.parts_planning.insert_parts.Given as goal
 

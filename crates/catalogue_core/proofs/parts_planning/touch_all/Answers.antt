@@ -1,6 +1,6 @@
 use Rattle.std.proofs.Common.{◌≡◌, ◌<◌, ◌++◌, ◌∷◌, [], List, length, get_or, subst, refl}
 use Rattle.catalogue_core.specs.Keeping.{batches}
-use Rattle.catalogue_core.specs.declared.op.Op.{Op}
+use Rattle.catalogue_editions.specs.declared.op.Op.{Op}
 use Rattle.catalogue_core.proofs.TouchLaws.{touches-begin, touches-next}
 use Rattle.catalogue_core.proofs.TurnLaws.{op-loads, op-own}
 use Rattle.catalogue_core.proofs.parts_planning.touch_all.Goals as goal

@@ -1,7 +1,7 @@
 use Rattle.std.proofs.Common.{◌≡◌, ◌<◌, ◌++◌, ◌∷◌, [], List, length, get_or, subst}
 use Rattle.catalogue_core.specs.Histories.{current}
 use Rattle.catalogue_core.specs.Keeping.{batches}
-use Rattle.catalogue_core.specs.declared.op.Op.{Op}
+use Rattle.catalogue_editions.specs.declared.op.Op.{Op}
 use Rattle.catalogue_core.proofs.LeavingLaws.{leaves-begin, leaves-paid, leaves-next}
 use Rattle.catalogue_core.proofs.TurnLaws.{plan-begins}
 use Rattle.catalogue_core.proofs.parts_planning.without_named.Goals as goal

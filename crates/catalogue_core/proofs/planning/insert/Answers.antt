@@ -1,5 +1,5 @@
 use Rattle.std.proofs.Common.{◌≡◌, ◌∙◌}
-use Rattle.catalogue_core.specs.Ids.{least}
+use Rattle.catalogue_editions.specs.Ids.{least}
 use Rattle.catalogue_core.proofs.PlanLaws.{plan-inserted, insert-paid}
 use Rattle.catalogue_core.proofs.planning.insert.Goals as goal
 

@@ -5,7 +5,7 @@ use Rattle.field_merge.specs.declared.content.Content.{Content}
 use Rattle.catalogue_core.specs.Homes.{Block}
 use Rattle.catalogue_core.specs.Keeping.{batches}
 use Rattle.catalogue_core.specs.Plans.{base_beside}
-use Rattle.catalogue_core.specs.declared.edition.Edition.{Edition}
+use Rattle.catalogue_editions.specs.declared.edition.Edition.{Edition}
 use Rattle.catalogue_core.proofs.PlanLaws.{holder-stands}
 use Rattle.catalogue_core.proofs.planning.left_behind.Goals as goal
 

@@ -3,11 +3,11 @@ use Rattle.std.specs.Prelude.{is_some}
 use Rattle.std.specs.Map.{remove_entry, values_of}
 use Rattle.catalogue_core.specs.Histories.{is_current}
 use Rattle.catalogue_core.specs.Homes.{place_of}
-use Rattle.catalogue_core.specs.Ids.{least}
+use Rattle.catalogue_editions.specs.Ids.{least}
 use Rattle.catalogue_core.specs.Keeping.{batches}
 use Rattle.catalogue_core.specs.Plans.{IsPlanned}
 use Rattle.catalogue_core.specs.Reaches.{IsReachOfInsertion, IsReachOfWithdrawal}
-use Rattle.catalogue_core.specs.declared.outcome.Outcome.TheVariants.{Replaced, Added}
+use Rattle.catalogue_editions.specs.declared.outcome.Outcome.TheVariants.{Replaced, Added}
 use Rattle.catalogue_core.proofs.MapLaws.{same}
 use Rattle.catalogue_core.proofs.PlanLaws.{current-from_place, not-current, inserted-again, replacement-paid, insertion-paid}
 use Rattle.catalogue_core.proofs.planning.plan_load.Goals as goal

@@ -1,7 +1,7 @@
 use Rattle.std.proofs.Common.{◌≡◌, ◌<◌, ◌++◌, ◌∷◌, [], List, length, get_or, subst, refl}
 use Rattle.catalogue_core.specs.Histories.{current}
 use Rattle.catalogue_core.specs.Keeping.{batches}
-use Rattle.catalogue_core.specs.declared.op.Op.{Op}
+use Rattle.catalogue_editions.specs.declared.op.Op.{Op}
 use Rattle.catalogue_core.proofs.TurnLaws.{plan-begins, plans-begin, plans-paid, plans-next, op-loads, op-own}
 use Rattle.catalogue_core.proofs.turn.planned.Goals as goal
 

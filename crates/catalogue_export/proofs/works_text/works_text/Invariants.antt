@@ -4,7 +4,7 @@ use Rattle.std.specs.List.{flat_map}
 use Rattle.std.specs.Option.{option_copied}
 use Rattle.catalogue_core.specs.EditionKeys.{work_pairs}
 use Rattle.catalogue_core.specs.Histories.{AreEditionsOf}
-use Rattle.catalogue_core.specs.declared.edition.Edition.{Edition}
+use Rattle.catalogue_editions.specs.declared.edition.Edition.{Edition}
 use Rattle.catalogue_export.specs.WorkLists.{work_text}
 use Rattle.catalogue_export.specs.Writing.{IsWrittenTo}
 use Rattle.work_clusters.specs.Works.{works_of, keys_of}

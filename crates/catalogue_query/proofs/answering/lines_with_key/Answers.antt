@@ -2,7 +2,7 @@ use Rattle.std.proofs.Common.{Bor, map, sym, ap, ◌∙◌, arith}
 use Rattle.std.proofs.lemmas.List.{take_all}
 use Rattle.std.proofs.lemmas.Simd.{map-map}
 use Rattle.catalogue_core.specs.Ids.{least}
-use Rattle.catalogue_core.specs.declared.edition.Edition.{Edition}
+use Rattle.catalogue_editions.specs.declared.edition.Edition.{Edition}
 use Rattle.catalogue_query.specs.Lines.{edition_line}
 use Rattle.catalogue_query.proofs.answering.lines_with_key.Goals as goal
 

@@ -1,6 +1,6 @@
 use Rattle.std.proofs.Common.{cond, sym, ap, ◌∙◌}
 use Rattle.std.specs.Prelude.{is_some}
-use Rattle.catalogue_core.specs.declared.outcome.Outcome.TheVariants.{Added, Replaced, Removed, Absent}
+use Rattle.catalogue_editions.specs.declared.outcome.Outcome.TheVariants.{Added, Replaced, Removed, Absent}
 use Rattle.catalogue_tests.proofs.PlainLaws.{loaded, load-came, withdrawn, withdrawal-came}
 use Rattle.catalogue_tests.proofs.plain_catalogue.follow.Goals as goal
 

@@ -1,6 +1,6 @@
 use Rattle.std.proofs.Common.{◌≡◌, ◌≤◌, ◌+◌, ◌*◌, ◌++◌, List}
 use Rattle.catalogue_core.specs.Histories.{current}
-use Rattle.catalogue_core.specs.declared.batch.Batch.{Batch}
+use Rattle.catalogue_editions.specs.declared.batch.Batch.{Batch}
 use Rattle.library_batches.specs.Outcomes.{AreCounted, counted, found_in}
 use Rattle.library_stream.specs.Streaming.{most_ahead}
 use Rattle.library_stream.specs.declared.frame_reader.TheConstants.{LARGEST_SOURCE}

@@ -2,7 +2,7 @@ use Rattle.std.proofs.Common.{◌∷◌, ◌++◌, [], ℕ, List, vec_items, ref
 use Rattle.std.proofs.lemmas.List.{length-map}
 use Rattle.std.specs.Prelude.{All, Any, ◌≡◌, ◌<◌, ◌≤◌, ◌+◌, length}
 use Rattle.std.specs.List.{AllByRecursion}
-use Rattle.catalogue_core.specs.declared.batch.Batch.{Batch}
+use Rattle.catalogue_editions.specs.declared.batch.Batch.{Batch}
 use Rattle.catalogue_lock.specs.Ended.{Ended}
 use Rattle.catalogue_lock.specs.Rule.{EndedOk}
 use Rattle.catalogue_lock.specs.Tokens.{root_of}

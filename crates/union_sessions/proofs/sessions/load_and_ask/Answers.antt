@@ -2,7 +2,7 @@ use Rattle.std.proofs.Common.{◌≡◌, ◌+◌, ◌<◌, ◌≤◌, ◌++◌, 
 use Rattle.std.specs.Prelude.{map, length, nat_le, IfSome}
 use Rattle.std.specs.List.{AllByRecursion, flat_map, list_all, list_any}
 use Rattle.std.proofs.lemmas.Option.{IfSome_then}
-use Rattle.catalogue_core.specs.declared.batch.Batch.{Batch}
+use Rattle.catalogue_editions.specs.declared.batch.Batch.{Batch}
 use Rattle.catalogue_lock.specs.Rule.{EndedOk}
 use Rattle.catalogue_lock.specs.Tokens.{root_of, view}
 use Rattle.load_sessions.specs.Askers.{Replied}

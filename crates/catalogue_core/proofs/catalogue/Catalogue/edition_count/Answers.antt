@@ -1,7 +1,7 @@
 use Rattle.std.proofs.Common.{◌≡◌, List, length, subst, ◌∙◌}
 use Rattle.catalogue_core.specs.Histories.{AreEditionsOf}
 use Rattle.catalogue_core.specs.Homes.{named_in}
-use Rattle.catalogue_core.specs.declared.edition.Edition.{Edition}
+use Rattle.catalogue_editions.specs.declared.edition.Edition.{Edition}
 use Rattle.catalogue_core.proofs.NamedLaws.{named-editions, named-count}
 use Rattle.catalogue_core.proofs.catalogue.Catalogue.edition_count.Goals as goal
 

@@ -3,7 +3,7 @@ use Rattle.std.specs.Option.{option_copied}
 use Rattle.catalogue_core.specs.Histories.{MapOf, AreEditionsOf}
 use Rattle.catalogue_core.specs.Homes.{named_in}
 use Rattle.catalogue_core.specs.Walks.{first_of}
-use Rattle.catalogue_core.specs.declared.edition.Edition.{Edition}
+use Rattle.catalogue_editions.specs.declared.edition.Edition.{Edition}
 use Rattle.catalogue_core.specs.declared.home.Home.{Home}
 use Rattle.catalogue_core.proofs.NamedLaws.{named-editions, all-pass}
 use Rattle.catalogue_core.proofs.catalogue.Catalogue.first.Goals as goal

@@ -4,7 +4,7 @@ use Rattle.std.specs.Option.{option_map, option_copied}
 use Rattle.catalogue_core.specs.Histories.{at_id, is_current, current, AreEditionsOf}
 use Rattle.catalogue_core.specs.Homes.{Block, named_in}
 use Rattle.catalogue_core.specs.Walks.{holder_of}
-use Rattle.catalogue_core.specs.declared.edition.Edition.{Edition}
+use Rattle.catalogue_editions.specs.declared.edition.Edition.{Edition}
 use Rattle.catalogue_core.proofs.Looking.{none-copied}
 use Rattle.catalogue_core.proofs.NamedLaws.{named-editions, holder-is, holder-none, home-current}
 use Rattle.catalogue_core.proofs.catalogue.Catalogue.holder.Goals as goal

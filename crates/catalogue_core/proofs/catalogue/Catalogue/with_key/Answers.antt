@@ -2,8 +2,8 @@ use Rattle.std.proofs.Common.{◌≡◌, Bor, List, map, filter, subst}
 use Rattle.std.proofs.lemmas.Result.{IfOk-weaker}
 use Rattle.catalogue_core.specs.Histories.{bases, AreEditionsOf}
 use Rattle.catalogue_core.specs.Homes.{named_in}
-use Rattle.catalogue_core.specs.IndexKeys.{has_key}
-use Rattle.catalogue_core.specs.declared.edition.Edition.{Edition}
+use Rattle.catalogue_editions.specs.IndexKeys.{has_key}
+use Rattle.catalogue_editions.specs.declared.edition.Edition.{Edition}
 use Rattle.catalogue_core.proofs.NamedLaws.{named-editions, walk-order}
 use Rattle.catalogue_core.proofs.catalogue.Catalogue.with_key.Goals as goal
 

@@ -1,9 +1,9 @@
 use Rattle.std.proofs.Common.{◌≡◌, List, subst}
 use Rattle.work_clusters.specs.Works.{works_of}
-use Rattle.catalogue_core.specs.EditionKeys.{work_pairs}
+use Rattle.catalogue_editions.specs.EditionKeys.{work_pairs}
 use Rattle.catalogue_core.specs.Histories.{AreEditionsOf}
 use Rattle.catalogue_core.specs.Homes.{named_in}
-use Rattle.catalogue_core.specs.declared.edition.Edition.{Edition}
+use Rattle.catalogue_editions.specs.declared.edition.Edition.{Edition}
 use Rattle.catalogue_core.proofs.NamedLaws.{named-editions, named-works}
 use Rattle.catalogue_core.proofs.catalogue.Catalogue.works.Goals as goal
 

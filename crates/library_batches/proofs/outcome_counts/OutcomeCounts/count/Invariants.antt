@@ -1,5 +1,5 @@
 use Rattle.std.proofs.Common.{◌≡◌, ◌+◌, ◌++◌, List, take}
-use Rattle.catalogue_core.specs.declared.outcome.Outcome.{Outcome}
+use Rattle.catalogue_editions.specs.declared.outcome.Outcome.{Outcome}
 use Rattle.library_batches.specs.Outcomes.{AreCounted, counted}
 use Rattle.library_batches.proofs.outcome_counts.OutcomeCounts.count.Given as goal
 

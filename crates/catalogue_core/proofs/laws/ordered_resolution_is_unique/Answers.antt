@@ -1,5 +1,0 @@
-use Rattle.catalogue_core.proofs.Apart.{one-ordered}
-use Rattle.catalogue_core.proofs.laws.ordered_resolution_is_unique.Goals as goal
-
-pub returns : goal.returns
-returns c = one-ordered

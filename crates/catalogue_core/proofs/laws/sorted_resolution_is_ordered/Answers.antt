@@ -1,5 +1,0 @@
-use Rattle.catalogue_core.proofs.Apart.{ordered-from_sorted}
-use Rattle.catalogue_core.proofs.laws.sorted_resolution_is_ordered.Goals as goal
-
-pub returns : goal.returns
-returns c = ordered-from_sorted

@@ -1,7 +1,0 @@
-use Rattle.std.proofs.Common.{◌≡◌, [], take}
-use Rattle.std.specs.Prelude.{fold}
-use Rattle.catalogue_core.specs.Histories.{after_op}
-use Rattle.catalogue_core.proofs.net.left_by.Given as goal
-
-abbrev pub invariant-loop-op : goal.invariant-loop-op
-invariant-loop-op l = l.left.entries ≡ fold (after_op l.batch.library) [] (take l.op-index l.op-items)

@@ -1,0 +1,12 @@
+-- The work keys of the blocks that a plan closes.
+use Rattle.std.specs.Prelude.{ℕ, List, Option, filter_map}
+use Rattle.std.specs.Option.{option_map}
+use Rattle.union_base.specs.declared.record_id.RecordId.{RecordId}
+use Rattle.swoosh_resolver.specs.Tables.{block_at}
+use Rattle.catalogue_editions.specs.EditionKeys.{work_key_of}
+use Rattle.catalogue_editions.specs.Ids.{least}
+use Rattle.catalogue_core.specs.Homes.{Block}
+
+-- the work keys of the editions of the blocks under the numbers, each with the id by which its edition is named
+abbrev pub closed_pairs : List (Option Block) → List ℕ → List (List ℕ × RecordId)
+closed_pairs blocks closed = filter_map (λ n. option_map (λ e. (work_key_of e.value, least e.value)) (block_at blocks n)) closed

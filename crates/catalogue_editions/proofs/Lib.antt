@@ -1,0 +1,4 @@
+mod KeyTexts
+mod EditionTexts
+pub mod Apart
+mod Runs

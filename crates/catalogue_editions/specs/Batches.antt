@@ -1,0 +1,28 @@
+-- What a library does with its records in one turn.
+use Rattle.std.specs.Prelude.{ℕ, Bool, true, false, ◌&&◌, nat_eq, nat_le, List, [], ◌∷◌, length}
+use Rattle.std.specs.List.{list_all}
+use Rattle.std.specs.Cmp.Lexicographic.{pointwise}
+use Rattle.union_base.specs.declared.record_id.RecordId.{RecordId}
+use Rattle.catalogue_editions.specs.declared.edition.Edition.{Edition}
+use Rattle.catalogue_editions.specs.declared.op.Op.{Op}
+use Rattle.catalogue_editions.specs.declared.op.Op.TheVariants.{Load, Withdraw}
+use Rattle.catalogue_editions.specs.declared.op.TheConstants.{LARGEST_BATCH}
+
+-- there is one id, of that library
+abbrev pub is_one_of : List ℕ → List RecordId → Bool
+is_one_of library [] = false
+is_one_of library (id ∷ []) = pointwise nat_eq id.library library
+is_one_of library (id ∷ more ∷ rest) = false
+
+-- an edition of one record, of that library
+abbrev pub is_own : List ℕ → Edition → Bool
+is_own library e = is_one_of library e.content.contributors
+
+-- an operation on a record of that library
+abbrev pub is_own_op : List ℕ → Op → Bool
+is_own_op library (Load e) = is_own library e
+is_own_op library (Withdraw number) = true
+
+-- the operations of one turn
+abbrev pub is_batch : List ℕ → List Op → Bool
+is_batch library ops = (nat_le 1 (length ops) && nat_le (length ops) LARGEST_BATCH) && list_all (is_own_op library) ops

@@ -1,0 +1,20 @@
+-- Editions match as their features meet.
+use Rattle.merge_laws.specs.Resolution.{MatchLaws, KeyLaws}
+use Rattle.match_features.specs.MeetLaws.{features_match_laws}
+use Rattle.match_features.specs.KeyLaws.{features_key_laws}
+use Rattle.catalogue_editions.specs.Joining.{join}
+use Rattle.catalogue_editions.specs.Matching.{match, HasFeatureKey, share}
+
+pub edition_match_laws : MatchLaws match join
+edition_match_laws = record {
+  reflexive = λ x. features_match_laws.reflexive x.features;
+  symmetric = λ x y. features_match_laws.symmetric x.features y.features;
+  representative = λ x y z. features_match_laws.representative x.features y.features z.features;
+}
+
+pub edition_key_laws : KeyLaws match join HasFeatureKey share
+edition_key_laws = record {
+  matching = λ x y. features_key_laws.matching x.features y.features;
+  merged = λ x y key. features_key_laws.merged x.features y.features key;
+  shared = λ x y. features_key_laws.shared x.features y.features;
+}

@@ -1,0 +1,16 @@
+-- Which editions match, and the keys that an edition is looked up by: by its features alone.
+use Rattle.std.specs.Prelude.{Bool}
+use Rattle.match_features.specs.Meeting.{meet}
+use Rattle.match_features.specs.Keys.{HasKey, share_key}
+use Rattle.match_features.specs.declared.keys.FeatureKey.{FeatureKey}
+use Rattle.catalogue_editions.specs.declared.edition.Edition.{Edition}
+
+abbrev pub match : Edition → Edition → Bool
+match x y = meet x.features y.features
+
+abbrev pub HasFeatureKey : Edition → FeatureKey → Type 0
+HasFeatureKey x key = HasKey x.features key
+
+-- whether two have a key in common
+abbrev pub share : Edition → Edition → Bool
+share x y = share_key x.features y.features

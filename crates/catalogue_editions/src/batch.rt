@@ -1,0 +1,16 @@
+//! What a library does with its records in one turn.
+ghost use Rattle.std.specs.Prelude.{IsTrue};
+ghost use Rattle.catalogue_editions.specs.Batches.{is_batch};
+
+use crate::op::Op;
+use union_base::library_code::LibraryCode;
+use union_base::sequence::Sequence;
+
+/// What a library does with its records in one turn: 1 to `LARGEST_BATCH` operations, in order. Each edition that is loaded
+/// has one contributor, a record of this library.
+#[derive(Debug, Drop)]
+pub struct Batch {
+    pub library: LibraryCode,
+    pub ops: Sequence<Op>,
+    pub ghost fits: { IsTrue (is_batch library ops) },
+}

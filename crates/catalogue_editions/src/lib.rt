@@ -1,0 +1,27 @@
+//! Editions, which are what the records of several libraries that describe one edition come to together, and the batches by
+//! which a library loads and withdraws its records.
+//!
+//! An [`edition::Edition`] is the features by which it is matched and the content that it shows. The edition of one record
+//! has those of the record; editions that match merge to the union of their features and the merge of their contents. An
+//! [`op::Op`] loads the edition of a record, or withdraws a record; the operations of one turn are a [`batch::Batch`], and a
+//! [`prepared::Prepared`] batch has its records resolved among themselves.
+//!
+//! Guarantee: editions keep the laws of `Join` and of matching, so what a list of records resolves to does not depend on their
+//! order; each accepted record asks for one operation; and a batch is of one library, with as many operations as a turn may have.
+//! Cost: merging and matching walk sorted lists side by side. One more owner of an edition takes no memory.
+#![tactic(auto)]
+
+pub mod batch;
+pub mod edition;
+pub mod ids;
+pub mod joining;
+pub mod laws;
+pub mod making_batch;
+pub mod matching;
+pub mod net;
+pub mod op;
+pub mod ordering;
+pub mod outcome;
+pub mod prepared;
+pub mod records;
+pub mod work_key;

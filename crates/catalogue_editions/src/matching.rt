@@ -1,0 +1,53 @@
+//! Which editions match, as `specs/Matching.antt` has it: by their features alone.
+ghost use Rattle.std.specs.Prelude.{refl};
+ghost use Rattle.catalogue_editions.specs.Matching.{match as edition_match, HasFeatureKey, share};
+ghost use Rattle.catalogue_editions.specs.MatchLaws.{edition_match_laws, edition_key_laws};
+ghost use Rattle.catalogue_editions.specs.ExactKeys.{exact_keys};
+
+use crate::edition::Edition;
+use match_features::keys::{FeatureKey, feature_keys};
+use merge_laws::resolvable::Resolvable;
+use merge_laws::steps::Steps;
+use std::alloc::Global;
+use std::sync::ledger::Ledger;
+use union_base::copied::Copied;
+use union_base::memory::Memory;
+
+impl Resolvable for Edition {
+    type Key = FeatureKey;
+
+    ghost meets = { edition_match };
+
+    ghost has_key = { HasFeatureKey };
+
+    ghost shares = { share };
+
+    fn matches<L: Ledger>(&self, other: &Edition, steps: &mut Steps<L>) -> bool {
+        steps.tick();
+        self.features().meets(other.features())
+    }
+
+    fn index_keys(&self, alloc: Global) -> Result<Vec<FeatureKey>, Memory> {
+        feature_keys(alloc, self.features())
+    }
+
+    fn copy_key(alloc: Global, key: &FeatureKey) -> Result<FeatureKey, Memory> {
+        key.copied(alloc)
+    }
+
+    ghost match_laws = { edition_match_laws };
+
+    ghost key_laws = { edition_key_laws };
+
+    ghost exact_keys = { exact_keys (record {
+      controls = λ p q. refl;
+      isbns = λ a b. refl;
+      titles = λ a b. refl;
+      control_isbn = λ p b. refl;
+      control_title = λ p b. refl;
+      isbn_control = λ a q. refl;
+      isbn_title = λ a b. refl;
+      title_control = λ a q. refl;
+      title_isbn = λ a b. refl;
+    }) };
+}
