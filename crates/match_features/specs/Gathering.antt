@@ -10,6 +10,7 @@ use Rattle.marc_fields.specs.declared.marc_record.Record.{Record}
 use Rattle.marc_parts.specs.Parts.{has_tag, text_under, control_number}
 use Rattle.naco_normal.specs.Words.{is_empty}
 use Rattle.isbn_keys.specs.Isbn.{isbn_key}
+use Rattle.isbn_keys.specs.Issn.{issn_key}
 use Rattle.isbn_keys.specs.Lccn.{lccn_key}
 use Rattle.isbn_keys.specs.Control.{pair_key, system_key}
 use Rattle.workset_keys.specs.Names.{name_of, title245_of}
@@ -63,6 +64,13 @@ isbn_in s = if is_a s then option_to_list (isbn_key s.text) else []
 abbrev pub isbns_in : Field → List (List ℕ)
 isbns_in f = from_field (codes "020") isbn_in f
 
+-- each 022 $a that is an ISSN
+abbrev pub issn_in : Subfield → List (List ℕ)
+issn_in s = if is_a s then option_to_list (issn_key s.text) else []
+
+abbrev pub issns_in : Field → List (List ℕ)
+issns_in f = from_field (codes "022") issn_in f
+
 abbrev pub where_not_empty : List ℕ → List (List ℕ)
 where_not_empty text = if is_empty text then [] else text ∷ []
 
@@ -89,9 +97,10 @@ features library r = record {
   control = set_of pairs_cmp (control_of library r);
   types = set_of texts_cmp (types_of r);
   isbns = set_of texts_cmp (flat_map isbns_in r.fields);
+  issns = set_of texts_cmp (flat_map issns_in r.fields);
   titles = set_of texts_cmp (flat_map title_in r.fields);
   dates = set_of texts_cmp (date_in (text_under (codes "008") r.fields));
   names = set_of texts_cmp (flat_map name_in r.fields);
-  kept = kept_sets (control_of library r) (types_of r) (flat_map isbns_in r.fields) (flat_map title_in r.fields)
-      (date_in (text_under (codes "008") r.fields)) (flat_map name_in r.fields) refl;
+  kept = kept_sets (control_of library r) (types_of r) (flat_map isbns_in r.fields) (flat_map issns_in r.fields)
+      (flat_map title_in r.fields) (date_in (text_under (codes "008") r.fields)) (flat_map name_in r.fields) refl;
 }

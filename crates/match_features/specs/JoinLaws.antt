@@ -17,6 +17,7 @@ pub record Alike (x y : Features) : Type 0 where
   pub control : x.control ≡ y.control
   pub types : x.types ≡ y.types
   pub isbns : x.isbns ≡ y.isbns
+  pub issns : x.issns ≡ y.issns
   pub titles : x.titles ≡ y.titles
   pub dates : x.dates ≡ y.dates
   pub names : x.names ≡ y.names
@@ -24,22 +25,23 @@ pub record Alike (x y : Features) : Type 0 where
 -- what features are is what their lists are
 pub same_features : (x y : Features) → Alike x y → x ≡ y
 same_features x y e =
-    let pairs : ◌≡◌ {A = (d : (List (List ℕ × List ℕ) × List (List ℕ) × List (List ℕ) × List (List ℕ) × List (List ℕ) × List (List ℕ))) × IsTrue (are_features d.0 d.1 d.2 d.3 d.4 d.5)}
-    ((x.control, x.types, x.isbns, x.titles, x.dates, x.names), x.kept) ((y.control, y.types, y.isbns, y.titles, y.dates, y.names), y.kept) =
-    Σ_prop_path (λ d. Bool-set (are_features d.0 d.1 d.2 d.3 d.4 d.5) true)
-    (λ i. (e.control i, e.types i, e.isbns i, e.titles i, e.dates i, e.names i)) in
+    let pairs : ◌≡◌ {A = (d : (List (List ℕ × List ℕ) × List (List ℕ) × List (List ℕ) × List (List ℕ) × List (List ℕ) × List (List ℕ) × List (List ℕ))) × IsTrue (are_features d.0 d.1 d.2 d.3 d.4 d.5 d.6)}
+    ((x.control, x.types, x.isbns, x.issns, x.titles, x.dates, x.names), x.kept) ((y.control, y.types, y.isbns, y.issns, y.titles, y.dates, y.names), y.kept) =
+    Σ_prop_path (λ d. Bool-set (are_features d.0 d.1 d.2 d.3 d.4 d.5 d.6) true)
+    (λ i. (e.control i, e.types i, e.isbns i, e.issns i, e.titles i, e.dates i, e.names i)) in
     λ i. record {
       control = (pairs i).0.0;
       types = (pairs i).0.1;
       isbns = (pairs i).0.2;
-      titles = (pairs i).0.3;
-      dates = (pairs i).0.4;
-      names = (pairs i).0.5;
+      issns = (pairs i).0.3;
+      titles = (pairs i).0.4;
+      dates = (pairs i).0.5;
+      names = (pairs i).0.6;
       kept = (pairs i).1;
     }
 
-pub parts : (x : Features) → AreKept x.control x.types x.isbns x.titles x.dates x.names
-parts x = kept_parts x.control x.types x.isbns x.titles x.dates x.names x.kept
+pub parts : (x : Features) → AreKept x.control x.types x.isbns x.issns x.titles x.dates x.names
+parts x = kept_parts x.control x.types x.isbns x.issns x.titles x.dates x.names x.kept
 
 texts_once : (xs : List (List ℕ)) → is_ascending texts_cmp xs ≡ true → union texts_cmp xs xs ≡ xs
 texts_once = union-idempotent nat_list_cmp_total texts_apart
@@ -58,6 +60,7 @@ features_join_laws = record {
         control = union-idempotent pairs_total pairs_tie x.control a.control;
         types = texts_once x.types a.types;
         isbns = texts_once x.isbns a.isbns;
+        issns = texts_once x.issns a.issns;
         titles = texts_once x.titles a.titles;
         dates = texts_once x.dates a.dates;
         names = texts_once x.names a.names;
@@ -69,6 +72,7 @@ features_join_laws = record {
         control = union-commutative pairs_total pairs_tie x.control y.control a.control b.control;
         types = texts_swap x.types y.types a.types b.types;
         isbns = texts_swap x.isbns y.isbns a.isbns b.isbns;
+        issns = texts_swap x.issns y.issns a.issns b.issns;
         titles = texts_swap x.titles y.titles a.titles b.titles;
         dates = texts_swap x.dates y.dates a.dates b.dates;
         names = texts_swap x.names y.names a.names b.names;
@@ -79,6 +83,7 @@ features_join_laws = record {
         control = union-associative pairs_total pairs_tie x.control y.control z.control a.control;
         types = texts_regroup x.types y.types z.types a.types;
         isbns = texts_regroup x.isbns y.isbns z.isbns a.isbns;
+        issns = texts_regroup x.issns y.issns z.issns a.issns;
         titles = texts_regroup x.titles y.titles z.titles a.titles;
         dates = texts_regroup x.dates y.dates z.dates a.dates;
         names = texts_regroup x.names y.names z.names a.names;

@@ -9,8 +9,9 @@ join x y = record {
   control = union pairs_cmp x.control y.control;
   types = union texts_cmp x.types y.types;
   isbns = union texts_cmp x.isbns y.isbns;
+  issns = union texts_cmp x.issns y.issns;
   titles = union texts_cmp x.titles y.titles;
   dates = union texts_cmp x.dates y.dates;
   names = union texts_cmp x.names y.names;
-  kept = kept_unions x.control y.control x.types y.types x.isbns y.isbns x.titles y.titles x.dates y.dates x.names y.names x.kept;
+  kept = kept_unions x.control y.control x.types y.types x.isbns y.isbns x.issns y.issns x.titles y.titles x.dates y.dates x.names y.names x.kept;
 }

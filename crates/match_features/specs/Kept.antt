@@ -18,8 +18,8 @@ has_some [] = false
 has_some (x ∷ xs) = true
 
 -- there is a control pair, and each list is in order and without repeats
-abbrev pub are_features : List (List ℕ × List ℕ) → List (List ℕ) → List (List ℕ) → List (List ℕ) → List (List ℕ) → List (List ℕ) → Bool
-are_features control types isbns titles dates names =
+abbrev pub are_features : List (List ℕ × List ℕ) → List (List ℕ) → List (List ℕ) → List (List ℕ) → List (List ℕ) → List (List ℕ) → List (List ℕ) → Bool
+are_features control types isbns issns titles dates names =
     (has_some control && is_ascending pairs_cmp control)
-    && ((is_ascending texts_cmp types && is_ascending texts_cmp isbns)
+    && ((is_ascending texts_cmp types && (is_ascending texts_cmp isbns && is_ascending texts_cmp issns))
     && (is_ascending texts_cmp titles && (is_ascending texts_cmp dates && is_ascending texts_cmp names)))

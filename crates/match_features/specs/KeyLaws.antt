@@ -8,48 +8,62 @@ use Rattle.union_base.specs.SortedLists.{have_common}
 use Rattle.merge_laws.specs.Resolution.{KeyLaws}
 use Rattle.match_features.specs.declared.features.Features.{Features}
 use Rattle.match_features.specs.declared.keys.FeatureKey.{FeatureKey}
-use Rattle.match_features.specs.declared.keys.FeatureKey.TheVariants.{Control, Isbn, Title}
+use Rattle.match_features.specs.declared.keys.FeatureKey.TheVariants.{Control, Isbn, Issn, Title}
 use Rattle.match_features.specs.Kept.{texts_cmp, pairs_cmp}
 use Rattle.match_features.specs.KeptLaws.{pairs_total, pairs_tie}
 use Rattle.match_features.specs.Joining.{join}
 use Rattle.match_features.specs.JoinLaws.{parts}
-use Rattle.match_features.specs.Meeting.{meet_by_control, meet_by_isbn, meet_by_title, meet}
+use Rattle.match_features.specs.Meeting.{meet_by_control, meet_by_isbn, meet_by_issn, have_common_but_serials, meet_by_title, meet}
 use Rattle.match_features.specs.MeetLaws.{or_more}
 use Rattle.match_features.specs.MemberLaws.{or_cases, or_left, or_right, member-from_common, common-from_member, member-from_union, union-from_member, member-map, member-from_map, once-from_ascending, once-append, apart_maps}
 use Rattle.match_features.specs.Keys.{keys, HasKey, share_key, key_eq}
 
--- those that meet share a key: a control pair, an ISBN or a title
+-- those that meet share a key: a control pair, an ISBN, an ISSN or a title
 share-from_meet : (x y : Features) → IsTrue (meet x y) → IsTrue (share_key x y)
 share-from_meet x y h =
+    let control = have_common pairs_cmp x.control y.control in
     let types = have_common texts_cmp x.types y.types in
+    let others = have_common_but_serials x.types y.types in
     let isbns = have_common texts_cmp x.isbns y.isbns in
+    let issns = have_common texts_cmp x.issns y.issns in
     let titles = have_common texts_cmp x.titles y.titles in
     let dates = have_common texts_cmp x.dates y.dates in
     let names = have_common texts_cmp x.names y.names in
-    or_more (meet_by_control x y || meet_by_isbn x y) (meet_by_title x y) (have_common pairs_cmp x.control y.control || isbns) titles
-    (or_more (meet_by_control x y) (meet_by_isbn x y) (have_common pairs_cmp x.control y.control) isbns (λ e. e) (λ e. (both_true types isbns e).1))
-    (λ e. (both_true types titles (both_true (types && titles) dates (both_true ((types && titles) && dates) names e).0).0).1)
+    or_more (meet_by_control x y || meet_by_isbn x y || meet_by_issn x y) (meet_by_title x y) (control || isbns || issns) titles
+    (or_more (meet_by_control x y || meet_by_isbn x y) (meet_by_issn x y) (control || isbns) issns
+    (or_more (meet_by_control x y) (meet_by_isbn x y) control isbns (λ e. e) (λ e. (both_true types isbns e).1))
+    (λ e. (both_true types issns e).1))
+    (λ e. (both_true others titles (both_true (others && titles) dates (both_true ((others && titles) && dates) names e).0).0).1)
     h
 
 key-from_share : (x y : Features) → IsTrue (share_key x y) → (k : FeatureKey) × HasKey x k × HasKey y k
 key-from_share x y h =
-    elim (or_cases (have_common pairs_cmp x.control y.control || have_common texts_cmp x.isbns y.isbns) (have_common texts_cmp x.titles y.titles) h) [
+    let control = have_common pairs_cmp x.control y.control in
+    let isbns = have_common texts_cmp x.isbns y.isbns in
+    let issns = have_common texts_cmp x.issns y.issns in
+    elim (or_cases (control || isbns || issns) (have_common texts_cmp x.titles y.titles) h) [
       | inr e ↦ (let some = member-from_common nat_list_cmp_total texts_apart x.titles y.titles e in (Title some.0, some.1, some.2))
-      | inl e ↦ elim (or_cases (have_common pairs_cmp x.control y.control) (have_common texts_cmp x.isbns y.isbns) e) [
-        | inr f ↦ (let some = member-from_common nat_list_cmp_total texts_apart x.isbns y.isbns f in (Isbn some.0, some.1, some.2))
-        | inl f ↦ (let some = member-from_common pairs_total pairs_tie x.control y.control f in (Control some.0, some.1, some.2))
+      | inl e ↦ elim (or_cases (control || isbns) issns e) [
+        | inr f ↦ (let some = member-from_common nat_list_cmp_total texts_apart x.issns y.issns f in (Issn some.0, some.1, some.2))
+        | inl f ↦ elim (or_cases control isbns f) [
+          | inr g ↦ (let some = member-from_common nat_list_cmp_total texts_apart x.isbns y.isbns g in (Isbn some.0, some.1, some.2))
+          | inl g ↦ (let some = member-from_common pairs_total pairs_tie x.control y.control g in (Control some.0, some.1, some.2))
+        ]
       ]
     ]
 
 share-from_key : (x y : Features) (k : FeatureKey) → HasKey x k → HasKey y k → IsTrue (share_key x y)
 share-from_key x y (Control pair) p q =
-    or_left (have_common pairs_cmp x.control y.control || have_common texts_cmp x.isbns y.isbns) _
-    (or_left (have_common pairs_cmp x.control y.control) _ (common-from_member pairs_total pairs_tie x.control y.control pair p q))
+    or_left _ (have_common texts_cmp x.titles y.titles) (or_left _ (have_common texts_cmp x.issns y.issns) (or_left _ (have_common texts_cmp x.isbns y.isbns)
+    (common-from_member pairs_total pairs_tie x.control y.control pair p q)))
 share-from_key x y (Isbn isbn) p q =
-    or_left (have_common pairs_cmp x.control y.control || have_common texts_cmp x.isbns y.isbns) _
-    (or_right (have_common pairs_cmp x.control y.control) _ (common-from_member nat_list_cmp_total texts_apart x.isbns y.isbns isbn p q))
+    or_left _ (have_common texts_cmp x.titles y.titles) (or_left _ (have_common texts_cmp x.issns y.issns) (or_right (have_common pairs_cmp x.control y.control) _
+    (common-from_member nat_list_cmp_total texts_apart x.isbns y.isbns isbn p q)))
+share-from_key x y (Issn issn) p q =
+    or_left _ (have_common texts_cmp x.titles y.titles) (or_right (have_common pairs_cmp x.control y.control || have_common texts_cmp x.isbns y.isbns) _
+    (common-from_member nat_list_cmp_total texts_apart x.issns y.issns issn p q))
 share-from_key x y (Title title) p q =
-    or_right (have_common pairs_cmp x.control y.control || have_common texts_cmp x.isbns y.isbns) _
+    or_right (have_common pairs_cmp x.control y.control || have_common texts_cmp x.isbns y.isbns || have_common texts_cmp x.issns y.issns) _
     (common-from_member nat_list_cmp_total texts_apart x.titles y.titles title p q)
 
 key-join : (x y : Features) (k : FeatureKey) → HasKey (join x y) k ↔ (HasKey x k ⊎ HasKey y k)
@@ -60,6 +74,10 @@ key-join x y (Control pair) = (
 key-join x y (Isbn isbn) = (
   member-from_union nat_list_cmp_total texts_apart x.isbns y.isbns isbn,
   union-from_member nat_list_cmp_total texts_apart x.isbns y.isbns isbn,
+)
+key-join x y (Issn issn) = (
+  member-from_union nat_list_cmp_total texts_apart x.issns y.issns issn,
+  union-from_member nat_list_cmp_total texts_apart x.issns y.issns issn,
 )
 key-join x y (Title title) = (
   member-from_union nat_list_cmp_total texts_apart x.titles y.titles title,
@@ -76,23 +94,34 @@ features_key_laws = record {
 -- the list of the keys has each key that features have
 key-from_member : (x : Features) (k : FeatureKey) → Contains (keys x) k → HasKey x k
 key-from_member x k h =
-    elim (Contains-append_cases (map Control x.control ++ map Isbn x.isbns) (map Title x.titles) k h) [
+    let control = map Control x.control in
+    let isbns = map Isbn x.isbns in
+    let issns = map Issn x.issns in
+    elim (Contains-append_cases (control ++ isbns ++ issns) (map Title x.titles) k h) [
       | inr e ↦ (let (title, there, is) = member-from_map Title x.titles k e in subst (HasKey x) is there)
-      | inl e ↦ elim (Contains-append_cases (map Control x.control) (map Isbn x.isbns) k e) [
-        | inr f ↦ (let (isbn, there, is) = member-from_map Isbn x.isbns k f in subst (HasKey x) is there)
-        | inl f ↦ (let (pair, there, is) = member-from_map Control x.control k f in subst (HasKey x) is there)
+      | inl e ↦ elim (Contains-append_cases (control ++ isbns) issns k e) [
+        | inr f ↦ (let (issn, there, is) = member-from_map Issn x.issns k f in subst (HasKey x) is there)
+        | inl f ↦ elim (Contains-append_cases control isbns k f) [
+          | inr g ↦ (let (isbn, there, is) = member-from_map Isbn x.isbns k g in subst (HasKey x) is there)
+          | inl g ↦ (let (pair, there, is) = member-from_map Control x.control k g in subst (HasKey x) is there)
+        ]
       ]
     ]
 
 member-from_key : (x : Features) (k : FeatureKey) → HasKey x k → Contains (keys x) k
 member-from_key x (Control pair) h =
-    Contains-append_left (map Control x.control ++ map Isbn x.isbns) (map Title x.titles) (Control pair)
-    (Contains-append_left (map Control x.control) (map Isbn x.isbns) (Control pair) (member-map Control x.control pair h))
+    Contains-append_left (map Control x.control ++ map Isbn x.isbns ++ map Issn x.issns) (map Title x.titles) (Control pair)
+    (Contains-append_left (map Control x.control ++ map Isbn x.isbns) (map Issn x.issns) (Control pair)
+    (Contains-append_left (map Control x.control) (map Isbn x.isbns) (Control pair) (member-map Control x.control pair h)))
 member-from_key x (Isbn isbn) h =
-    Contains-append_left (map Control x.control ++ map Isbn x.isbns) (map Title x.titles) (Isbn isbn)
-    (Contains-append_right (map Control x.control) (map Isbn x.isbns) (Isbn isbn) (member-map Isbn x.isbns isbn h))
+    Contains-append_left (map Control x.control ++ map Isbn x.isbns ++ map Issn x.issns) (map Title x.titles) (Isbn isbn)
+    (Contains-append_left (map Control x.control ++ map Isbn x.isbns) (map Issn x.issns) (Isbn isbn)
+    (Contains-append_right (map Control x.control) (map Isbn x.isbns) (Isbn isbn) (member-map Isbn x.isbns isbn h)))
+member-from_key x (Issn issn) h =
+    Contains-append_left (map Control x.control ++ map Isbn x.isbns ++ map Issn x.issns) (map Title x.titles) (Issn issn)
+    (Contains-append_right (map Control x.control ++ map Isbn x.isbns) (map Issn x.issns) (Issn issn) (member-map Issn x.issns issn h))
 member-from_key x (Title title) h =
-    Contains-append_right (map Control x.control ++ map Isbn x.isbns) (map Title x.titles) (Title title) (member-map Title x.titles title h)
+    Contains-append_right (map Control x.control ++ map Isbn x.isbns ++ map Issn x.issns) (map Title x.titles) (Title title) (member-map Title x.titles title h)
 
 pub features_keys : (x : Features) (k : FeatureKey) → Contains (keys x) k ↔ HasKey x k
 features_keys x k = (key-from_member x k, member-from_key x k)
@@ -101,14 +130,24 @@ features_keys x k = (key-from_member x k, member-from_key x k)
 pub features_keys_once : (x : Features) → AllPairs (λ j k. j ≢ k) (keys x)
 features_keys_once x =
     let kept = parts x in
-    once-append (map Control x.control ++ map Isbn x.isbns) (map Title x.titles)
-    (once-append (map Control x.control) (map Isbn x.isbns)
+    let control = map Control x.control in
+    let isbns = map Isbn x.isbns in
+    let issns = map Issn x.issns in
+    let titles = map Title x.titles in
+    once-append (control ++ isbns ++ issns) titles
+    (once-append (control ++ isbns) issns
+    (once-append control isbns
     (once-from_ascending pairs_total pairs_tie Control (λ p q e. cc) x.control kept.control)
     (once-from_ascending nat_list_cmp_total texts_apart Isbn (λ p q e. cc) x.isbns kept.isbns)
     (apart_maps Control Isbn (λ p q e. cc) x.control x.isbns))
+    (once-from_ascending nat_list_cmp_total texts_apart Issn (λ p q e. cc) x.issns kept.issns)
+    (All-append (λ j. All (λ k. j ≢ k) issns) control isbns
+    (apart_maps Control Issn (λ p q e. cc) x.control x.issns) (apart_maps Isbn Issn (λ p q e. cc) x.isbns x.issns)))
     (once-from_ascending nat_list_cmp_total texts_apart Title (λ p q e. cc) x.titles kept.titles)
-    (All-append (λ j. All (λ k. j ≢ k) (map Title x.titles)) (map Control x.control) (map Isbn x.isbns)
+    (All-append (λ j. All (λ k. j ≢ k) titles) (control ++ isbns) issns
+    (All-append (λ j. All (λ k. j ≢ k) titles) control isbns
     (apart_maps Control Title (λ p q e. cc) x.control x.titles) (apart_maps Isbn Title (λ p q e. cc) x.isbns x.titles))
+    (apart_maps Issn Title (λ p q e. cc) x.issns x.titles))
 
 same_texts : (a b : List ℕ) → pointwise nat_eq a b ≡ true → a ≡ b
 same_texts a b h = same_text a b (sym h)
@@ -119,10 +158,6 @@ features_keys_exact (Control p) (Control q) h =
     let both = both_true (pointwise nat_eq p.0 q.0) (pointwise nat_eq p.1 q.1) h in
     λ i. Control (same_texts p.0 q.0 both.0 i, same_texts p.1 q.1 both.1 i)
 features_keys_exact (Isbn a) (Isbn b) h = ap Isbn (same_texts a b h)
+features_keys_exact (Issn a) (Issn b) h = ap Issn (same_texts a b h)
 features_keys_exact (Title a) (Title b) h = ap Title (same_texts a b h)
-features_keys_exact (Control p) (Isbn b) h = cc
-features_keys_exact (Control p) (Title b) h = cc
-features_keys_exact (Isbn a) (Control q) h = cc
-features_keys_exact (Isbn a) (Title b) h = cc
-features_keys_exact (Title a) (Control q) h = cc
-features_keys_exact (Title a) (Isbn b) h = cc
+features_keys_exact j k h = cc

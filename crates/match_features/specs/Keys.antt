@@ -4,31 +4,31 @@ use Rattle.std.specs.Cmp.Lexicographic.{pointwise}
 use Rattle.union_base.specs.SortedLists.{have_common}
 use Rattle.match_features.specs.declared.features.Features.{Features}
 use Rattle.match_features.specs.declared.keys.FeatureKey.{FeatureKey}
-use Rattle.match_features.specs.declared.keys.FeatureKey.TheVariants.{Control, Isbn, Title}
+use Rattle.match_features.specs.declared.keys.FeatureKey.TheVariants.{Control, Isbn, Issn, Title}
 use Rattle.match_features.specs.Kept.{texts_cmp, pairs_cmp}
 
--- each control pair, each ISBN, each title
+-- each control pair, each ISBN, each ISSN, each title
 abbrev pub keys : Features → List FeatureKey
-keys x = map Control x.control ++ map Isbn x.isbns ++ map Title x.titles
+keys x = map Control x.control ++ map Isbn x.isbns ++ map Issn x.issns ++ map Title x.titles
 
 abbrev pub HasKey : Features → FeatureKey → Type 0
 HasKey x (Control pair) = Contains x.control pair
 HasKey x (Isbn isbn) = Contains x.isbns isbn
+HasKey x (Issn issn) = Contains x.issns issn
 HasKey x (Title title) = Contains x.titles title
 
 -- whether two have a key in common
 abbrev pub share_key : Features → Features → Bool
 share_key x y =
-    have_common pairs_cmp x.control y.control || have_common texts_cmp x.isbns y.isbns || have_common texts_cmp x.titles y.titles
+    have_common pairs_cmp x.control y.control
+    || have_common texts_cmp x.isbns y.isbns
+    || have_common texts_cmp x.issns y.issns
+    || have_common texts_cmp x.titles y.titles
 
 -- keys of one kind compare as equal where their texts do, and keys of two kinds never
 abbrev pub key_eq : FeatureKey → FeatureKey → Bool
 key_eq (Control p) (Control q) = pointwise nat_eq p.0 q.0 && pointwise nat_eq p.1 q.1
 key_eq (Isbn a) (Isbn b) = pointwise nat_eq a b
+key_eq (Issn a) (Issn b) = pointwise nat_eq a b
 key_eq (Title a) (Title b) = pointwise nat_eq a b
-key_eq (Control p) (Isbn b) = false
-key_eq (Control p) (Title b) = false
-key_eq (Isbn a) (Control q) = false
-key_eq (Isbn a) (Title b) = false
-key_eq (Title a) (Control q) = false
-key_eq (Title a) (Isbn b) = false
+key_eq j k = false

@@ -1,5 +1,5 @@
 -- The members of sorted lists, and the members that two of them have in common.
-use Rattle.std.proofs.Common.{◌≡◌, ◌≢◌, suc, ◌<◌, arith, length, get_or, Bool, true, false, ◌||◌, ◌⊎◌, inl, inr, List, [], ◌∷◌, ◌++◌, map, All, AllPairs, Contains, refl, sym, ap, subst, ◌∙◌}
+use Rattle.std.proofs.Common.{◌≡◌, ◌≢◌, suc, ◌<◌, arith, length, get_or, Bool, true, false, ◌||◌, cond, filter, ◌⊎◌, inl, inr, List, [], ◌∷◌, ◌++◌, map, All, AllPairs, Contains, refl, sym, ap, subst, ◌∙◌}
 use Rattle.std.specs.declared.cmp.Ordering.{Ordering}
 use Rattle.std.specs.declared.cmp.Ordering.TheVariants.{Less, Equal, Greater}
 use Rattle.std.specs.Ordering.{is_eq, is_lt, eq_by_cmp}
@@ -7,12 +7,13 @@ use Rattle.std.specs.Cmp.{IsTotalOrder, eq_by_cmp_equiv}
 use Rattle.std.specs.FinMap.{IsAntisymmetric}
 use Rattle.std.specs.List.{list_all}
 use Rattle.std.proofs.lemmas.List.Folds.{Any-from_list_any, list_any-from_Any}
-use Rattle.std.proofs.lemmas.List.Elements.{All-nil, All-cons, All-append}
+use Rattle.std.proofs.lemmas.List.Elements.{All-nil, All-cons, All-append, All-contains, All-contains_itself, All-filter, filter_passes}
 use Rattle.std.proofs.lemmas.List.{get_or-map, get_or_default, length-map}
 use Rattle.std.proofs.lemmas.List.Kept.{AllPairs-cons}
 use Rattle.union_base.specs.Both.{both_true}
 use Rattle.union_base.specs.SortedLists.{is_ascending, union, has, have_common}
 use Rattle.union_base.proofs.SortedListLaws.{has-union, have_common-union, have_common-itself}
+use Rattle.merge_laws.proofs.Places.{Contains-head, Contains-tail, Contains-cases}
 use Rattle.match_features.specs.Kept.{has_some}
 
 is_tie : (r : Ordering) → is_eq r ≡ true → r ≡ Equal
@@ -108,6 +109,28 @@ module _ {A B J : Type 0} (f : A → J) (g : B → J) (apart : (a : A) (b : B) �
   pub apart_maps : (xs : List A) (ys : List B) → All (λ i. All (λ j. i ≢ j) (map g ys)) (map f xs)
   apart_maps [] ys = All-nil (λ i. All (λ j. i ≢ j) (map g ys))
   apart_maps (x ∷ xs) ys = All-cons (λ i. All (λ j. i ≢ j) (map g ys)) (f x) (map f xs) (others x ys) (apart_maps xs ys)
+
+-- the members of a list that pass a test
+module _ {K : Type 0} (p : K → Bool) where
+  pub member-filter : (xs : List K) (x : K) → Contains xs x → p x ≡ true → Contains (filter p xs) x
+  member-filter [] x (k, lt, e) h = absurd (omega arith)
+  member-filter (y ∷ ys) x c h =
+      elim (p y) as (λ b. p y ≡ b → Contains (cond b (y ∷ filter p ys) (filter p ys)) x) [
+        | true ↦ λ is. elim (Contains-cases y ys x c) [
+          | inl same ↦ subst (Contains (y ∷ filter p ys)) same (Contains-head y (filter p ys))
+          | inr later ↦ Contains-tail y (filter p ys) x (member-filter ys x later h)
+        ]
+        | false ↦ λ is. elim (Contains-cases y ys x c) [
+          | inl same ↦ absurd (let clash : true ≡ false = sym h ∙ ap p (sym same) ∙ is in cc)
+          | inr later ↦ member-filter ys x later h
+        ]
+      ] refl
+
+  pub member-from_filter : (xs : List K) (x : K) → Contains (filter p xs) x → Contains xs x × (p x ≡ true)
+  member-from_filter xs x c = (
+    All-contains (Contains xs) (filter p xs) x (All-filter p (Contains xs) xs (All-contains_itself xs)) c,
+    All-contains (λ y. p y ≡ true) (filter p xs) x (filter_passes p xs) c,
+  )
 
 -- the members of a list whose values are changed one by one
 module _ {A J : Type 0} (f : A → J) where

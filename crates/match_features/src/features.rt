@@ -15,13 +15,15 @@ pub struct Features {
     pub types: SortedList<[u8; 2]>,
     /// ISBNs, of thirteen digits.
     pub isbns: SortedList<[u8; 13]>,
-    /// Titles in normal form, none of them empty.
+    /// ISSNs, of eight characters.
+    pub issns: SortedList<[u8; 8]>,
+    /// Titles in normal form.
     pub titles: SortedList<Bytes>,
     /// Years of four digits (MARC 21, 008/07-10).
     pub dates: SortedList<[u8; 4]>,
-    /// Headings of the main entry in normal form, none of them empty.
+    /// Headings of the main entry in normal form.
     pub names: SortedList<Bytes>,
-    pub ghost kept: { IsTrue (are_features control types isbns titles dates names) },
+    pub ghost kept: { IsTrue (are_features control types isbns issns titles dates names) },
 }
 
 /// A drop of its own, as that of `Bytes`.
@@ -31,6 +33,7 @@ impl Drop for Features {
             control: _,
             types: _,
             isbns: _,
+            issns: _,
             titles: _,
             dates: _,
             names: _,

@@ -2,10 +2,11 @@
 ghost use Rattle.std.specs.Prelude.{◌≡◌, ◌++◌, All, IfOk, OnOk};
 ghost use Rattle.std.specs.List.{flat_map};
 ghost use Rattle.workset_keys.specs.Names.{HasTexts};
-ghost use Rattle.match_features.specs.Gathering.{lccn_in, system_number_in, isbn_in, where_not_empty, numbers_in, isbns_in, title_in, name_in, is_name};
+ghost use Rattle.match_features.specs.Gathering.{lccn_in, system_number_in, isbn_in, issn_in, where_not_empty, numbers_in, isbns_in, issns_in, title_in, name_in, is_name};
 
 use isbn_keys::control::system_number;
 use isbn_keys::isbn::isbn;
+use isbn_keys::issn::issn;
 use isbn_keys::lccn::lccn;
 use marc_parts::parts::has_tag;
 use std::alloc::Global;
@@ -16,7 +17,7 @@ use union_base::subfield::Subfield;
 use union_base::subfields::Subfields;
 use workset_keys::fields::{name_of, title245_of};
 
-/// The code of the subfields that numbers are read from (MARC 21, 010, 020 and 035, `$a`).
+/// The code of the subfields that numbers are read from (MARC 21, 010, 020, 022 and 035, `$a`).
 const NUMBER: u8 = b'a';
 
 /// The source of the numbers of the Library of Congress.
@@ -27,6 +28,7 @@ const CONGRESS: [u8; 3] = *b"DLC";
 pub(crate) struct Findings {
     pub(crate) control: Vec<(Bytes, Bytes)>,
     pub(crate) isbns: Vec<[u8; 13]>,
+    pub(crate) issns: Vec<[u8; 8]>,
     pub(crate) titles: Vec<Bytes>,
     pub(crate) names: Vec<Bytes>,
 }
@@ -40,12 +42,14 @@ pub(crate) fn gathered(
     requires { All HasTexts fields.now }
     ensures control { IfOk result (λ found. found.control.items ≡ control.items ++ flat_map numbers_in fields.now) }
     ensures isbns { IfOk result (λ found. found.isbns.items ≡ flat_map isbns_in fields.now) }
+    ensures issns { IfOk result (λ found. found.issns.items ≡ flat_map issns_in fields.now) }
     ensures titles { IfOk result (λ found. found.titles.items ≡ flat_map title_in fields.now) }
     ensures names { IfOk result (λ found. found.names.items ≡ flat_map name_in fields.now) }
 {
     let mut found = Findings {
         control,
         isbns: Vec::new(alloc),
+        issns: Vec::new(alloc),
         titles: Vec::new(alloc),
         names: Vec::new(alloc),
     };
@@ -61,11 +65,13 @@ impl Findings {
         requires { HasTexts field.now }
         ensures control { OnOk result (self.new.control.items ≡ self.old.control.items ++ numbers_in field.now) }
         ensures isbns { OnOk result (self.new.isbns.items ≡ self.old.isbns.items ++ isbns_in field.now) }
+        ensures issns { OnOk result (self.new.issns.items ≡ self.old.issns.items ++ issns_in field.now) }
         ensures titles { OnOk result (self.new.titles.items ≡ self.old.titles.items ++ title_in field.now) }
         ensures names { OnOk result (self.new.names.items ≡ self.old.names.items ++ name_in field.now) }
     {
         push_numbers(alloc, &mut self.control, field)?;
         push_isbns(&mut self.isbns, field)?;
+        push_issns(&mut self.issns, field)?;
         push_title(alloc, &mut self.titles, field)?;
         push_name(alloc, &mut self.names, field)
     }
@@ -174,6 +180,37 @@ fn push_isbn(isbns: &mut Vec<[u8; 13]>, subfield: &Subfield<'_>) -> Result<(), M
     }
     if let Some(digits) = isbn(subfield.text) {
         isbns.push(digits)?;
+    }
+    Ok(())
+}
+
+/// Each 022 $a that is an ISSN.
+fn push_issns(issns: &mut Vec<[u8; 8]>, field: &Field) -> Result<(), Memory>
+    ensures { OnOk result (issns.new.items ≡ issns.old.items ++ issns_in field.now) }
+{
+    if has_tag(b"022", field) {
+        push_issns_of(issns, field.body.subfields())?;
+    }
+    Ok(())
+}
+
+fn push_issns_of(issns: &mut Vec<[u8; 8]>, subfields: Subfields<'_>) -> Result<(), Memory>
+    ensures { OnOk result (issns.new.items ≡ issns.old.items ++ flat_map issn_in subfields.entry) }
+{
+    for subfield in subfields {
+        push_issn(issns, &subfield)?;
+    }
+    Ok(())
+}
+
+fn push_issn(issns: &mut Vec<[u8; 8]>, subfield: &Subfield<'_>) -> Result<(), Memory>
+    ensures { OnOk result (issns.new.items ≡ issns.old.items ++ issn_in subfield.now) }
+{
+    if subfield.code != NUMBER {
+        return Ok(());
+    }
+    if let Some(key) = issn(subfield.text) {
+        issns.push(key)?;
     }
     Ok(())
 }

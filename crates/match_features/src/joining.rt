@@ -15,6 +15,7 @@ impl Join for Features {
         let control = self.control.union(alloc, &other.control)?;
         let types = self.types.union(alloc, &other.types)?;
         let isbns = self.isbns.union(alloc, &other.isbns)?;
+        let issns = self.issns.union(alloc, &other.issns)?;
         let titles = self.titles.union(alloc, &other.titles)?;
         let dates = self.dates.union(alloc, &other.dates)?;
         let names = self.names.union(alloc, &other.names)?;
@@ -22,6 +23,7 @@ impl Join for Features {
             control,
             types,
             isbns,
+            issns,
             titles,
             dates,
             names,
@@ -33,6 +35,7 @@ impl Join for Features {
             control: self.control.copied(alloc)?,
             types: self.types.copied(alloc)?,
             isbns: self.isbns.copied(alloc)?,
+            issns: self.issns.copied(alloc)?,
             titles: self.titles.copied(alloc)?,
             dates: self.dates.copied(alloc)?,
             names: self.names.copied(alloc)?,

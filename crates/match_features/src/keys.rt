@@ -16,6 +16,8 @@ pub enum FeatureKey {
     Control(ControlPair),
     /// An ISBN, of thirteen digits.
     Isbn([u8; 13]),
+    /// An ISSN, of eight characters.
+    Issn([u8; 8]),
     /// A title in normal form.
     Title(Bytes),
 }
@@ -26,6 +28,7 @@ impl Drop for FeatureKey {
         match self {
             FeatureKey::Control(_) => (),
             FeatureKey::Isbn(_) => (),
+            FeatureKey::Issn(_) => (),
             FeatureKey::Title(_) => (),
         }
     }
@@ -36,12 +39,13 @@ impl Copied for FeatureKey {
         match self {
             FeatureKey::Control(pair) => Ok(FeatureKey::Control(pair.copied(alloc)?)),
             FeatureKey::Isbn(isbn) => Ok(FeatureKey::Isbn(*isbn)),
+            FeatureKey::Issn(issn) => Ok(FeatureKey::Issn(*issn)),
             FeatureKey::Title(title) => Ok(FeatureKey::Title(title.copied(alloc)?)),
         }
     }
 }
 
-/// The keys of the features, each once: those of the control pairs, then of the ISBNs, then of the titles.
+/// The keys of the features, each once: those of the control pairs, then of the ISBNs, of the ISSNs, and of the titles.
 ///
 /// Answers `Memory` where memory ran out.
 pub fn feature_keys(alloc: Global, features: &Features) -> Result<Vec<FeatureKey>, Memory>
@@ -51,11 +55,14 @@ pub fn feature_keys(alloc: Global, features: &Features) -> Result<Vec<FeatureKey
 {
     let control = features.control.as_slice();
     let isbns = features.isbns.as_slice();
+    let issns = features.issns.as_slice();
     let titles = features.titles.as_slice();
-    let room = control.len().saturating_add(isbns.len());
-    let mut found = Vec::with_capacity(alloc, room.saturating_add(titles.len()))?;
+    let numbers = isbns.len().saturating_add(issns.len());
+    let others = numbers.saturating_add(titles.len());
+    let mut found = Vec::with_capacity(alloc, control.len().saturating_add(others))?;
     push_control_keys(alloc, &mut found, control)?;
     push_isbn_keys(&mut found, isbns)?;
+    push_issn_keys(&mut found, issns)?;
     push_title_keys(alloc, &mut found, titles)?;
     Ok(found)
 }
@@ -79,6 +86,15 @@ fn push_isbn_keys(found: &mut Vec<FeatureKey>, isbns: &[[u8; 13]]) -> Result<(),
 {
     for isbn in isbns {
         found.push(FeatureKey::Isbn(*isbn))?;
+    }
+    Ok(())
+}
+
+fn push_issn_keys(found: &mut Vec<FeatureKey>, issns: &[[u8; 8]]) -> Result<(), Memory>
+    ensures { OnOk result (found.new.items ≡ found.old.items ++ map FeatureKey.Issn issns.now) }
+{
+    for issn in issns {
+        found.push(FeatureKey::Issn(*issn))?;
     }
     Ok(())
 }

@@ -1,7 +1,7 @@
 //! The features by which records of several libraries are found to describe one edition: control numbers, types, ISBNs,
-//! titles, dates and names.
+//! ISSNs, titles, dates and names.
 //!
-//! Guarantee: `of_record::features_of` answers exactly the six lists that `specs/Gathering.antt` defines, a row for each;
+//! Guarantee: `of_record::features_of` answers exactly the seven lists that `specs/Gathering.antt` defines, a row for each;
 //! `meets` is the match rule of `specs/Meeting.antt`; features merge by the union of each list; and `laws` has what
 //! resolving editions asks of all this. Cost: one pass over a record's fields, each text made once, each list sorted once;
 //! meeting walks sorted lists side by side and takes no memory.

@@ -24,7 +24,7 @@ const OWN: u8 = b'=';
 
 /// The features of a record that the library loads. Its own number, under the source `=` and the library's code, the number
 /// of 003 and 001, the system numbers of 035 `$a` and the LCCNs of 010 `$a`; leader/06 and 07; the ISBNs of 020 `$a`; the
-/// title of 245; the year in 008/07-10; and the heading of 100, 110 or 111 (MARC 21).
+/// ISSNs of 022 `$a`; the title of 245; the year in 008/07-10; and the heading of 100, 110 or 111 (MARC 21).
 ///
 /// Answers `Memory` where memory ran out.
 pub fn features_of(alloc: Global, library: &LibraryCode, rec: &Record) -> Result<Features, Memory>
@@ -44,6 +44,7 @@ fn of_lists(found: Findings, types: Vec<[u8; 2]>, dates: Vec<[u8; 4]>) -> Result
     ensures control { IfOk result (λ made. made.control ≡ set_of pairs_cmp found.control.items) }
     ensures types { IfOk result (λ made. made.types ≡ set_of texts_cmp types.items) }
     ensures isbns { IfOk result (λ made. made.isbns ≡ set_of texts_cmp found.isbns.items) }
+    ensures issns { IfOk result (λ made. made.issns ≡ set_of texts_cmp found.issns.items) }
     ensures titles { IfOk result (λ made. made.titles ≡ set_of texts_cmp found.titles.items) }
     ensures dates { IfOk result (λ made. made.dates ≡ set_of texts_cmp dates.items) }
     ensures names { IfOk result (λ made. made.names ≡ set_of texts_cmp found.names.items) }
@@ -51,6 +52,7 @@ fn of_lists(found: Findings, types: Vec<[u8; 2]>, dates: Vec<[u8; 4]>) -> Result
     let control = SortedList::of(found.control)?;
     let types = SortedList::of(types)?;
     let isbns = SortedList::of(found.isbns)?;
+    let issns = SortedList::of(found.issns)?;
     let titles = SortedList::of(found.titles)?;
     let dates = SortedList::of(dates)?;
     let names = SortedList::of(found.names)?;
@@ -58,6 +60,7 @@ fn of_lists(found: Findings, types: Vec<[u8; 2]>, dates: Vec<[u8; 4]>) -> Result
         control,
         types,
         isbns,
+        issns,
         titles,
         dates,
         names,

@@ -6,7 +6,7 @@ use Rattle.match_features.proofs.joining.FeaturesJoin.joined.Goals as goal
 
 pub invariant_of-result : goal.invariant_of-result
 invariant_of-result c = record {
-  kept = (λ i. are_features (c.in_ok-control.ensures i) (c.in_ok-types.ensures i) (c.in_ok-isbns.ensures i) (c.in_ok-titles.ensures i) (c.in_ok-dates.ensures i) (c.in_ok-names.ensures i))
+  kept = (λ i. are_features (c.in_ok-control.ensures i) (c.in_ok-types.ensures i) (c.in_ok-isbns.ensures i) (c.in_ok-issns.ensures i) (c.in_ok-titles.ensures i) (c.in_ok-dates.ensures i) (c.in_ok-names.ensures i))
       ∙ (join c.args.self.now c.args.other.now).kept;
 }
 
@@ -15,6 +15,7 @@ returns c = same_features _ (join c.args.self.now c.args.other.now) (record {
   control = c.in_ok-control.ensures;
   types = c.in_ok-types.ensures;
   isbns = c.in_ok-isbns.ensures;
+  issns = c.in_ok-issns.ensures;
   titles = c.in_ok-titles.ensures;
   dates = c.in_ok-dates.ensures;
   names = c.in_ok-names.ensures;
