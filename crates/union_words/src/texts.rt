@@ -47,6 +47,7 @@ SCRIPT
 QUESTIONS
     id LIB CTL                   the edition that has this record
     isbn X                       the editions with this ISBN
+    issn X                       the editions with this ISSN
     control (S)N                 the editions with this control number
     title T                      the editions with this title
     work K                       the editions of the work with this key
