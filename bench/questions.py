@@ -14,7 +14,7 @@ import itertools, os, random, subprocess, sys, tempfile, time
 QUESTIONS = 4000
 # A script may have so many bytes.
 LARGEST_SCRIPT = 1_048_576
-KINDS = ("id", "holdings", "isbn", "control", "title", "work")
+KINDS = ("id", "holdings", "isbn", "issn", "control", "title", "work")
 MARK = b"editions "
 
 
@@ -42,6 +42,8 @@ def askable(record):
             yield "holdings", b"holdings " + who
         elif tag == b"020" and text:
             yield "isbn", b"isbn " + text.split()[0]
+        elif tag == b"022" and text:
+            yield "issn", b"issn " + text.split()[0]
         elif tag == b"035" and text.startswith(b"("):
             yield "control", b"control " + text
         elif tag == b"245" and text:
