@@ -1,3 +1,4 @@
+pub mod JobLaws
 pub mod LineLaws
 pub mod NumberLaws
 pub mod PlaceLaws

@@ -99,14 +99,20 @@ fn export_job(words: &[Bytes], most: usize) -> Option<Job<'_>>
     ensures { option_map job_meaning result ≡ Words.export_job most words.now }
 {
     let (workers, words) = workers_in(words);
-    Some(Job::Export(workers, Libraries::read(words, most)?))
+    match Libraries::read(words, most) {
+        Some(libraries) => Some(Job::Export(workers, libraries)),
+        None => None,
+    }
 }
 
 fn works_job(words: &[Bytes], most: usize) -> Option<Job<'_>>
     ensures { option_map job_meaning result ≡ Words.works_job most words.now }
 {
     let (workers, words) = workers_in(words);
-    Some(Job::Works(workers, Libraries::read(words, most)?))
+    match Libraries::read(words, most) {
+        Some(libraries) => Some(Job::Works(workers, libraries)),
+        None => None,
+    }
 }
 
 fn watch_job(words: &[Bytes], most: usize) -> Option<Job<'_>>
@@ -123,7 +129,10 @@ fn asking_job<'a>(asks: &'a [u8], words: &'a [Bytes], most: usize) -> Option<Job
     ensures { option_map job_meaning result ≡ Words.asking_job (Some asks.now) most words.now }
 {
     let (workers, words) = workers_in(words);
-    Some(Job::Watch(asks, workers, Libraries::read(words, most)?))
+    match Libraries::read(words, most) {
+        Some(libraries) => Some(Job::Watch(asks, workers, libraries)),
+        None => None,
+    }
 }
 
 /// The path in a word `--ask=PATH`.
