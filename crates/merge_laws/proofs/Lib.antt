@@ -1,3 +1,4 @@
+mod Existing
 pub mod Inserting
 pub mod Places
 pub mod Resolutions

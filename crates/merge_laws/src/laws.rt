@@ -17,6 +17,11 @@ pub fn domination_is_an_order<R: Resolvable>()
     ensures antisymmetric { (x y : R) → IsDominated R.meets R.join x y → IsDominated R.meets R.join y x → x ≡ y }
 {}
 
+/// Each list has a resolution.
+pub fn resolution_exists<R: Resolvable>()
+    ensures { (list : List R) → (resolution : List R) × IsResolution R.meets R.join list resolution }
+{}
+
 /// Members of a resolution at different places do not match.
 pub fn resolution_is_apart<R: Resolvable>()
     ensures { (list resolution : List R) → IsResolution R.meets R.join list resolution → AreApart R.meets resolution }

@@ -3,12 +3,15 @@
 //! Guarantee: what it answers is a resolution of its list (specs/Resolution.antt). Cost: at most k * k match tests and
 //! fewer than k merges for k values; values are moved and never copied. Values that are known not to match, as those of an
 //! earlier resolution, are tested against more values alone.
-ghost use Rattle.std.specs.Prelude.{◌≡◌, ◌+◌, ◌*◌, ◌<◌, ◌≤◌, ◌++◌, false, IsTrue, length, slice_index_or, IfOk, IfSome, IfNone, All};
+ghost use Rattle.std.specs.Prelude.{◌≡◌, ◌+◌, ◌*◌, ◌<◌, ◌≤◌, ◌++◌, ◌∷◌, [], false, IsTrue, length, slice_index_or};
+ghost use Rattle.std.specs.Prelude.{IfOk, IfSome, IfNone, OnOk, All};
+ghost use Rattle.std.specs.List.Sorted.{IsPermutation};
 ghost use Rattle.merge_laws.specs.Resolution.{AreApart, IsResolution};
 
 use crate::resolvable::Resolvable;
 use crate::steps::Steps;
-use std::sync::ledger::Ledger;
+use std::marker::Brand;
+use std::sync::ledger::{Blank, Ledger};
 use union_base::memory::Memory;
 
 /// The place of the first of the values that the given one matches.
@@ -30,6 +33,33 @@ fn first_match<R: Resolvable, L: Ledger>(
     None
 }
 
+/// The first of the values that the given one matches, taken out of them; then another stands in its place.
+fn take_match<R: Resolvable, L: Ledger>(
+    done: &mut Vec<R>,
+    value: &R,
+    steps: &mut Steps<L>,
+) -> Option<R>
+    ensures taken { IfSome result (λ other. IsPermutation done.old.items (other ∷ done.new.items)) }
+    ensures matches { IfSome result (λ other. IsTrue (R.meets value.now other)) }
+    ensures same { IfNone result (done.new.items ≡ done.old.items) }
+    ensures none { IfNone result (All (λ x. R.meets value.now x ≡ false) done.old.items) }
+    ensures cost { steps.new ≤ steps.old + length done.old.items }
+{
+    match first_match(done.as_slice(), value, steps) {
+        Some(at) => Some(done.swap_remove(at)),
+        None => None,
+    }
+}
+
+/// Puts what the two values merge to last. Memory where it runs out.
+fn push_joined<R: Resolvable>(values: &mut Vec<R>, one: R, other: R) -> Result<(), Memory>
+    ensures { OnOk result (values.new.items ≡ values.old.items ++ R.join one other ∷ []) }
+{
+    let alloc = *values.allocator();
+    values.push(one.joined(alloc, &other)?)?;
+    Ok(())
+}
+
 /// The resolution of values of which no two match, and of more values, in an order that is not fixed. Those that do not match
 /// are not tested against one another. Counts at most n * n steps for n values in all, also where it answers Memory. Memory
 /// where it runs out.
@@ -43,19 +73,14 @@ pub fn resolve_onto<R: Resolvable, L: Ledger>(
     ensures cost { steps.new
         ≤ steps.old + (length apart.items + length more.items) * (length apart.items + length more.items) }
 {
-    let alloc = *apart.allocator();
     let mut left = more;
     let mut done = apart;
-    done.reserve(left.len())?;
     // A value that matches nothing is done. One that matches a value takes it out of those that are done, and their
     // merge is tested anew, since it may match what neither of the two did.
     while let Some(value) = left.pop() {
-        match first_match(done.as_slice(), &value, steps) {
+        match take_match(&mut done, &value, steps) {
             None => done.push(value)?,
-            Some(at) => {
-                let other = done.swap_remove(at);
-                left.push(other.joined(alloc, &value)?)?;
-            }
+            Some(other) => push_joined(&mut left, other, value)?,
         }
     }
     Ok(done)
@@ -72,4 +97,22 @@ pub fn resolve_plain<R: Resolvable, L: Ledger>(
 {
     let none = Vec::new(*list.allocator());
     resolve_onto(none, list, steps)
+}
+
+/// The resolution of the list, in an order that is not fixed, for callers that count nothing. Memory where it runs out.
+pub fn resolve<R: Resolvable>(list: Vec<R>) -> Result<Vec<R>, Memory>
+    ensures { IfOk result (λ done. IsResolution R.meets R.join list.items done.items) }
+{
+    resolve_by::<R, Brand>(list, Blank::new(1))
+}
+
+/// The resolution of the list, with its match tests counted from none.
+fn resolve_by<R: Resolvable, L: Ledger>(list: Vec<R>, blank: Blank) -> Result<Vec<R>, Memory>
+    requires name { blank.name ≡ L.name }
+    requires parts { blank.parts ≡ L.parts }
+    requires some { 0 < L.parts }
+    ensures { IfOk result (λ done. IsResolution R.meets R.join list.items done.items) }
+{
+    let mut steps: Steps<L> = Steps::open(blank);
+    resolve_plain(list, &mut steps)
 }
