@@ -1,4 +1,6 @@
 mod IdLists
+pub mod MemberLaws
 pub mod Reading
-pub mod Writing
 pub mod Steps
+pub mod WorksLaws
+pub mod Writing

@@ -1,11 +1,11 @@
 -- Works: the ids of editions by work key.
-use Rattle.std.specs.Prelude.{ℕ, Bool, not, true, List, [], ◌++◌, map, filter, find, unwrap_or, Option, Some, None}
+use Rattle.std.specs.Prelude.{◌≡◌, ℕ, Bool, not, true, false, ◌&&◌, ◌↔◌, ◌⊎◌, List, [], ◌∷◌, ◌++◌, map, filter, find, unwrap_or, Option, Some, None, Contains}
 use Rattle.std.specs.declared.cmp.Ordering.{Ordering}
 use Rattle.std.specs.Ordering.{nat_cmp, then_cmp, on, eq_by_cmp, is_lt}
 use Rattle.std.specs.Cmp.Lexicographic.{slice_cmp}
-use Rattle.std.specs.List.{flat_map}
+use Rattle.std.specs.List.{flat_map, list_all}
 use Rattle.std.specs.Map.{lookup}
-use Rattle.union_base.specs.SortedLists.{set_of, has}
+use Rattle.union_base.specs.SortedLists.{is_ascending, set_of, has}
 use Rattle.union_base.specs.declared.record_id.RecordId.{RecordId}
 
 -- work keys in the order of their bytes
@@ -64,3 +64,22 @@ is_above (Some given) key = is_lt (key_cmp given key)
 -- the least key above the given one: the first, since keys ascend
 abbrev pub key_after : List (List ℕ × List RecordId) → Option (List ℕ) → Option (List ℕ)
 key_after works given = find (is_above given) (keys_of works)
+
+-- whether a list has a member at all
+abbrev pub some : {X : Type 0} → List X → Bool
+some [] = false
+some (x ∷ xs) = true
+
+-- the keys ascend, and under each key stand some ids, in ascending order
+pub record AreWorks (works : List (List ℕ × List RecordId)) : Type 0 where
+  pub keys : is_ascending key_cmp (keys_of works) ≡ true
+  pub ids : list_all (λ work. some work.1 && is_ascending id_cmp work.1) works ≡ true
+
+-- the pairs after a change: those that were there and are not gone, and those that came
+abbrev pub AreAfter : List (List ℕ × RecordId) → List (List ℕ × RecordId) → List (List ℕ × RecordId) → List (List ℕ × RecordId) → Type 0
+AreAfter pairs gone come after = (p : List ℕ × RecordId) → Contains after p ↔ ((Contains pairs p × ¬ Contains gone p) ⊎ Contains come p)
+
+-- the first of a list, if there is one
+abbrev pub first_of_list : {X : Type 0} → List X → Option X
+first_of_list [] = None
+first_of_list (x ∷ xs) = Some x

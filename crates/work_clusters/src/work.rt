@@ -3,7 +3,7 @@ ghost use Rattle.std.specs.Prelude.{◌≡◌, ◌+◌, ◌<◌, ◌≤◌, ◌&
 ghost use Rattle.std.specs.Ordering.{eq_by_cmp};
 ghost use Rattle.union_base.specs.SortedLists.{is_ascending, put};
 ghost use Rattle.work_clusters.specs.Works.{id_cmp};
-ghost use Rattle.work_clusters.specs.WorksLaws.{some};
+ghost use Rattle.work_clusters.specs.Works.{some};
 
 use crate::ids::{enter, leave};
 use std::alloc::Global;

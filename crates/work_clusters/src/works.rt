@@ -2,7 +2,7 @@
 ghost use Rattle.std.specs.Prelude.{◌≡◌, ◌+◌, ◌<◌, ◌≤◌, [], ◌∷◌, ℕ, List, Ok, length, find, OnOk, if◌then◌else◌};
 ghost use Rattle.std.specs.Option.{option_copied, option_map};
 ghost use Rattle.work_clusters.specs.Works.{is_key, ids_under, key_after, changed};
-ghost use Rattle.work_clusters.specs.WorksLaws.{some, AreWorks};
+ghost use Rattle.work_clusters.specs.Works.{some, AreWorks};
 ghost use Rattle.work_clusters.specs.Room.{HasRoom, room_under};
 ghost use Rattle.work_clusters.specs.Steps.{TakesOut, PutsIn};
 
@@ -49,6 +49,15 @@ impl Works {
             rows: BTreeMap::new(alloc),
             filled: 0,
         }
+    }
+
+    /// Works are in order: each key stands once, and the keys rise; under each key stands at least one id, each id once, and
+    /// the ids rise. Does nothing when it runs: whoever holds works may conclude this by a call.
+    pub fn are_in_order(&self)
+        ensures { AreWorks self.now.works }
+    {
+        // What the type keeps is known where a field is read.
+        let _filled = self.filled;
     }
 
     /// The ids under the key, in ascending order: none where the key is absent. Takes no memory.

@@ -3,7 +3,7 @@ use Rattle.std.specs.List.{insert}
 use Rattle.union_base.specs.IdLaws.{ids_apart}
 use Rattle.union_base.specs.SortedLists.{is_ascending, put}
 use Rattle.work_clusters.specs.Works.{id_cmp}
-use Rattle.work_clusters.specs.WorksLaws.{id_total}
+use Rattle.work_clusters.proofs.WorksLaws.{id_total}
 use Rattle.work_clusters.proofs.IdLists.{put_at, put_in_gap, comparisons_rise}
 use Rattle.work_clusters.proofs.ids.enter.Goals as goal
 

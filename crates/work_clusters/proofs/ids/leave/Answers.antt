@@ -3,7 +3,7 @@ use Rattle.std.specs.List.{remove}
 use Rattle.union_base.specs.IdLaws.{ids_apart}
 use Rattle.union_base.specs.SortedLists.{is_ascending}
 use Rattle.work_clusters.specs.Works.{id_cmp}
-use Rattle.work_clusters.specs.WorksLaws.{id_total}
+use Rattle.work_clusters.proofs.WorksLaws.{id_total}
 use Rattle.work_clusters.proofs.IdLists.{but, remove_at, but_gap, comparisons_rise}
 use Rattle.work_clusters.proofs.ids.leave.Goals as goal
 

@@ -1,4 +1,4 @@
-use Rattle.work_clusters.specs.MemberLaws.{changed-members, changed-nothing}
+use Rattle.work_clusters.proofs.MemberLaws.{changed-members, changed-nothing}
 use Rattle.work_clusters.proofs.laws.change_of_pairs.Goals as goal
 
 pub returns-clause-changed : goal.returns-clause-changed

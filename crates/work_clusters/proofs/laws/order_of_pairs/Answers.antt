@@ -1,4 +1,4 @@
-use Rattle.work_clusters.specs.MemberLaws.{works_of-permutation, works_of-members}
+use Rattle.work_clusters.proofs.MemberLaws.{works_of-permutation, works_of-members}
 use Rattle.work_clusters.proofs.laws.order_of_pairs.Goals as goal
 
 pub returns-clause-permuted : goal.returns-clause-permuted

@@ -1,4 +1,4 @@
-use Rattle.work_clusters.specs.MemberLaws.{members-ids_under, ascending-ids_under, ascending-keys_of}
+use Rattle.work_clusters.proofs.MemberLaws.{members-ids_under, ascending-ids_under, ascending-keys_of}
 use Rattle.work_clusters.proofs.laws.reading_of_pairs.Goals as goal
 
 pub returns-clause-ids : goal.returns-clause-ids

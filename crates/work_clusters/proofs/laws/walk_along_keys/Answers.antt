@@ -1,4 +1,4 @@
-use Rattle.work_clusters.specs.MemberLaws.{key_after-none, key_after-some}
+use Rattle.work_clusters.proofs.MemberLaws.{key_after-none, key_after-some}
 use Rattle.work_clusters.proofs.laws.walk_along_keys.Goals as goal
 
 pub returns-clause-first : goal.returns-clause-first

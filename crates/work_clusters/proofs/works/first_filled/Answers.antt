@@ -3,7 +3,7 @@ use Rattle.std.specs.Option.{option_map}
 use Rattle.std.specs.Map.Iter.{deref_pair}
 use Rattle.std.proofs.lemmas.Iterator.Consumers.{YieldsList-from_rest}
 use Rattle.std.proofs.lemmas.Iterator.Search.{find_from_yields_List}
-use Rattle.work_clusters.specs.WorksLaws.{some}
+use Rattle.work_clusters.specs.Works.{some}
 use Rattle.work_clusters.proofs.works.first_filled.Goals as goal
 
 pub returns-in-Some : goal.returns-in-Some

@@ -3,7 +3,7 @@ use Rattle.std.specs.Ordering.{eq_by_cmp}
 use Rattle.union_base.specs.IdLaws.{ids_apart}
 use Rattle.union_base.specs.SortedLists.{is_ascending}
 use Rattle.work_clusters.specs.Works.{id_cmp}
-use Rattle.work_clusters.specs.WorksLaws.{id_total}
+use Rattle.work_clusters.proofs.WorksLaws.{id_total}
 use Rattle.work_clusters.proofs.IdLists.{is_ascending-filter}
 use Rattle.work_clusters.proofs.work.Work.leave.Goals as goal
 

@@ -5,8 +5,7 @@ use Rattle.std.specs.Ordering.{is_lt}
 use Rattle.std.specs.Range.Bound.{bound_map}
 use Rattle.std.specs.BTreeMap.Range.{range_contains, entries_between}
 use Rattle.std.specs.declared.ops.Bound.TheVariants.{Excluded, Unbounded}
-use Rattle.work_clusters.specs.Works.{key_cmp, key_after}
-use Rattle.work_clusters.specs.WorksLaws.{some}
+use Rattle.work_clusters.specs.Works.{key_cmp, key_after, some}
 use Rattle.work_clusters.proofs.Reading.{first_kept}
 use Rattle.work_clusters.proofs.works.Works.after.Goals.{in-Some, in-None}
 use Rattle.work_clusters.proofs.works.Works.after.Goals as goal

@@ -1,5 +1,5 @@
 use Rattle.std.proofs.Common.{sym, subst}
-use Rattle.work_clusters.specs.WorksLaws.{AreWorks}
+use Rattle.work_clusters.specs.Works.{AreWorks}
 use Rattle.work_clusters.specs.Room.{WorkMap}
 use Rattle.work_clusters.proofs.Reading.{works_from_entries}
 use Rattle.work_clusters.proofs.works.Works.drop_empty.Goals as goal

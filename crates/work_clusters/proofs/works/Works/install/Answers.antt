@@ -1,5 +1,5 @@
 use Rattle.std.proofs.Common.{subst, ◌∙◌}
-use Rattle.work_clusters.specs.WorksLaws.{AreWorks}
+use Rattle.work_clusters.specs.Works.{AreWorks}
 use Rattle.work_clusters.specs.Steps.{TakesOut, PutsIn}
 use Rattle.work_clusters.proofs.Steps.{changed_from_steps}
 use Rattle.work_clusters.proofs.works.Works.install.Goals as goal

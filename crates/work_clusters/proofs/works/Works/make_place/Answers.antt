@@ -1,8 +1,7 @@
 use Rattle.std.proofs.Common.{ℕ, ◌+◌, ◌≤◌, List, sym, subst, ap, ◌∙◌}
 use Rattle.std.specs.Prelude.{if◌then◌else◌}
 use Rattle.std.proofs.lemmas.Result.{on_ok_weaker}
-use Rattle.work_clusters.specs.Works.{is_key}
-use Rattle.work_clusters.specs.WorksLaws.{some}
+use Rattle.work_clusters.specs.Works.{is_key, some}
 use Rattle.work_clusters.specs.Room.{room_under}
 use Rattle.work_clusters.specs.Entries.{works_in, room_in}
 use Rattle.work_clusters.proofs.Writing.{one_if, counted-write, works-write, counted-insert_entry, works-insert_entry}

@@ -1,6 +1,6 @@
 use Rattle.std.proofs.Common.{take, subst, sym, ap, ◌∙◌, ◌∷◌, [], ◌++◌}
 use Rattle.std.proofs.lemmas.List.{take_more}
-use Rattle.work_clusters.specs.WorksLaws.{AreWorks}
+use Rattle.work_clusters.specs.Works.{AreWorks}
 use Rattle.work_clusters.specs.Room.{WorkMap}
 use Rattle.work_clusters.specs.Steps.{TakesOut}
 use Rattle.work_clusters.proofs.Reading.{works_from_entries}

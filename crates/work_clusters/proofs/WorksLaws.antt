@@ -16,7 +16,7 @@ use Rattle.union_base.specs.SortedLists.{is_ascending, put, set_of, has}
 use Rattle.union_base.specs.Ties.{texts_apart, then_ties}
 use Rattle.union_base.specs.declared.record_id.RecordId.{RecordId}
 use Rattle.union_base.proofs.SortedListLaws.{has-union, is_ascending-union, same_ascending}
-use Rattle.work_clusters.specs.Works.{key_cmp, id_cmp, pair_cmp, is_key, ids_with, keys_in, works_of, pairs_of, without, changed, ids_under, keys_of}
+use Rattle.work_clusters.specs.Works.{some, AreWorks, key_cmp, id_cmp, pair_cmp, is_key, ids_with, keys_in, works_of, pairs_of, without, changed, ids_under, keys_of}
 
 -- ---- the three orders
 
@@ -59,11 +59,6 @@ and_or : (a b c : Bool) → ((a || b) && c) ≡ ((a && c) || (b && c))
 and_or true b true = refl
 and_or true b false = sym (elim b as (λ v. (v && false) ≡ false) [ true ↦ refl | false ↦ refl ])
 and_or false b c = refl
-
--- whether a list has a member at all
-abbrev pub some : {X : Type 0} → List X → Bool
-some [] = false
-some (x ∷ xs) = true
 
 some_none : {X : Type 0} → (xs : List X) → some xs ≡ false → xs ≡ []
 some_none [] h = refl
@@ -181,11 +176,6 @@ ids_under-works_of pairs key =
     whole : (ids : List RecordId) → cond (some ids) ids [] ≡ ids
     whole [] = refl
     whole (x ∷ xs) = refl
-
--- the keys ascend, and under each key stand some ids, in ascending order
-pub record AreWorks (works : List (List ℕ × List RecordId)) : Type 0 where
-  pub keys : is_ascending key_cmp (keys_of works) ≡ true
-  pub ids : list_all (λ work. some work.1 && is_ascending id_cmp work.1) works ≡ true
 
 not_key-from_below : (k q : List ℕ) → is_lt (key_cmp k q) ≡ true → is_key k q ≡ false
 not_key-from_below k q h = ap is_eq (lt_is (key_cmp k q) h)

@@ -1,5 +1,5 @@
 -- The laws of works by membership: which pairs there are determines the works.
-use Rattle.std.proofs.Common.{◌≡◌, ℕ, Bool, true, false, cond, not, Option, Some, None, ◌&&◌, ◌||◌, List, [], ◌∷◌, ◌++◌, refl, sym, subst, ap, ◌∙◌, inl, inr}
+use Rattle.std.proofs.Common.{◌≡◌, ℕ, Bool, true, false, cond, not, Some, None, ◌&&◌, ◌||◌, List, [], ◌∷◌, ◌++◌, refl, sym, subst, ap, ◌∙◌, inl, inr}
 use Rattle.std.specs.Prelude.{find, Contains, ◌⊎◌, ◌↔◌}
 use Rattle.std.specs.declared.cmp.Ordering.{Ordering}
 use Rattle.std.specs.declared.cmp.Ordering.TheVariants.{Less, Equal, Greater}
@@ -16,8 +16,8 @@ use Rattle.std.proofs.lemmas.List.Sorted.{list_any-IsPermutation}
 use Rattle.union_base.specs.IdLaws.{ids_apart}
 use Rattle.union_base.specs.SortedLists.{is_ascending, has}
 use Rattle.union_base.specs.declared.record_id.RecordId.{RecordId}
-use Rattle.work_clusters.specs.Works.{key_cmp, id_cmp, pair_cmp, works_of, changed, ids_under, keys_of, is_above, key_after}
-use Rattle.work_clusters.specs.WorksLaws.{key_total, id_total, pair_total, pairs_apart, itself, has-ids_with, is_ascending-ids_with, is_ascending-keys_in, ids_under-works_of, keys_of-works_of, works_of-same, changed-works_of}
+use Rattle.work_clusters.specs.Works.{AreAfter, first_of_list, key_cmp, id_cmp, pair_cmp, works_of, changed, ids_under, keys_of, is_above, key_after}
+use Rattle.work_clusters.proofs.WorksLaws.{key_total, id_total, pair_total, pairs_apart, itself, has-ids_with, is_ascending-ids_with, is_ascending-keys_in, ids_under-works_of, keys_of-works_of, works_of-same, changed-works_of}
 
 eq_is : (r : Ordering) → is_eq r ≡ true → r ≡ Equal
 eq_is Less h = cc
@@ -54,10 +54,6 @@ pub works_of-permutation : (pairs others : List (List ℕ × RecordId)) → IsPe
 works_of-permutation pairs others moved = works_of-same pairs others (λ p. list_any-IsPermutation (eq_by_cmp pair_cmp p) pairs others moved)
 
 -- ---- a change
-
--- the pairs after a change: those that were there and are not gone, and those that came
-abbrev pub AreAfter : List (List ℕ × RecordId) → List (List ℕ × RecordId) → List (List ℕ × RecordId) → List (List ℕ × RecordId) → Type 0
-AreAfter pairs gone come after = (p : List ℕ × RecordId) → Contains after p ↔ ((Contains pairs p × ¬ Contains gone p) ⊎ Contains come p)
 
 one_of : (a g c : Bool) → a ≡ true → (g ≡ true → ⊥) → ((a && not g) || c) ≡ true
 one_of true true c h none = absurd (none refl)
@@ -106,11 +102,6 @@ pub ascending-keys_of : (pairs : List (List ℕ × RecordId)) → is_ascending k
 ascending-keys_of pairs = ap (is_ascending key_cmp) (keys_of-works_of pairs) ∙ is_ascending-keys_in pairs
 
 -- ---- a walk along the keys
-
--- the first of a list, if there is one
-abbrev pub first_of_list : {X : Type 0} → List X → Option X
-first_of_list [] = None
-first_of_list (x ∷ xs) = Some x
 
 pub key_after-none : (works : List (List ℕ × List RecordId)) → key_after works None ≡ first_of_list (keys_of works)
 key_after-none [] = refl
