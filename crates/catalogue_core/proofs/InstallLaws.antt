@@ -23,8 +23,8 @@ use Rattle.field_merge.specs.KeptLaws.{id_total}
 use Rattle.swoosh_resolver.specs.Changes.{AreNumbers, AreOpened, number_at, view_of, without}
 use Rattle.swoosh_resolver.specs.Tables.{block_at, blocks_in, values_of}
 use Rattle.swoosh_resolver.proofs.Places.{block-closed, block-kept, block-from_open, taken-from_set, number-from_block}
-use Rattle.work_clusters.specs.MemberLaws.{AreAfter, changed-members, works_of-permutation}
-use Rattle.work_clusters.specs.Works.{works_of, changed}
+use Rattle.work_clusters.specs.Works.{AreAfter, works_of, changed}
+use Rattle.work_clusters.proofs.MemberLaws.{changed-members, works_of-permutation}
 use Rattle.catalogue_editions.specs.EditionKeys.{work_key_of, work_pairs}
 use Rattle.catalogue_core.specs.ClosedKeys.{closed_pairs}
 use Rattle.catalogue_core.specs.Histories.{MapOf, at_id, is_current, after_batch, bases, current}

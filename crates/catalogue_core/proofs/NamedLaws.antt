@@ -22,7 +22,7 @@ use Rattle.field_merge.specs.Kept.{id_cmp}
 use Rattle.field_merge.specs.KeptLaws.{id_total}
 use Rattle.swoosh_resolver.specs.Tables.{block_at, blocks_in, values_of}
 use Rattle.swoosh_resolver.proofs.Places.{number-from_block}
-use Rattle.work_clusters.specs.MemberLaws.{works_of-permutation}
+use Rattle.work_clusters.proofs.MemberLaws.{works_of-permutation}
 use Rattle.work_clusters.specs.Works.{works_of}
 use Rattle.catalogue_editions.specs.EditionKeys.{work_key_of, work_pairs}
 use Rattle.catalogue_core.specs.Histories.{MapOf, at_id, is_current, bases, current, AreEditionsOf}

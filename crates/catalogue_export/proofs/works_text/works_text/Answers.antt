@@ -5,7 +5,7 @@ use Rattle.std.proofs.lemmas.List.{take_all}
 use Rattle.union_base.specs.SortedLists.{is_ascending}
 use Rattle.catalogue_core.specs.EditionKeys.{work_pairs}
 use Rattle.work_clusters.specs.Works.{key_cmp, keys_of, ids_under}
-use Rattle.work_clusters.specs.WorksLaws.{is_ascending-keys_in, keys_of-works_of}
+use Rattle.work_clusters.proofs.WorksLaws.{is_ascending-keys_in, keys_of-works_of}
 use Rattle.catalogue_export.specs.WorkLists.{work_text, works_text_of}
 use Rattle.catalogue_export.specs.Writing.{IsWrittenTo}
 use Rattle.catalogue_core.proofs.WalkLaws.{told-more, some-within}
