@@ -1,3 +1,4 @@
+mod Counting
 mod Keys
 mod Listing
 mod Looking

@@ -1,11 +1,12 @@
-use Rattle.std.proofs.Common.{◌≡◌, ◌++◌, length, length-append, ◌∙◌, ap, arith}
-use Rattle.std.specs.Prelude.{Contains}
+use Rattle.std.proofs.Common.{◌≡◌, ◌+◌, ◌++◌, length, length-append, sym, ◌∙◌, ap}
+use Rattle.std.specs.Prelude.{Contains, vec_capacity}
 use Rattle.std.specs.List.Sorted.{IsPermutation}
 use Rattle.std.proofs.lemmas.List.Sorted.{IsPermutation-map, length_permutation}
 use Rattle.merge_laws.specs.Resolution.{DoNotMatch}
 use Rattle.merge_laws.proofs.Places.{AllPairs-permutation}
 use Rattle.swoosh_resolver.specs.Tables.{Entry, blocks_in, values_of}
 use Rattle.swoosh_resolver.specs.Changes.{AreOpened, Fits, view_of, without}
+use Rattle.swoosh_resolver.proofs.Counting.{length-kept, length-within, capacity-within, closed-fit, count-fits, count-after, places-fit}
 use Rattle.swoosh_resolver.proofs.Places.{block-closed, count-closed, count-within, length-without}
 use Rattle.swoosh_resolver.proofs.Opening.{within-from_some, kept-number}
 use Rattle.swoosh_resolver.proofs.blocks.Blocks.install.Goals as goal
@@ -16,14 +17,39 @@ overflow_sub-self g c =
     let closed = c.args.change.closed.items in
     let fits : Fits g.R.Resolvable.meets blocks closed c.args.change.opened.items = rw (← c.self.view_is) at c.requires.fits in
     let fewer = count-closed closed blocks fits.distinct fits.named in
-    omega (arith, c.self.invariant.counted, c.len.ensures)
+    closed-fit (length (blocks_in (without blocks closed))) (length closed) (length (blocks_in blocks)) c.self.inside.count c.len.result fewer c.self.invariant.counted (c.len.ensures ∙ length-kept c.args.change.closed)
 
 pub overflow_add-self : goal.overflow_add-self
 overflow_add-self g c =
     let blocks = c.self.inside.blocks.items in
+    let closed = c.args.change.closed.items in
+    let fits : Fits g.R.Resolvable.meets blocks closed c.args.change.opened.items = rw (← c.self.view_is) at c.requires.fits in
+    let fewer = count-closed closed blocks fits.distinct fits.named in
     let room = (rw (← c.self.view_is) at c.requires.room).places in
-    let within = count-within blocks in
-    omega (arith, c.self.invariant.counted, c.len.ensures, c.len-2.ensures, c.self.inside.blocks.ok)
+    count-fits (length (blocks_in (without blocks closed))) (length closed) (length (blocks_in blocks)) (length blocks) (vec_capacity c.self.inside.blocks) (length c.args.change.opened.items) c.self.inside.count c.len.result c.len-2.result
+    fewer (count-within blocks) (length-within c.self.inside.blocks) (capacity-within c.self.inside.blocks) room c.self.invariant.counted (c.len.ensures ∙ length-kept c.args.change.closed) c.len-2.ensures
+
+pub close_all-requires-clause-distinct : goal.close_all-requires-clause-distinct
+close_all-requires-clause-distinct g c = rw c.as_slice.ensures.value c.requires.fits.distinct
+
+pub close_all-requires-clause-named : goal.close_all-requires-clause-named
+close_all-requires-clause-named g c n there =
+    let fits : Fits g.R.Resolvable.meets c.self.inside.blocks.items c.args.change.closed.items c.args.change.opened.items = rw (← c.self.view_is) at c.requires.fits in
+    fits.named n (rw c.as_slice.ensures.value at there)
+
+pub close_all-requires-clause-posted : goal.close_all-requires-clause-posted
+close_all-requires-clause-posted g c = c.self.invariant.posted
+
+pub open_all-requires-clause-distinct : goal.open_all-requires-clause-distinct
+open_all-requires-clause-distinct g c = rw c.as_slice-2.ensures.value c.requires.fits.distinct
+
+pub open_all-requires-clause-posted : goal.open_all-requires-clause-posted
+open_all-requires-clause-posted g c = c.close_all.ensures.posted
+
+pub open_all-requires-clause-room : goal.open_all-requires-clause-room
+open_all-requires-clause-room g c k =
+    let room = (rw (← c.self.view_is) at c.requires.room).spares k in
+    rw (c.into_values.ensures, c.close_all.ensures.spares k) room
 
 pub open_all-requires-clause-free : goal.open_all-requires-clause-free
 open_all-requires-clause-free g c n there =
@@ -32,22 +58,18 @@ open_all-requires-clause-free g c n there =
     let fits : Fits g.R.Resolvable.meets blocks closed c.args.change.opened.items = rw (← c.self.view_is) at c.requires.fits in
     let in' : Contains closed n = rw c.as_slice-2.ensures.value at there in
     let within = within-from_some blocks n (fits.named n in') in
-    let same = length-without closed blocks in
     let left : c.close_all.new.blocks.items ≡ without blocks closed = c.close_all.ensures.blocks ∙ ap (without blocks) c.as_slice.ensures.value in
-    rw left (omega arith, block-closed closed blocks n in')
+    rw left (rw (length-without closed blocks) within, block-closed closed blocks n in')
 
 pub open_all-requires-clause-places : goal.open_all-requires-clause-places
 open_all-requires-clause-places g c =
     let blocks = c.self.inside.blocks.items in
     let closed = c.args.change.closed.items in
     let room = (rw (← c.self.view_is) at c.requires.room).places in
-    let same = length-without closed blocks in
     let left : c.close_all.new.blocks.items ≡ without blocks closed = c.close_all.ensures.blocks ∙ ap (without blocks) c.as_slice.ensures.value in
-    let n = ap length left in
-    let m = ap length c.as_slice-2.ensures.value in
-    let capacity = c.close_all.ensures.capacity in
-    let values = ap length c.into_values.ensures in
-    omega (arith, c.self.inside.blocks.ok)
+    let same : length c.close_all.new.blocks.items ≡ length blocks = ap length left ∙ length-without closed blocks in
+    rw (ap length c.into_values.ensures, same, ap length c.as_slice-2.ensures.value, c.close_all.ensures.capacity)
+    (places-fit (length c.args.change.opened.items) (length closed) (length blocks) (vec_capacity c.self.inside.blocks) room (length-within c.self.inside.blocks))
 
 pub invariant_of-self : goal.invariant_of-self
 invariant_of-self g c =
@@ -68,7 +90,8 @@ invariant_of-self g c =
           let after = length_permutation (blocks_in c.close_all.new.blocks.items ++ opened) (blocks_in c.open_all.new.blocks.items) (rw c.into_values.ensures at c.open_all.ensures.view) in
           let both = length-append (blocks_in c.close_all.new.blocks.items) opened in
           let same = ap (λ b. length (blocks_in b)) left in
-          omega (arith, c.len.ensures, c.len-2.ensures);
+          count-after (length (blocks_in (without blocks closed))) (length closed) (length (blocks_in blocks)) (length opened) (length (blocks_in c.open_all.new.blocks.items)) c.self.inside.count c.len.result c.len-2.result
+          fewer before (c.len.ensures ∙ length-kept c.args.change.closed) c.len-2.ensures (ap (λ n. n + length opened) (sym same) ∙ sym both ∙ sym after);
     }
 
 pub returns-clause-view : goal.returns-clause-view
