@@ -1,5 +1,5 @@
 -- Views of blocks and a change, when a member is taken out.
-use Rattle.std.proofs.Common.{◌≡◌, ◌≢◌, ℕ, ◌+◌, ◌<◌, Bool, cond, IsTrue, List, [], ◌∷◌, ◌++◌, Option, None, Some, length, get_or, append_assoc, refl, sym, ◌∙◌, ap, subst, inl, inr, arith}
+use Rattle.std.proofs.Common.{◌≡◌, ◌≢◌, ℕ, ◌+◌, ◌<◌, ◌≤◌, Bool, cond, IsTrue, List, [], ◌∷◌, ◌++◌, Option, None, Some, length, get_or, append_assoc, refl, sym, ◌∙◌, ap, subst, inl, inr, arith}
 use Rattle.std.specs.Prelude.{All, Contains, IsSome, count_by, swap_remove}
 use Rattle.std.specs.List.Sorted.{IsPermutation}
 use Rattle.std.proofs.lemmas.List.{map-append}
@@ -73,6 +73,20 @@ module _ {R K : Type 0} (blocks : List (Option (Entry R K))) (closed : List ℕ)
   near-view shares x =
       count-map (λ w. shares w x) (blocks_in (without blocks closed) ++ opened)
       ∙ sum_by-append (λ (e : Entry R K). cond (shares e.value x) 1 0) (blocks_in (without blocks closed)) opened
+
+  -- the tests among the blocks, and then those among the opened values, are at most as many as members of the view share a key
+  pub spent-kept : (shares : R → R → Bool) (x : R) (start now : ℕ) → now ≤ start + count_by (λ e. shares e.value x) (blocks_in (without blocks closed)) → now ≤ start + near shares (view_of blocks closed opened) x
+  spent-kept shares x start now paid = rw (near-view shares x) (front start now (count_by (λ e. shares e.value x) (blocks_in (without blocks closed))) (count_by (λ e. shares e.value x) opened) paid)
+    where
+      front : (start now a b : ℕ) → now ≤ start + a → now ≤ start + (a + b)
+      front start now a b paid = omega arith
+
+  pub spent-fresh : (shares : R → R → Bool) (x : R) (start now then' : ℕ) → now ≤ start + count_by (λ e. shares e.value x) (blocks_in (without blocks closed)) → then' ≤ now + count_by (λ e. shares e.value x) opened → then' ≤ start + near shares (view_of blocks closed opened) x
+  spent-fresh shares x start now then' paid more =
+      rw (near-view shares x) (both start now then' (count_by (λ e. shares e.value x) (blocks_in (without blocks closed))) (count_by (λ e. shares e.value x) opened) paid more)
+    where
+      both : (start now then' a b : ℕ) → now ≤ start + a → then' ≤ now + b → then' ≤ start + (a + b)
+      both start now then' a b paid more = omega arith
 
   -- what holds of the blocks and of the opened values holds of the view
   pub All-view : (P : R → Type 0) → All (λ e. P e.value) (blocks_in (without blocks closed)) → All (λ e. P e.value) opened → All P (view_of blocks closed opened)

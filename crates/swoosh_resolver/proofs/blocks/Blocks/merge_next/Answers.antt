@@ -2,7 +2,7 @@ use Rattle.std.proofs.Common.{◌≡◌, ◌<◌, false, IsTrue, get_or, length,
 use Rattle.swoosh_resolver.specs.Tables.{Entry}
 use Rattle.swoosh_resolver.specs.Changes.{without}
 use Rattle.swoosh_resolver.specs.Insertions.{IsMatchAt}
-use Rattle.swoosh_resolver.proofs.Views.{merges-kept, merges-fresh, fits-kept, fits-fresh, All-view}
+use Rattle.swoosh_resolver.proofs.Views.{merges-kept, merges-fresh, fits-kept, fits-fresh, spent-kept, spent-fresh, All-view}
 use Rattle.swoosh_resolver.proofs.blocks.Blocks.merge_next.Goals as goal
 
 pub returns-in-Some-clause-merged : goal.returns-in-Some-clause-merged
@@ -52,3 +52,49 @@ returns-in-None-clause-none g c =
     let kept = rw c.as_slice.ensures.value at (rw c.in_default.is at c.in_ok-number.ensures.none) in
     let fresh = rw c.in-None.is at c.in_ok-place.ensures.none in
     (refl, refl, All-view blocks change.closed.items change.opened.items (λ w. g.R.Resolvable.meets c.args.value.now.value w ≡ false) kept fresh)
+
+-- each way out has made no more tests than members of the view share a key with the value
+pub returns-in_err-number-clause-cost : goal.returns-in_err-number-clause-cost
+returns-in_err-number-clause-cost g c =
+    spent-kept c.args.self.now.blocks c.args.change.now.closed.items c.args.change.now.opened.items g.R.Resolvable.shares c.args.value.now.value c.args.steps.now c.first_kept.new.steps
+    (rw c.as_slice.ensures.value at c.first_kept.ensures.cost)
+
+pub returns-in_err-merged-clause-cost : goal.returns-in_err-merged-clause-cost
+returns-in_err-merged-clause-cost g c =
+    spent-kept c.args.self.now.blocks c.args.change.now.closed.items c.args.change.now.opened.items g.R.Resolvable.shares c.args.value.now.value c.args.steps.now c.first_kept.new.steps
+    (rw c.as_slice.ensures.value at c.first_kept.ensures.cost)
+
+pub returns-in_err-push-clause-cost : goal.returns-in_err-push-clause-cost
+returns-in_err-push-clause-cost g c =
+    spent-kept c.args.self.now.blocks c.args.change.now.closed.items c.args.change.now.opened.items g.R.Resolvable.shares c.args.value.now.value c.args.steps.now c.first_kept.new.steps
+    (rw c.as_slice.ensures.value at c.first_kept.ensures.cost)
+
+pub returns-in-Some-clause-cost : goal.returns-in-Some-clause-cost
+returns-in-Some-clause-cost g c =
+    spent-kept c.args.self.now.blocks c.args.change.now.closed.items c.args.change.now.opened.items g.R.Resolvable.shares c.args.value.now.value c.args.steps.now c.first_kept.new.steps
+    (rw c.as_slice.ensures.value at c.first_kept.ensures.cost)
+
+pub returns-in_err-place-clause-cost : goal.returns-in_err-place-clause-cost
+returns-in_err-place-clause-cost g c =
+    spent-fresh c.args.self.now.blocks c.args.change.now.closed.items c.args.change.now.opened.items g.R.Resolvable.shares c.args.value.now.value c.args.steps.now c.first_kept.new.steps c.first_match.new.steps
+    (rw c.as_slice.ensures.value at c.first_kept.ensures.cost) c.first_match.ensures.cost
+
+pub returns-in_err-other-in-Some-2-clause-cost : goal.returns-in_err-other-in-Some-2-clause-cost
+returns-in_err-other-in-Some-2-clause-cost g c =
+    spent-fresh c.args.self.now.blocks c.args.change.now.closed.items c.args.change.now.opened.items g.R.Resolvable.shares c.args.value.now.value c.args.steps.now c.first_kept.new.steps c.first_match.new.steps
+    (rw c.as_slice.ensures.value at c.first_kept.ensures.cost) c.first_match.ensures.cost
+
+pub returns-in_err-joined-in-Some-2-clause-cost : goal.returns-in_err-joined-in-Some-2-clause-cost
+returns-in_err-joined-in-Some-2-clause-cost g c =
+    spent-fresh c.args.self.now.blocks c.args.change.now.closed.items c.args.change.now.opened.items g.R.Resolvable.shares c.args.value.now.value c.args.steps.now c.first_kept.new.steps c.first_match.new.steps
+    (rw c.as_slice.ensures.value at c.first_kept.ensures.cost) c.first_match.ensures.cost
+
+pub returns-in_ok-joined-in-Some-2-clause-cost : goal.returns-in_ok-joined-in-Some-2-clause-cost
+returns-in_ok-joined-in-Some-2-clause-cost g c =
+    spent-fresh c.args.self.now.blocks c.args.change.now.closed.items c.args.change.now.opened.items g.R.Resolvable.shares c.args.value.now.value c.args.steps.now c.first_kept.new.steps c.first_match.new.steps
+    (rw c.as_slice.ensures.value at c.first_kept.ensures.cost) c.first_match.ensures.cost
+
+pub returns-in-None-clause-cost : goal.returns-in-None-clause-cost
+returns-in-None-clause-cost g c =
+    spent-fresh c.args.self.now.blocks c.args.change.now.closed.items c.args.change.now.opened.items g.R.Resolvable.shares c.args.value.now.value c.args.steps.now c.first_kept.new.steps c.first_match.new.steps
+    (rw c.as_slice.ensures.value at c.first_kept.ensures.cost) c.first_match.ensures.cost
