@@ -41,7 +41,7 @@ pub(crate) fn next_pair<M: Made>(
 }
 
 /// Whether a copy of what the two merge to is so written.
-fn merge_is<M: Made>(
+pub(crate) fn merge_is<M: Made>(
     alloc: Global,
     one: &M,
     other: &M,

@@ -1,7 +1,7 @@
 //! Features whose expected values another program made, and worked records.
 use crate::frames::{next_library, next_record};
-use crate::made::{Made, is_written, makes, merges, next_pair};
-use crate::tables::{CELL_END, assert_cases};
+use crate::made::{Made, is_written, makes, merge_is, merges, next_pair};
+use crate::tables::{CELL_END, assert_cases, next_cell};
 use match_features::control_pair::ControlPair;
 use match_features::features::Features;
 use match_features::keys::{FeatureKey, feature_keys};
@@ -17,7 +17,14 @@ use union_base::memory::Memory;
 mod merged;
 mod pairs;
 mod records;
+mod serials;
 mod worked;
+
+/// Parts the sides of a case.
+const SIDE_END: char = '§';
+
+/// Parts the records of a side.
+const RECORD_END: char = '¶';
 
 #[test]
 fn features_of_records(rt: HostRuntime) -> Result<(), Fail> {
@@ -44,6 +51,19 @@ fn isbn_in_a_text(rt: HostRuntime) -> Result<(), Fail> {
 #[test]
 fn isbn_with_type(rt: HostRuntime) -> Result<(), Fail> {
     assert_cases(&rt, rt.alloc(), worked::TYPES, 2, meet_or_not)
+}
+
+/// Serials, and what else has an ISSN: their lists, and the keys by which they are found.
+#[test]
+fn features_of_serials(rt: HostRuntime) -> Result<(), Fail> {
+    assert_cases(&rt, rt.alloc(), serials::SERIALS, 48, makes::<Features>)?;
+    assert_cases(&rt, rt.alloc(), serials::SERIALS, 48, has_keys)
+}
+
+/// Serials meet by ISSN and by numbers and never by title alone, and so do editions of several records.
+#[test]
+fn matches_of_serials(rt: HostRuntime) -> Result<(), Fail> {
+    assert_cases(&rt, rt.alloc(), serials::SIDES, 61, sides_meet_or_not)
 }
 
 /// A copy has the same lists, and meets what it was copied from.
@@ -82,6 +102,32 @@ fn meet_or_not(alloc: Global, case: &str) -> Result<bool, Fail> {
     Ok(left.meets(&right) == met && right.meets(&left) == met)
 }
 
+/// Whether the two sides of a case meet where that is expected, in both orders, and merge to what is expected.
+fn sides_meet_or_not(alloc: Global, case: &str) -> Result<bool, Fail> {
+    let mut parts = case.split(SIDE_END);
+    let left = merged_side(alloc, next_cell(&mut parts)?)?;
+    let right = merged_side(alloc, next_cell(&mut parts)?)?;
+    let met = parts.next() == Some("yes");
+    Ok(
+        left.meets(&right) == met
+            && right.meets(&left) == met
+            && merge_is(alloc, &left, &right, parts.next())?,
+    )
+}
+
+/// What the records of a side merge to.
+fn merged_side(alloc: Global, side: &str) -> Result<Features, Fail> {
+    let mut merged = None;
+    for text in side.split(RECORD_END) {
+        let made = Features::next_made(alloc, &mut text.split(CELL_END))?;
+        merged = match merged {
+            Some(before) => Some(Join::joined(&before, alloc, &made)?),
+            None => Some(made),
+        };
+    }
+    Ok(merged.ok_or("a side without records")?)
+}
+
 /// Whether a copy of the features of a case's record is as expected, and meets what it was copied from.
 fn copy_makes(alloc: Global, case: &str) -> Result<bool, Fail> {
     let mut cells = case.split(CELL_END);
@@ -115,11 +161,12 @@ impl Made for Features {
         Ok(features_of(alloc, &library, &rec)?)
     }
 
-    /// The six lists parted by ` | `, their values by `; `, and a source in parentheses.
+    /// The seven lists parted by ` | `, their values by `; `, and a source in parentheses.
     fn push_to(&self, text: &mut Vec<u8>) -> Result<(), Memory> {
         push_pairs(text, self.control.as_slice())?;
         push_arrays(text, self.types.as_slice())?;
         push_arrays(text, self.isbns.as_slice())?;
+        push_arrays(text, self.issns.as_slice())?;
         push_texts(text, self.titles.as_slice())?;
         push_arrays(text, self.dates.as_slice())?;
         push_texts(text, self.names.as_slice())
@@ -165,6 +212,7 @@ fn push_key(text: &mut Vec<u8>, key: &FeatureKey) -> Result<(), Memory> {
     match key {
         FeatureKey::Control(pair) => push_pair(text, pair.source(), pair.number()),
         FeatureKey::Isbn(isbn) => Ok(text.extend_from_slice(isbn)?),
+        FeatureKey::Issn(issn) => Ok(text.extend_from_slice(issn)?),
         FeatureKey::Title(title) => Ok(text.extend_from_slice(title.bytes())?),
     }
 }
