@@ -20,7 +20,7 @@ use Rattle.feature_index.specs.Postings.{Ascends}
 use Rattle.match_features.specs.KeptLaws.{pairs_total, pairs_tie}
 use Rattle.match_features.specs.MemberLaws.{member-from_has, has-from_member}
 use Rattle.match_features.specs.declared.keys.FeatureKey.{FeatureKey}
-use Rattle.match_features.specs.declared.keys.FeatureKey.TheVariants.{Control, Isbn, Title}
+use Rattle.match_features.specs.declared.keys.FeatureKey.TheVariants.{Control, Isbn, Issn, Title}
 use Rattle.swoosh_resolver.specs.Tables.{block_at, blocks_in, values_of}
 use Rattle.swoosh_resolver.proofs.Places.{block-from_value, number-from_block}
 use Rattle.catalogue_core.specs.Homes.{Block}
@@ -41,11 +41,13 @@ use Rattle.catalogue_core.proofs.PlanLaws.{mapped-from_member, member-from_mappe
 has-from_key : (e : Edition) (key : FeatureKey) → HasFeatureKey e key → has_key key e ≡ true
 has-from_key e (Control pair) h = has-from_member pairs_total pairs_tie e.features.control pair h
 has-from_key e (Isbn isbn) h = has-from_member nat_list_cmp_total texts_apart e.features.isbns isbn h
+has-from_key e (Issn issn) h = has-from_member nat_list_cmp_total texts_apart e.features.issns issn h
 has-from_key e (Title title) h = has-from_member nat_list_cmp_total texts_apart e.features.titles title h
 
 key-from_has : (e : Edition) (key : FeatureKey) → has_key key e ≡ true → HasFeatureKey e key
 key-from_has e (Control pair) h = member-from_has pairs_total pairs_tie e.features.control pair h
 key-from_has e (Isbn isbn) h = member-from_has nat_list_cmp_total texts_apart e.features.isbns isbn h
+key-from_has e (Issn issn) h = member-from_has nat_list_cmp_total texts_apart e.features.issns issn h
 key-from_has e (Title title) h = member-from_has nat_list_cmp_total texts_apart e.features.titles title h
 
 -- ---- what a test keeps of a list

@@ -19,7 +19,7 @@ use Rattle.merge_laws.proofs.Resolutions.{apart-from_resolution, IsPermutation-f
 use Rattle.merge_laws.proofs.Sorted.{same-from_permutation}
 use Rattle.match_features.specs.Kept.{pairs_cmp}
 use Rattle.match_features.specs.KeptLaws.{pairs_total, pairs_tie}
-use Rattle.match_features.specs.Meeting.{meet_by_isbn, meet_by_title}
+use Rattle.match_features.specs.Meeting.{meet_by_isbn, meet_by_issn, meet_by_title}
 use Rattle.match_features.specs.MemberLaws.{member-from_has, common-from_member, or_left}
 use Rattle.field_merge.specs.Kept.{id_cmp}
 use Rattle.field_merge.specs.KeptLaws.{id_total}
@@ -57,8 +57,8 @@ own-pair_of e id c =
 
 pub match-from_contributor : (x y : Edition) (id : RecordId) → Contains x.content.contributors id → Contains y.content.contributors id → IsTrue (match x y)
 match-from_contributor x y id p q =
-    or_left _ (meet_by_title x.features y.features) (or_left _ (meet_by_isbn x.features y.features)
-    (common-from_member pairs_total pairs_tie x.features.control y.features.control (own_pair id) (own-pair_of x id p) (own-pair_of y id q)))
+    or_left _ (meet_by_title x.features y.features) (or_left _ (meet_by_issn x.features y.features) (or_left _ (meet_by_isbn x.features y.features)
+    (common-from_member pairs_total pairs_tie x.features.control y.features.control (own_pair id) (own-pair_of x id p) (own-pair_of y id q))))
 
 first-stands : (ids : List RecordId) → nat_le 1 (length ids) ≡ true → Contains ids (first_id ids)
 first-stands [] some = cc

@@ -42,12 +42,19 @@ impl Resolvable for Edition {
     ghost exact_keys = { exact_keys (record {
       controls = λ p q. refl;
       isbns = λ a b. refl;
+      issns = λ a b. refl;
       titles = λ a b. refl;
       control_isbn = λ p b. refl;
+      control_issn = λ p b. refl;
       control_title = λ p b. refl;
       isbn_control = λ a q. refl;
+      isbn_issn = λ a b. refl;
       isbn_title = λ a b. refl;
+      issn_control = λ a q. refl;
+      issn_isbn = λ a b. refl;
+      issn_title = λ a b. refl;
       title_control = λ a q. refl;
       title_isbn = λ a b. refl;
+      title_issn = λ a b. refl;
     }) };
 }
