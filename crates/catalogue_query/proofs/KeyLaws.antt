@@ -16,7 +16,7 @@ use Rattle.catalogue_editions.specs.declared.edition.Edition.{Edition}
 use Rattle.catalogue_query.specs.Queries.{is_text}
 use Rattle.catalogue_query.specs.Lines.{edition_line}
 use Rattle.catalogue_query.specs.Answers.{stands_in, pair_stands_in, is_asked, told, told_of}
-use Rattle.catalogue_query.specs.declared.query.Query.TheVariants.{Isbn, Control, Title}
+use Rattle.catalogue_query.specs.declared.query.Query.TheVariants.{Isbn, Issn, Control, Title}
 use Rattle.catalogue_query.proofs.WorkLaws.{same_text}
 
 text-stands : (text : List ℕ) (texts : List (List ℕ)) → has texts_cmp texts text ≡ stands_in text texts
@@ -49,6 +49,11 @@ module _ (records : MapOf Edition) (all : List Edition) where
   told-isbn digits =
       ap (map (λ e. edition_line (least e))) (filter_agree (has_key (key.Isbn digits)) (is_asked (Isbn digits)) (λ e. text-stands digits e.features.isbns) all)
       ∙ told-each (told (Isbn digits) records) (λ e. refl) (filter (is_asked (Isbn digits)) all)
+
+  pub told-issn : (number : List ℕ) → map (λ e. edition_line (least e)) (filter (has_key (key.Issn number)) all) ≡ told_of (Issn number) records all
+  told-issn number =
+      ap (map (λ e. edition_line (least e))) (filter_agree (has_key (key.Issn number)) (is_asked (Issn number)) (λ e. text-stands number e.features.issns) all)
+      ∙ told-each (told (Issn number) records) (λ e. refl) (filter (is_asked (Issn number)) all)
 
   pub told-control : (source number : List ℕ) → map (λ e. edition_line (least e)) (filter (has_key (key.Control (source, number))) all) ≡ told_of (Control source number) records all
   told-control source number =

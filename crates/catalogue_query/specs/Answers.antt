@@ -16,7 +16,7 @@ use Rattle.catalogue_editions.specs.declared.edition.Edition.{Edition}
 use Rattle.catalogue_query.specs.Lines.{edition_line, by_line, work_line, hold_line, count_line}
 use Rattle.catalogue_query.specs.Queries.{is_text}
 use Rattle.catalogue_query.specs.declared.query.Query.{Query}
-use Rattle.catalogue_query.specs.declared.query.Query.TheVariants.{Id, Isbn, Control, Title, Work, Holdings, Count}
+use Rattle.catalogue_query.specs.declared.query.Query.TheVariants.{Id, Isbn, Issn, Control, Title, Work, Holdings, Count}
 
 -- the text stands among the texts
 abbrev pub stands_in : List ℕ → List (List ℕ) → Bool
@@ -34,6 +34,7 @@ has_contributor id e = has id_cmp e.content.contributors id
 abbrev pub is_asked : Query → Edition → Bool
 is_asked (Id id) e = has_contributor id e
 is_asked (Isbn digits) e = stands_in digits e.features.isbns
+is_asked (Issn number) e = stands_in number e.features.issns
 is_asked (Control source number) e = pair_stands_in source number e.features.control
 is_asked (Title form) e = stands_in form e.features.titles
 is_asked (Work key) e = is_text (work_key_of e) key

@@ -11,9 +11,10 @@ use Rattle.marc_parts.specs.Loads.{has_number_shape}
 use Rattle.naco_normal.specs.Heading.{form_without_comma}
 use Rattle.naco_normal.specs.Words.{is_empty}
 use Rattle.isbn_keys.specs.Isbn.{isbn_key}
+use Rattle.isbn_keys.specs.Issn.{issn_key}
 use Rattle.isbn_keys.specs.Control.{system_key}
 use Rattle.catalogue_query.specs.declared.query.Query.{Query}
-use Rattle.catalogue_query.specs.declared.query.Query.TheVariants.{Id, Isbn, Control, Title, Work, Holdings, Count}
+use Rattle.catalogue_query.specs.declared.query.Query.TheVariants.{Id, Isbn, Issn, Control, Title, Work, Holdings, Count}
 use Rattle.catalogue_query.specs.declared.query.QueryRefusal.{QueryRefusal}
 use Rattle.catalogue_query.specs.declared.query.QueryRefusal.TheVariants.{Unknown, Word as BadRest}
 use Rattle.catalogue_query.specs.declared.word.Word.{Word}
@@ -30,7 +31,7 @@ first_word line = before_first is_blank line
 abbrev pub rest_of : List ℕ → List ℕ
 rest_of line = after_first is_blank line
 
--- the seven words
+-- the eight words
 abbrev pub is_text : List ℕ → List ℕ → Bool
 is_text a b = pointwise nat_eq a b
 
@@ -38,11 +39,12 @@ abbrev pub word_of : List ℕ → Option Word
 word_of text =
     if is_text text (codes "id") then Some first.Id else
     (if is_text text (codes "isbn") then Some first.Isbn else
+    (if is_text text (codes "issn") then Some first.Issn else
     (if is_text text (codes "control") then Some first.Control else
     (if is_text text (codes "title") then Some first.Title else
     (if is_text text (codes "work") then Some first.Work else
     (if is_text text (codes "holdings") then Some first.Holdings else
-    (if is_text text (codes "count") then Some first.Count else None))))))
+    (if is_text text (codes "count") then Some first.Count else None)))))))
 
 -- a library code, one blank, and a control number without the blanks at its ends
 abbrev pub number_in : List ℕ → List ℕ
@@ -64,6 +66,10 @@ holdings_query rest = option_map Holdings (id_in rest)
 abbrev pub isbn_query : List ℕ → Option Query
 isbn_query rest = option_map Isbn (isbn_key rest)
 
+-- an ISSN by its key
+abbrev pub issn_query : List ℕ → Option Query
+issn_query rest = option_map Issn (issn_key rest)
+
 -- a control number and its source by their key
 abbrev pub control_query : List ℕ → Option Query
 control_query rest = option_map (λ key. Control key.0 key.1) (system_key rest)
@@ -84,6 +90,7 @@ count_query rest = if is_empty rest then Some Count else None
 abbrev pub query_behind : Word → List ℕ → Option Query
 query_behind first.Id rest = id_query rest
 query_behind first.Isbn rest = isbn_query rest
+query_behind first.Issn rest = issn_query rest
 query_behind first.Control rest = control_query rest
 query_behind first.Title rest = title_query rest
 query_behind first.Work rest = work_query rest

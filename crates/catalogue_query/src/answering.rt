@@ -1,13 +1,13 @@
 //! What a catalogue answers to a query.
 //!
-//! All are looked up: the edition that has a record, the editions that have an ISBN, a control pair or a title, and those of a
-//! work; the counts are read. So an answer takes time by what it tells, and not by how many editions there are.
+//! All are looked up: the edition that has a record, the editions that have an ISBN, an ISSN, a control pair or a title, and
+//! those of a work; the counts are read. So an answer takes time by what it tells, and not by how many editions there are.
 ghost use Rattle.std.specs.Prelude.{◌≡◌, List, map, filter, flat_map, IfOk};
 ghost use Rattle.catalogue_core.specs.Histories.{current, AreEditionsOf};
 ghost use Rattle.catalogue_core.specs.Ids.{least};
 ghost use Rattle.catalogue_core.specs.IndexKeys.{has_key};
 ghost use Rattle.catalogue_editions.specs.declared.edition.Edition.{Edition as EditionModel};
-ghost use Rattle.catalogue_query.specs.declared.query.Query.TheVariants.{Isbn, Control, Title, Work, Count};
+ghost use Rattle.catalogue_query.specs.declared.query.Query.TheVariants.{Isbn, Issn, Control, Title, Work, Count};
 ghost use Rattle.catalogue_query.specs.Lines.{edition_line};
 ghost use Rattle.catalogue_query.specs.Answers.{has_contributor, told, told_of, lines_of, or_none, answer_lines};
 
@@ -31,7 +31,7 @@ use union_base::sequence::Sequence;
 /// | Query | Lines |
 /// |---|---|
 /// | `Id` | of the edition that has the record `edition LIB.CTL` of its least contributor, `by LIB.CTL` of each contributor, and `work KEY` |
-/// | `Isbn`, `Control`, `Title`, `Work` | `edition LIB.CTL` of each edition that has the ISBN, the control pair or the title, or is of the work |
+/// | `Isbn`, `Issn`, `Control`, `Title`, `Work` | `edition LIB.CTL` of each edition that has the ISBN, the ISSN, the control pair or the title, or is of the work |
 /// | `Holdings` | for each contributor of the edition that has the record, for each field 852 of the contributor's current record, in order of their bytes: `hold LIB.CTL\|location\|sublocation\|classification`, with a blank for each control character and each `\|` of these texts |
 /// | `Count` | `editions E works W records R` |
 ///
@@ -68,6 +68,7 @@ fn lines_of(alloc: Global, catalogue: &Catalogue, query: &Query) -> Result<Vec<B
         Query::Id(id) => lines_of_holder(alloc, catalogue, query, id),
         Query::Holdings(id) => lines_of_holder(alloc, catalogue, query, id),
         Query::Isbn(digits) => lines_of_isbn(alloc, catalogue, digits),
+        Query::Issn(number) => lines_of_issn(alloc, catalogue, number),
         Query::Control(source, number) => lines_of_control(alloc, catalogue, source, number),
         Query::Title(form) => lines_of_title(alloc, catalogue, form),
         Query::Work(key) => lines_of_work(alloc, catalogue, key),
@@ -102,6 +103,18 @@ fn lines_of_isbn(
         × (lines.items ≡ told_of (Isbn digits.now) (current catalogue.now) all)) }
 {
     lines_with_key(alloc, catalogue, &FeatureKey::Isbn(*digits))
+}
+
+/// What is told of the editions that have the ISSN.
+fn lines_of_issn(
+    alloc: Global,
+    catalogue: &Catalogue,
+    number: &[u8; 8],
+) -> Result<Vec<Bytes>, Memory>
+    ensures { IfOk result (λ lines. (all : List EditionModel) × AreEditionsOf catalogue.now all
+        × (lines.items ≡ told_of (Issn number.now) (current catalogue.now) all)) }
+{
+    lines_with_key(alloc, catalogue, &FeatureKey::Issn(*number))
 }
 
 /// What is told of the editions that have the control pair.

@@ -1,11 +1,12 @@
 //! What stands behind the first word of a query.
 ghost use Rattle.std.specs.Prelude.{◌≡◌, IfOk};
-ghost use Rattle.catalogue_query.specs.Queries.{id_in, id_query, isbn_query, control_query, title_query, work_query, holdings_query, count_query, query_behind};
+ghost use Rattle.catalogue_query.specs.Queries.{id_in, id_query, isbn_query, issn_query, control_query, title_query, work_query, holdings_query, count_query, query_behind};
 
 use crate::query::Query;
 use crate::word::{Word, cut_at_blank};
 use isbn_keys::control::system_number;
 use isbn_keys::isbn::isbn;
+use isbn_keys::issn::issn;
 use marc_parts::loads::has_number_shape;
 use marc_parts::trimming::trimmed;
 use naco_normal::form::{Comma, normal};
@@ -22,6 +23,7 @@ pub(crate) fn query_behind(alloc: Global, word: Word, rest: &[u8]) -> Result<Opt
     match word {
         Word::Id => id_query(alloc, rest),
         Word::Isbn => Ok(isbn_query(rest)),
+        Word::Issn => Ok(issn_query(rest)),
         Word::Control => control_query(alloc, rest),
         Word::Title => title_query(alloc, rest),
         Word::Work => work_query(alloc, rest),
@@ -42,6 +44,13 @@ fn isbn_query(rest: &[u8]) -> Option<Query>
     ensures { result ≡ isbn_query rest.now }
 {
     isbn(rest).map(Query::Isbn)
+}
+
+/// `issn X`.
+fn issn_query(rest: &[u8]) -> Option<Query>
+    ensures { result ≡ issn_query rest.now }
+{
+    issn(rest).map(Query::Issn)
 }
 
 /// `control (S)N`.

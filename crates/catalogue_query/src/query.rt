@@ -17,6 +17,8 @@ pub enum Query {
     Id(RecordId),
     /// `isbn X`: the editions with the ISBN, which is kept as its key.
     Isbn([u8; 13]),
+    /// `issn X`: the editions with the ISSN, which is kept as its key.
+    Issn([u8; 8]),
     /// `control (S)N`: the editions with the control number and its source, which are kept as their key.
     Control(Bytes, Bytes),
     /// `title T`: the editions with the title, which is kept in its normal form.
@@ -32,9 +34,9 @@ pub enum Query {
 /// Why a line gives no query.
 #[derive(Clone, Copy, Debug, PartialEq, Eq)]
 pub enum QueryRefusal {
-    /// The first word is none of the seven with which queries begin.
+    /// The first word is none of the eight with which queries begin.
     Unknown,
-    /// The first word is one of the seven, and what stands behind it is not in its grammar.
+    /// The first word is one of the eight, and what stands behind it is not in its grammar.
     Word,
     /// Memory ran out.
     Memory,
@@ -58,6 +60,7 @@ impl Query {
     /// |---|---|
     /// | `id`, `holdings` | a library code, one blank, and a control number: between blanks 1 to 64 bytes of printing ASCII |
     /// | `isbn` | a text that `isbn_keys::isbn::isbn` gives a key |
+    /// | `issn` | a text that `isbn_keys::issn::issn` gives a key |
     /// | `control` | a text that `isbn_keys::control::system_number` gives a key |
     /// | `title` | UTF-8, whose normal form without commas is not empty |
     /// | `work` | at least one byte |

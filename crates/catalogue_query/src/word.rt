@@ -10,6 +10,7 @@ use memchr::memchr;
 pub(crate) enum Word {
     Id,
     Isbn,
+    Issn,
     Control,
     Title,
     Work,
@@ -26,6 +27,8 @@ impl Word {
             Some(Word::Id)
         } else if text == b"isbn".as_slice() {
             Some(Word::Isbn)
+        } else if text == b"issn".as_slice() {
+            Some(Word::Issn)
         } else if text == b"control".as_slice() {
             Some(Word::Control)
         } else if text == b"title".as_slice() {

@@ -32,6 +32,25 @@ const EMPTY: &[u8] =
 const EAST: &[u8] =
     b"00158nam a2200085 a 4500001000300000008004100003245000600044852001600050853000600066\x1Eh3\x1E240101s1990    xx                  eng d\x1E00\x1Fad\x1E  \x1Fa\xC3\xA9\xE6\x9D\xB1\x1Fb\x1Fh\xC3\x9F\x1E  \x1Fax\x1E\x1D";
 
+/// Two serials of one ISSN, and two of one title, date and name without numbers; and the latter as books.
+const HEARING: &[u8] =
+    b"00144nas a2200073 a 4500001000300000008004100003022001400044245001200058\x1Es1\x1E240101s1990    xx                  eng d\x1E0 \x1Fa0378-5955\x1E00\x1FaHearing\x1E\x1D";
+
+const RESEARCH: &[u8] =
+    b"00153nas a2200073 a 4500001000300000008004100003022001400044245002100058\x1Es2\x1E240101s1990    xx                  eng d\x1E0 \x1Fa0378-5955\x1E00\x1FaHearing research\x1E\x1D";
+
+const SERIAL: &[u8] =
+    b"00142nas a2200073 a 4500001000300000008004100003100001400044245001000058\x1Es3\x1E240101s1990    xx                  eng d\x1E1 \x1FaHill, Ann\x1E00\x1FaShips\x1E\x1D";
+
+const OTHER_SERIAL: &[u8] =
+    b"00142nas a2200073 a 4500001000300000008004100003100001400044245001000058\x1Es4\x1E240101s1990    xx                  eng d\x1E1 \x1FaHill, Ann\x1E00\x1FaShips\x1E\x1D";
+
+const BOOK: &[u8] =
+    b"00142nam a2200073 a 4500001000300000008004100003100001400044245001000058\x1Es3\x1E240101s1990    xx                  eng d\x1E1 \x1FaHill, Ann\x1E00\x1FaShips\x1E\x1D";
+
+const OTHER_BOOK: &[u8] =
+    b"00142nam a2200073 a 4500001000300000008004100003100001400044245001000058\x1Es4\x1E240101s1990    xx                  eng d\x1E1 \x1FaHill, Ann\x1E00\x1FaShips\x1E\x1D";
+
 /// The catalogue of the libraries' records.
 fn catalogue_of<L: Ledger>(
     alloc: Global,
@@ -141,6 +160,31 @@ fn work_of_two_editions(rt: HostRuntime) -> Result<(), Fail> {
         (b"count", b"editions 2 works 1 records 2\n"),
     ];
     assert!(rt; all_answered(rt.alloc(), &records, &table)?);
+    Ok(())
+}
+
+/// Serials meet by ISSN.
+#[test]
+fn serials_of_one_issn(rt: HostRuntime) -> Result<(), Fail> {
+    let records: [(&str, &[u8]); 2] = [("LIBA", HEARING), ("LIBA", RESEARCH)];
+    let table: [(&[u8], &[u8]); 3] = [
+        (b"count", b"editions 1 works 1 records 2\n"),
+        (b"issn 03785955", b"edition LIBA.s1\n"),
+        (b"issn 0028-0836", b"none\n"),
+    ];
+    assert!(rt; all_answered(rt.alloc(), &records, &table)?);
+    Ok(())
+}
+
+/// Serials of one title, date and name are two editions, and books of them are one.
+#[test]
+fn serials_and_books_of_one_title(rt: HostRuntime) -> Result<(), Fail> {
+    let serials: [(&str, &[u8]); 2] = [("LIBA", SERIAL), ("LIBA", OTHER_SERIAL)];
+    let books: [(&str, &[u8]); 2] = [("LIBA", BOOK), ("LIBA", OTHER_BOOK)];
+    let apart: [(&[u8], &[u8]); 1] = [(b"count", b"editions 2 works 1 records 2\n")];
+    let merged: [(&[u8], &[u8]); 1] = [(b"count", b"editions 1 works 1 records 2\n")];
+    assert!(rt; all_answered(rt.alloc(), &serials, &apart)?);
+    assert!(rt; all_answered(rt.alloc(), &books, &merged)?);
     Ok(())
 }
 

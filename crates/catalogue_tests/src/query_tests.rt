@@ -4,7 +4,7 @@ use std::alloc::Global;
 use std::test::Fail;
 
 /// Lines, and what they ask: the word and its one or two texts, or the refusal.
-const READINGS: [(&[u8], &[u8]); 66] = [
+const READINGS: [(&[u8], &[u8]); 74] = [
     // a record by its library and its control number
     (b"id LIBA a1", b"id;LIBA;a1"),
     (b"id LIBA  c 1 ", b"id;LIBA;c 1"),
@@ -17,6 +17,10 @@ const READINGS: [(&[u8], &[u8]); 66] = [
     (b"isbn   0-306-40615-2:x", b"isbn;9780306406157;"),
     (b"isbn 316148410x", b"isbn;9783161484100;"),
     (b"isbn 9783161484100", b"isbn;9783161484100;"),
+    // ISSNs by their keys
+    (b"issn 0378-5955", b"issn;03785955;"),
+    (b"issn  0378-5955", b"issn;03785955;"),
+    (b"issn 2434-561x", b"issn;2434561X;"),
     // control numbers by their keys
     (b"control (OCoLC)12345", b"control;OCoLC;12345"),
     (b"control (OCoLC)ocm00012345", b"control;OCoLC;12345"),
@@ -42,11 +46,14 @@ const READINGS: [(&[u8], &[u8]); 66] = [
     (b"count ", b"count;;"),
     (b"count  ", b"refused word"),
     (b"count 1", b"refused word"),
-    // a first word of the seven, and a rest that it cannot have
+    // a first word of the eight, and a rest that it cannot have
     (b"isbn 123", b"refused word"),
     (b"isbn", b"refused word"),
     (b"isbn ", b"refused word"),
     (b"isbn 9780306406158", b"refused word"),
+    (b"issn 0378-5954", b"refused word"),
+    (b"issn 0378 5955", b"refused word"),
+    (b"issn", b"refused word"),
     (b"id LIBA", b"refused word"),
     (b"id LIBA ", b"refused word"),
     (b"id liba x", b"refused word"),
@@ -78,6 +85,8 @@ const READINGS: [(&[u8], &[u8]); 66] = [
     (b"count\tx", b"refused unknown"),
     (b"id\tLIBA x", b"refused unknown"),
     (b"ids LIBA x", b"refused unknown"),
+    (b"ISSN 0378-5955", b"refused unknown"),
+    (b"issnx 0378-5955", b"refused unknown"),
     (b"find x", b"refused unknown"),
     (b"watch", b"refused unknown"),
     (b"turn 000001 LIBA 1", b"refused unknown"),
@@ -106,6 +115,7 @@ fn told(alloc: Global, query: &Query) -> Result<Vec<u8>, Fail> {
     let (word, first, second): (&[u8], &[u8], &[u8]) = match query {
         Query::Id(id) => (b"id;", id.library.bytes(), id.control.bytes()),
         Query::Isbn(digits) => (b"isbn;", digits, &[]),
+        Query::Issn(number) => (b"issn;", number, &[]),
         Query::Control(source, number) => (b"control;", source.bytes(), number.bytes()),
         Query::Title(form) => (b"title;", form.bytes(), &[]),
         Query::Work(key) => (b"work;", key.bytes(), &[]),
