@@ -1,5 +1,0 @@
--- the ledger of this one resolution
-use Rattle.swoosh_halves.proofs.halves.resolved.Given as goal
-
-abbrev pub ghosts-resolved_by : goal.ghosts-resolved_by
-ghosts-resolved_by g a = record { name = a.blank.name; parts = a.blank.parts }
