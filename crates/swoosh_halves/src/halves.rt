@@ -1,30 +1,16 @@
 //! Resolving by halves.
 //!
 //! Guarantee: the answer is a resolution of the list. Cost: see the head of the crate.
-ghost use Rattle.std.specs.Prelude.{◌≡◌, ◌<◌, ◌≤◌, IfOk};
+ghost use Rattle.std.specs.Prelude.{◌≤◌, IfOk};
 ghost use Rattle.std.specs.Thread.{IsSync, IsSend};
 ghost use Rattle.merge_laws.specs.Resolution.{IsResolution};
 
 use crate::strangers::parted_by_keys;
 use merge_laws::laws::resolution_goes_on;
 use merge_laws::resolvable::Resolvable;
-use merge_laws::steps::Steps;
-use merge_laws::swoosh::resolve_plain;
-use std::marker::Brand;
-use std::sync::ledger::{Blank, Ledger};
+use merge_laws::swoosh::resolve;
 use std::thread::{Threads, join};
 use union_base::memory::Memory;
-
-/// The resolution of the list by the plain resolver, with the match tests counted in a ledger of their own.
-fn resolved_by<L: Ledger, R: Resolvable>(list: Vec<R>, blank: Blank) -> Result<Vec<R>, Memory>
-    requires name { blank.name ≡ L.name }
-    requires parts { blank.parts ≡ L.parts }
-    requires some { 0 < L.parts }
-    ensures { IfOk result (λ all. IsResolution R.meets R.join list.items all.items) }
-{
-    let mut steps: Steps<L> = Steps::open(blank);
-    resolve_plain(list, &mut steps)
-}
 
 /// The resolution of the list: the strangers among its values are tested against none, and the others among themselves.
 fn resolved<R: Resolvable>(list: Vec<R>) -> Result<Vec<R>, Memory>
@@ -32,7 +18,7 @@ fn resolved<R: Resolvable>(list: Vec<R>) -> Result<Vec<R>, Memory>
 {
     let (strangers, others) = parted_by_keys(list)?;
     let mut all = strangers;
-    all.append(&mut resolved_by::<Brand, R>(others, Blank::new(1))?)?;
+    all.append(&mut resolve(others)?)?;
     Ok(all)
 }
 

@@ -1,11 +1,11 @@
-//! The resolver in several threads: each half of a list is resolved by its share of the workers, and then the blocks of one
-//! half are inserted among those of the other.
+//! The resolver in several threads: each half of a list is resolved by its share of the workers, and then the blocks of both
+//! halves are resolved together.
 //!
 //! Guarantee: the answer is a resolution of the list, and so, up to its order, that of the plain resolver, whatever the number
 //! of workers. Cost: at most one thread a worker. A worker makes the keys of its values twice, looks each of them up three times
-//! at most, and makes match tests only among the values that share a key with another one of its list. So does the insertion of
-//! the blocks of one half among those of the other, which one thread does. Values are moved and never copied. The definitions are
-//! in specs/Resolution.antt of merge_laws, and in specs/Strangers.antt.
+//! at most, and makes match tests only among the values that share a key with another one of its list. So does the resolution of
+//! the blocks of both halves, which one thread does. Values are moved and never copied. The definitions are in
+//! specs/Resolution.antt of merge_laws, and in specs/Strangers.antt.
 #![tactic(auto)]
 
 pub mod halves;
