@@ -18,7 +18,7 @@ use Rattle.merge_laws.proofs.Places.{Contains-head, Contains-tail, Contains-case
 use Rattle.merge_laws.proofs.Resolutions.{IsDominated-refl, apart-from_resolution, once-in_resolution, IsResolution-from_apart}
 use Rattle.feature_index.specs.Postings.{Ascends}
 use Rattle.match_features.specs.KeptLaws.{pairs_total, pairs_tie}
-use Rattle.match_features.specs.MemberLaws.{member-from_has, has-from_member}
+use Rattle.match_features.proofs.MemberLaws.{member-from_has, has-from_member}
 use Rattle.match_features.specs.declared.keys.FeatureKey.{FeatureKey}
 use Rattle.match_features.specs.declared.keys.FeatureKey.TheVariants.{Control, Isbn, Issn, Title}
 use Rattle.swoosh_resolver.specs.Tables.{block_at, blocks_in, values_of}

@@ -8,7 +8,7 @@ use Rattle.union_base.specs.IdLaws.{ids_apart}
 use Rattle.merge_laws.specs.Resolution.{DoNotMatch}
 use Rattle.merge_laws.proofs.Places.{Contains-head, Contains-tail, AllPairs-first, AllPairs-rest}
 use Rattle.merge_laws.proofs.Resolutions.{apart-from_resolution}
-use Rattle.match_features.specs.MemberLaws.{member-from_has}
+use Rattle.match_features.proofs.MemberLaws.{member-from_has}
 use Rattle.field_merge.specs.Kept.{id_cmp}
 use Rattle.field_merge.specs.KeptLaws.{id_total}
 use Rattle.catalogue_editions.specs.JoinLaws.{edition_join_laws}

@@ -17,7 +17,7 @@ use Rattle.union_base.specs.IdLaws.{ids_apart}
 use Rattle.merge_laws.specs.Resolution.{IsResolution, DoNotMatch, AreApart}
 use Rattle.merge_laws.proofs.Places.{Contains-head, Contains-tail, Contains-cases, AllPairs-permutation, AllPairs-first}
 use Rattle.merge_laws.proofs.Resolutions.{apart-from_resolution, IsResolution-permutation}
-use Rattle.match_features.specs.MemberLaws.{member-from_has}
+use Rattle.match_features.proofs.MemberLaws.{member-from_has}
 use Rattle.field_merge.specs.Kept.{id_cmp}
 use Rattle.field_merge.specs.KeptLaws.{id_total}
 use Rattle.swoosh_resolver.specs.Changes.{AreNumbers, AreOpened, number_at, view_of, without}

@@ -17,7 +17,7 @@ use Rattle.union_base.specs.declared.record_id.RecordId.{RecordId}
 use Rattle.union_base.specs.IdLaws.{ids_apart}
 use Rattle.merge_laws.proofs.Places.{Contains-head, Contains-tail, Contains-cases, All-from_members, IsPermutation-from_members, AllPairs-none, same-from_related}
 use Rattle.merge_laws.proofs.Resolutions.{apart-from_resolution, once-in_resolution, IsResolution-permutation, IsResolution-from_apart}
-use Rattle.match_features.specs.MemberLaws.{member-from_has, has-from_member}
+use Rattle.match_features.proofs.MemberLaws.{member-from_has, has-from_member}
 use Rattle.field_merge.specs.Kept.{id_cmp}
 use Rattle.field_merge.specs.KeptLaws.{id_total}
 use Rattle.swoosh_resolver.specs.Tables.{block_at, blocks_in, values_of}

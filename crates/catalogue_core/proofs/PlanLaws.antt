@@ -19,7 +19,7 @@ use Rattle.merge_laws.proofs.Places.{Contains-head, Contains-tail, Contains-case
 use Rattle.merge_laws.proofs.Resolutions.{IsDominated-refl, apart-from_resolution, IsPermutation-from_resolutions, IsResolution-permutation, IsResolution-through, IsResolution-push}
 use Rattle.merge_laws.proofs.Tags.{tag-from_dominated, dominated-from_tag, same-from_tag}
 use Rattle.merge_laws.proofs.Withdrawing.{IsResolution-withdrawn}
-use Rattle.match_features.specs.MemberLaws.{member-from_has, has-from_member}
+use Rattle.match_features.proofs.MemberLaws.{member-from_has, has-from_member}
 use Rattle.field_merge.specs.Kept.{id_cmp}
 use Rattle.field_merge.specs.KeptLaws.{id_total}
 use Rattle.swoosh_resolver.specs.Changes.{Fits, view_of}

@@ -8,7 +8,7 @@ use Rattle.merge_laws.specs.Reach.{near}
 use Rattle.merge_laws.specs.Resolution.{Derives, member, merged}
 use Rattle.merge_laws.proofs.Places.{Contains-cases}
 use Rattle.merge_laws.proofs.Resolutions.{IsResolution-push}
-use Rattle.match_features.specs.MemberLaws.{member-from_has}
+use Rattle.match_features.proofs.MemberLaws.{member-from_has}
 use Rattle.union_base.specs.IdLaws.{ids_apart}
 use Rattle.field_merge.specs.KeptLaws.{id_total}
 use Rattle.catalogue_editions.specs.Joining.{join}

@@ -1,7 +1,7 @@
 -- Keys that compare as equal are one key, by whichever test answers as key_eq does.
 use Rattle.std.proofs.Common.{◌≡◌, ℕ, Bool, true, false, List, sym, ◌∙◌}
 use Rattle.match_features.specs.Keys.{key_eq}
-use Rattle.match_features.specs.KeyLaws.{features_keys_exact}
+use Rattle.match_features.proofs.KeyLaws.{features_keys_exact}
 use Rattle.match_features.specs.declared.keys.FeatureKey.{FeatureKey}
 use Rattle.match_features.specs.declared.keys.FeatureKey.TheVariants.{Control, Isbn, Issn, Title}
 

@@ -1,7 +1,7 @@
 -- Editions match as their features meet.
 use Rattle.merge_laws.specs.Resolution.{MatchLaws, KeyLaws}
-use Rattle.match_features.specs.MeetLaws.{features_match_laws}
-use Rattle.match_features.specs.KeyLaws.{features_key_laws}
+use Rattle.match_features.proofs.MeetLaws.{features_match_laws}
+use Rattle.match_features.proofs.KeyLaws.{features_key_laws}
 use Rattle.catalogue_editions.specs.Joining.{join}
 use Rattle.catalogue_editions.specs.Matching.{match, HasFeatureKey, share}
 

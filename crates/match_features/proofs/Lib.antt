@@ -1,2 +1,5 @@
 mod Loadable
 mod Made
+pub mod MemberLaws
+pub mod MeetLaws
+pub mod KeyLaws

@@ -4,7 +4,4 @@ pub mod Gathering
 pub mod Joining
 pub mod JoinLaws
 pub mod Meeting
-pub mod MemberLaws
-pub mod MeetLaws
 pub mod Keys
-pub mod KeyLaws

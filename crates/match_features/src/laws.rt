@@ -2,8 +2,8 @@
 //! common.
 //!
 //! Each function here does nothing when it runs: its contract is the law. The same laws stand as the lemmas
-//! `features_join_laws`, `features_match_laws`, `features_key_laws`, `features_keys`,
-//! `features_keys_once` and `features_keys_exact` in `specs/`.
+//! `features_join_laws` in `specs/`, where the type's own laws cite it, and `features_match_laws`, `features_key_laws`,
+//! `features_keys`, `features_keys_once` and `features_keys_exact` in `proofs/`.
 ghost use Rattle.std.specs.Prelude.{◌≡◌, ◌≢◌, ◌↔◌, ◌⊎◌, IsTrue, Contains, AllPairs};
 ghost use Rattle.match_features.specs.declared.features.Features.{Features};
 ghost use Rattle.match_features.specs.declared.keys.FeatureKey.{FeatureKey};

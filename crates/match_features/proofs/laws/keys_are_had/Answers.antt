@@ -1,4 +1,4 @@
-use Rattle.match_features.specs.KeyLaws.{features_keys}
+use Rattle.match_features.proofs.KeyLaws.{features_keys}
 use Rattle.match_features.proofs.laws.keys_are_had.Goals as goal
 
 pub returns : goal.returns

@@ -1,4 +1,4 @@
-use Rattle.match_features.specs.MeetLaws.{features_match_laws}
+use Rattle.match_features.proofs.MeetLaws.{features_match_laws}
 use Rattle.match_features.proofs.laws.meeting_is_representative.Goals as goal
 
 pub returns : goal.returns

@@ -1,4 +1,4 @@
-use Rattle.match_features.specs.KeyLaws.{features_key_laws}
+use Rattle.match_features.proofs.KeyLaws.{features_key_laws}
 use Rattle.match_features.proofs.laws.meeting_shares_a_key.Goals as goal
 
 pub returns : goal.returns

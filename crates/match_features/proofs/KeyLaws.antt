@@ -14,8 +14,8 @@ use Rattle.match_features.specs.KeptLaws.{pairs_total, pairs_tie}
 use Rattle.match_features.specs.Joining.{join}
 use Rattle.match_features.specs.JoinLaws.{parts}
 use Rattle.match_features.specs.Meeting.{meet_by_control, meet_by_isbn, meet_by_issn, have_common_but_serials, meet_by_title, meet}
-use Rattle.match_features.specs.MeetLaws.{or_more}
-use Rattle.match_features.specs.MemberLaws.{or_cases, or_left, or_right, member-from_common, common-from_member, member-from_union, union-from_member, member-map, member-from_map, once-from_ascending, once-append, apart_maps}
+use Rattle.match_features.proofs.MeetLaws.{or_more}
+use Rattle.match_features.proofs.MemberLaws.{or_cases, or_left, or_right, member-from_common, common-from_member, member-from_union, union-from_member, member-map, member-from_map, once-from_ascending, once-append, apart_maps}
 use Rattle.match_features.specs.Keys.{keys, HasKey, share_key, key_eq}
 
 -- those that meet share a key: a control pair, an ISBN, an ISSN or a title

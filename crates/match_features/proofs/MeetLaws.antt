@@ -13,7 +13,7 @@ use Rattle.match_features.specs.KeptLaws.{pairs_total, pairs_tie}
 use Rattle.match_features.specs.Joining.{join}
 use Rattle.match_features.specs.JoinLaws.{parts}
 use Rattle.match_features.specs.Meeting.{meet_by_control, meet_by_isbn, meet_by_issn, is_no_serial, have_common_but_serials, meet_by_title, meet}
-use Rattle.match_features.specs.MemberLaws.{common-kept, common-itself, common-from_member, member-from_common, member-filter, member-from_filter}
+use Rattle.match_features.proofs.MemberLaws.{common-kept, common-itself, common-from_member, member-from_common, member-filter, member-from_filter}
 
 -- what follows from each side of a test follows from the test
 pub or_more : (a b c d : Bool) → (a ≡ true → c ≡ true) → (b ≡ true → d ≡ true) → (a || b) ≡ true → (c || d) ≡ true
