@@ -1,0 +1,5 @@
+pub mod TextLaws
+pub mod TokenLaws
+pub mod LineLaws
+pub mod BackLaws
+pub mod ShapeLaws
