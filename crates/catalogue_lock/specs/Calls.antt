@@ -5,7 +5,7 @@ use Rattle.catalogue_lock.specs.declared.view.View.{View}
 use Rattle.catalogue_lock.specs.declared.desk.TryRefusal.{TryRefusal}
 use Rattle.catalogue_lock.specs.declared.desk.TryRefusal.TheVariants.{Busy, Memory}
 
--- the change stands in the history, as the last entry that the pass has seen, behind all that it had seen
+-- the change stands in the history, as the last entry that the pass has seen, after all that it had seen
 pub record IsTurn {S C O : Type 0} (yields : S → List (ℕ × C) → ℕ → C → O → Type 0) (v w : View S C) (change : C) (turn : ℕ) (outcome : O) : Type 0 where
   pub before : List (ℕ × C)
   pub seen : w.seen ≡ before ++ (v.number, change) ∷ []

@@ -1,4 +1,4 @@
--- What a seat stands for, and what a pass leaves behind when it is ended.
+-- What a seat stands for, and what a pass leaves when it is ended.
 use Rattle.std.specs.Prelude.{ℕ, List, Bool, true, false}
 
 -- the one seat of the root, the seat of a live pass, or a seat that was joined into the root's

@@ -50,7 +50,7 @@
 //! each pass's own list is all that the history has under its number, and no two passes have one number. Each call's
 //! contract follows from it and says what its caller may conclude, for every machine and every schedule:
 //!
-//! - a turn that was taken stands in the history behind all that its pass had seen, with the outcome that the machine gives
+//! - a turn that was taken stands in the history after all that its pass had seen, with the outcome that the machine gives
 //!   after exactly the entries before it;
 //! - an answer is over all entries of the turns that it names, which are at least those that the pass knew to be finished;
 //! - `Busy` comes with two words that this call has read, and they show that another pass held or took the turn;
@@ -64,7 +64,7 @@
 //! # Cost
 //!
 //! A turn or a question takes one load and one compare and exchange for each try, two moves of the machine between the slot
-//! and the caller's stack, one fetch_add or fetch_sub, and one load of the bell: keep what is large in a machine behind a `Vec`
+//! and the caller's stack, one fetch_add or fetch_sub, and one load of the bell: keep what is large in a machine in a `Vec`
 //! or a `Box`. A glance takes one load. Only [`desk::Desk::open`] takes memory, for the word and the slot, and what the machine
 //! takes itself. A call that waits looks a few times more, and then sleeps until the end of a turn wakes it.
 #![tactic(auto)]

@@ -13,7 +13,7 @@ use union_base::memory::Memory;
 
 /// The resolution of the members that a block keeps after a withdrawal, in an order that is not fixed. They are resolved
 /// as any list is, by `resolve_plain`; what holds of them beyond that, the module `laws` says. Counts at most k * k steps for
-/// k values, also where it answers Memory. Memory where it runs out.
+/// k values, also where it answers Memory. Returns `Memory` if allocation fails.
 pub fn reopen<R: Resolvable, L: Ledger>(
     left: Vec<R>,
     steps: &mut Steps<L>,

@@ -21,7 +21,7 @@ use union_base::memory::Memory;
 use union_base::record_id::RecordId;
 use union_base::sorted_list::SortedList;
 
-/// The content of a library's record. Memory where it runs out.
+/// The content of a library's record. Returns `Memory` if allocation fails.
 pub fn content_of(alloc: Global, library: &LibraryCode, rec: Record) -> Result<Content, Memory>
     requires { IsTrue (is_loadable rec) }
     ensures { IfOk result (λ c. c ≡ content library.now rec) }

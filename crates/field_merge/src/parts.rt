@@ -26,7 +26,7 @@ pub struct Parts {
     pub united: Vec<Field>,
 }
 
-/// The parts of the fields, in slots that share the rank. Memory where it runs out.
+/// The parts of the fields, in slots that share the rank. Returns `Memory` if allocation fails.
 pub fn parts_of(alloc: Global, rank: &Rank, fields: Vec<Field>) -> Result<Parts, Memory>
     ensures { IfOk result (λ parts. ArePartsOf rank.now fields.items parts) }
 {
@@ -46,7 +46,7 @@ pub fn parts_of(alloc: Global, rank: &Rank, fields: Vec<Field>) -> Result<Parts,
 }
 
 impl Parts {
-    /// One field more was seen. Memory where it runs out.
+    /// One field more was seen. Returns `Memory` if allocation fails.
     fn add(&mut self, alloc: Global, rank: &Rank, field: Field) -> Result<(), Memory>
         ensures { OnOk result ((fields : List Field) → ArePartsOf rank.now fields self.old
             → ArePartsOf rank.now (fields ++ field ∷ []) self.new) }

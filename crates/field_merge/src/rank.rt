@@ -53,7 +53,7 @@ impl Model for Rank {
 impl Rank {
     /// The rank of those parts.
     ///
-    /// Answers `Memory` where memory ran out.
+    /// Returns `Memory` if allocation fails.
     pub fn of(alloc: Global, parts: RankParts) -> Result<Rank, Memory>
         ensures { IfOk result (λ rank. rank ≡ parts) }
     {
@@ -125,7 +125,7 @@ impl Ord for Rank {
     }
 }
 
-/// The rank of a library's record. Memory where it runs out.
+/// The rank of a library's record. Returns `Memory` if allocation fails.
 pub fn rank_of(alloc: Global, library: &LibraryCode, rec: &Record) -> Result<Rank, Memory>
     ensures { IfOk result (λ r. r ≡ rank library.now rec.now) }
 {

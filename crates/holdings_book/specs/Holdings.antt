@@ -11,7 +11,7 @@ use Rattle.holdings_book.specs.declared.holdings.Holding.{Holding}
 abbrev pub first_text : ℕ → List Subfield → List ℕ
 first_text code subfields = option_map_or (λ s. s.text) (find (λ s. s.code == code) subfields) []
 
--- the same of what a field has behind its tag; a control field has no subfields
+-- the same of what a field has after its tag; a control field has no subfields
 abbrev pub text_in : ℕ → Body → List ℕ
 text_in code (Control text) = []
 text_in code (Data ind1 ind2 subfields) = first_text code subfields

@@ -40,7 +40,7 @@ pub struct Holding {
 /// The holdings of the record with that id and these fields: one for each field 852, in the order of the fields, with the
 /// texts of its first `$a`, `$b` and `$h`.
 ///
-/// Answers `Memory` where memory ran out.
+/// Returns `Memory` if allocation fails.
 pub fn holdings_of(alloc: Global, id: &RecordId, fields: &[Field]) -> Result<Vec<Holding>, Memory>
     ensures { IfOk result (λ v. v.items ≡ holdings_of id.now fields.now) }
 {

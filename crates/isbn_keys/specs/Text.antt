@@ -5,7 +5,7 @@ use Rattle.std.specs.List.{prefix_len, suffix_len, before_first}
 abbrev pub blank : ℕ
 blank = 0x20
 
--- the text without the bytes of this value at its front
+-- the text without the bytes of this value at its beginning
 abbrev pub without_leading : ℕ → List ℕ → List ℕ
 without_leading byte text = drop (prefix_len (λ b. b == byte) text) text
 
@@ -21,7 +21,7 @@ trimmed text = without_trailing blank (without_leading blank text)
 abbrev pub ends_number : ℕ → Bool
 ends_number b = (b == blank) || (b == 0x28) || (b == 0x3A)
 
--- the text without blanks at its front, up to the first blank, ( or :, or to its end
+-- the text without blanks at its beginning, up to the first blank, ( or :, or to its end
 abbrev pub number_part : List ℕ → List ℕ
 number_part text = before_first ends_number (without_leading blank text)
 

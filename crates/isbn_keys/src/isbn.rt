@@ -14,7 +14,7 @@ const ISBN13_WEIGHTS: [u8; 13] = [1, 3, 1, 3, 1, 3, 1, 3, 1, 3, 1, 3, 1];
 
 /// The key of an ISBN text: the thirteen digits of the number that stands in front.
 ///
-/// The text is read behind its leading blanks, up to the first blank, `(` or `:`, and without its hyphens. A number of
+/// The text is read after its leading blanks, up to the first blank, `(` or `:`, and without its hyphens. A number of
 /// ten characters whose check holds is converted to thirteen digits; a number of thirteen that begins with `978` or
 /// `979` and whose check holds is the key itself. `0306406152 (pbk.)` gives `9780306406157`.
 ///

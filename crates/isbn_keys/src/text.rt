@@ -14,14 +14,14 @@ pub(crate) fn trimmed(text: &[u8]) -> &[u8]
     &rest[..end_before(rest, BLANK)]
 }
 
-/// The text without the bytes of this value at its front.
+/// The text without the bytes of this value at its beginning.
 pub(crate) fn without_leading(text: &[u8], byte: u8) -> &[u8]
     ensures { result.now ≡ without_leading byte text.now }
 {
     &text[count_leading(text, byte)..]
 }
 
-/// The text without blanks at its front, up to the first blank, `(` or `:`, or to its end.
+/// The text without blanks at its beginning, up to the first blank, `(` or `:`, or to its end.
 pub(crate) fn number_part(text: &[u8]) -> &[u8]
     ensures { result.now ≡ number_part text.now }
 {
@@ -29,7 +29,7 @@ pub(crate) fn number_part(text: &[u8]) -> &[u8]
     &rest[..number_end(rest)]
 }
 
-/// How many bytes of this value stand at the front.
+/// How many bytes of this value stand at the beginning.
 fn count_leading(text: &[u8], byte: u8) -> usize
     ensures value { result ≡ prefix_len (λ b. b == byte) text.now }
     ensures within { result ≤ length text.now }

@@ -29,7 +29,7 @@ first_piece-open (b ∷ a) s h =
     let both = or_parts (is_terminator b) (list_any is_terminator a) h in
     ap (λ t. b ∷ cond t [] (first_piece (a ++ s))) both.0 ∙ ap (λ r. b ∷ r) (first_piece-open a s both.1)
 
--- the later pieces begin behind an open text
+-- the later pieces begin after an open text
 pub later_pieces-open : (a s : List ℕ) → IsOpen a → later_pieces (a ++ s) ≡ later_pieces s
 later_pieces-open [] s h = refl
 later_pieces-open (b ∷ a) s h =
@@ -73,7 +73,7 @@ list_any-skip_breaks (b ∷ a) = elim (cases_Bool (is_break b)) [
   | inr e ↦ rw e refl
 ]
 
--- what is left behind CR and LF does not begin with them
+-- what is left after CR and LF does not begin with them
 pub skip_breaks-headed : (a : List ℕ) → 0 < length (skip_breaks a) → is_headed (skip_breaks a) ≡ true
 skip_breaks-headed [] h = absurd (omega arith)
 skip_breaks-headed (b ∷ a) h = elim (cases_Bool (is_break b)) [
@@ -81,7 +81,7 @@ skip_breaks-headed (b ∷ a) h = elim (cases_Bool (is_break b)) [
   | inr e ↦ rw e (rw e refl)
 ]
 
--- nothing is skipped in front of a text that does not begin with CR or LF
+-- nothing is skipped before a text that does not begin with CR or LF
 pub headed-skip_breaks : (a s : List ℕ) → is_headed a ≡ true → skip_breaks (a ++ s) ≡ a ++ s
 headed-skip_breaks [] s h = cc
 headed-skip_breaks (b ∷ a) s h = elim (cases_Bool (is_break b)) [
@@ -89,13 +89,13 @@ headed-skip_breaks (b ∷ a) s h = elim (cases_Bool (is_break b)) [
   | inr e ↦ rw e refl
 ]
 
--- nothing is skipped behind bytes of which nothing was
+-- nothing is skipped after bytes of which nothing was
 pub gathered-skip_breaks : (held s : List ℕ) → skip_breaks held ≡ held → 0 < length held → skip_breaks (held ++ s) ≡ held ++ s
 gathered-skip_breaks held s kept some =
     let left : 0 < length (skip_breaks held) = omega (arith, ap length kept) in
     headed-skip_breaks held s (ap is_headed (sym kept) ∙ skip_breaks-headed held left)
 
--- a terminator behind a text is not skipped
+-- a terminator after a text is not skipped
 pub skip_breaks-push : (a : List ℕ) → skip_breaks (a ++ 29 ∷ []) ≡ skip_breaks a ++ 29 ∷ []
 skip_breaks-push [] = refl
 skip_breaks-push (b ∷ a) = elim (cases_Bool (is_break b)) [
@@ -103,7 +103,7 @@ skip_breaks-push (b ∷ a) = elim (cases_Bool (is_break b)) [
   | inr e ↦ rw e refl
 ]
 
--- CR and LF in front of an open text make no difference
+-- CR and LF before an open text make no difference
 pub frames-skip_breaks : (a s : List ℕ) → IsOpen a → frames (a ++ s) ≡ frames (skip_breaks a ++ s)
 frames-skip_breaks a s h =
     let k : IsOpen (skip_breaks a) = list_any-skip_breaks a ∙ h in
@@ -158,7 +158,7 @@ IsLong-too_long = record {
   long = omega (arith, length-replicate {A = ℕ} (suc largest) 0, largest-is);
 }
 
--- a text that begins without CR and LF still does with more behind it
+-- a text that begins without CR and LF still does with more after it
 pub headed-append : (a b : List ℕ) → is_headed a ≡ true → is_headed (a ++ b) ≡ true
 headed-append [] b h = cc
 headed-append (x ∷ a) b h = h
@@ -171,7 +171,7 @@ IsLong-append a b h k = record {
   long = omega (arith, length-append a b, h.long);
 }
 
--- an open part behind a text that waits
+-- an open part after a text that waits
 pub frames-part : (overfull : Bool) (held part more : List ℕ) → IsOpen held → IsOpen part
     → frames (cond overfull too_long held ++ (part ++ more))
     ≡ frames (cond (overfull || nat_lt 99999 (length (skip_breaks (held ++ part)))) too_long (skip_breaks (held ++ part)) ++ more)
@@ -195,7 +195,7 @@ frames-part false held part more h k =
       | inr e ↦ skipped ∙ ap (λ t. frames (cond t too_long (skip_breaks (held ++ part)) ++ more)) (sym e)
     ]
 
--- an ended part behind a text that waits
+-- an ended part after a text that waits
 pub frames-ended_part : (overfull : Bool) (held a more : List ℕ) → IsOpen held → IsOpen a
     → frames (cond overfull too_long held ++ ((a ++ 29 ∷ []) ++ more))
     ≡ cond (overfull || nat_lt 99999 (length (skip_breaks (held ++ (a ++ 29 ∷ []))))) (TooLong, []) (Whole, skip_breaks (held ++ (a ++ 29 ∷ []))) ∷ frames more

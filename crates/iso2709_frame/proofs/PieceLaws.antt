@@ -48,7 +48,7 @@ first_piece-ended (b ∷ rest) h = elim (cases_Bool (is_terminator b)) [
       )
 ]
 
--- the first piece and what is behind it are the text
+-- the first piece and what is after it are the text
 pub first_piece-rest : (text : List ℕ) → text ≡ first_piece text ++ drop (length (first_piece text)) text
 first_piece-rest [] = refl
 first_piece-rest (b ∷ rest) = elim (cases_Bool (is_terminator b)) [
@@ -120,7 +120,7 @@ IsWhole-fed before held piece any small kept h =
       ended = kept ∙ whole;
     }
 
--- what is held behind a piece is gathered as its phase says
+-- what is held after a piece is gathered as its phase says
 pub IsGathered-fed : (ended over : Bool) (before held piece : List ℕ) → ended ≡ list_any is_terminator piece
     → held ≡ cond over [] (skip_breaks (before ++ first_piece piece)) → IsOpen before → IsGathered (settled_of over ended).0 held
 IsGathered-fed false false before held piece any kept h =

@@ -9,7 +9,7 @@ use Rattle.iso2709_frame.specs.declared.cut.Cut.TheVariants.{Whole, TooLong, Tru
 abbrev pub is_terminator : ℕ → Bool
 is_terminator byte = byte == 0x1D
 
--- the byte is CR or LF, which may stand in front of a record and is skipped there
+-- the byte is CR or LF, which may stand before a record and is skipped there
 abbrev pub is_break : ℕ → Bool
 is_break byte = byte == 0x0D || byte == 0x0A
 
@@ -18,13 +18,13 @@ abbrev pub first_piece : List ℕ → List ℕ
 first_piece [] = []
 first_piece (byte ∷ rest) = byte ∷ (if is_terminator byte then [] else first_piece rest)
 
--- the pieces behind the first: behind each record terminator one begins, the last of which no terminator ends
+-- the pieces after the first: after each record terminator one begins, the last of which no terminator ends
 abbrev pub later_pieces : List ℕ → List (List ℕ)
 later_pieces [] = []
 later_pieces (byte ∷ rest) =
     (if is_terminator byte then first_piece rest ∷ later_pieces rest else later_pieces rest)
 
--- the text without the CR and LF at its front
+-- the text without the CR and LF at its beginning
 abbrev pub skip_breaks : List ℕ → List ℕ
 skip_breaks [] = []
 skip_breaks (byte ∷ rest) = (if is_break byte then skip_breaks rest else byte ∷ rest)

@@ -25,7 +25,7 @@ frame_of Ended held = held
 abbrev pub cutting_of : Inside → Cutting
 cutting_of c = record { pending = pending_of c.phase c.held.items; frame = frame_of c.phase c.held.items }
 
--- the bytes held of an unfinished frame have no terminator, and no CR or LF at their front
+-- the bytes held of an unfinished frame have no terminator, and no CR or LF at their beginning
 abbrev pub IsGathered : Phase → List ℕ → Type 0
 IsGathered Gathering held = (list_any is_terminator held ≡ false) × (skip_breaks held ≡ held)
 IsGathered Overfull held = held ≡ []

@@ -42,7 +42,7 @@ impl Model for Cutter {
     ghost invariant = { IsReady };
 }
 
-/// The text without the CR and LF at its front.
+/// The text without the CR and LF at its beginning.
 fn behind_breaks(text: &[u8]) -> &[u8]
     ensures { result.now ≡ skip_breaks text.now }
 {
@@ -67,7 +67,7 @@ fn first_part(piece: &[u8]) -> (&[u8], bool)
     }
 }
 
-/// What of a part is kept behind the bytes held of its frame.
+/// What of a part is kept after the bytes held of its frame.
 fn kept_part<'a>(held: &[u8], part: &'a [u8]) -> &'a [u8]
     requires { skip_breaks held.now ≡ held.now }
     ensures { held.now ++ result.now ≡ skip_breaks (held.now ++ part.now) }
@@ -182,7 +182,7 @@ impl Cutter {
         (part.len(), cut)
     }
 
-    /// Ends the stream: answers Truncated exactly where bytes are left after the CR and LF in front of them, else None.
+    /// Ends the stream: answers Truncated exactly where bytes are left after the CR and LF before them, else None.
     /// Afterwards the cutter is as opened. Takes no memory.
     pub fn finish(&mut self) -> Option<Cut>
         ensures frames { frames self.old.pending ≡ told result [] }

@@ -40,7 +40,7 @@ fn system_numbers(rt: HostRuntime) -> Result<(), Fail> {
     assert_lines(&rt, rt.alloc(), cases::SYSTEM_NUMBERS, 54, has_pair)
 }
 
-/// Asserts that the table has so many lines, and that each is right, by its first cell and what stands behind it.
+/// Asserts that the table has so many lines, and that each is right, by its first cell and what stands after it.
 fn assert_lines<F: Fn(Global, &[u8], &[u8]) -> Result<bool, Memory>>(
     rt: &impl Abort,
     alloc: Global,
@@ -61,7 +61,7 @@ fn assert_lines<F: Fn(Global, &[u8], &[u8]) -> Result<bool, Memory>>(
     Ok(())
 }
 
-/// What stands in front of the first end of a cell, and what stands behind it.
+/// What stands before the first end of a cell, and what stands after it.
 fn cut(line: &[u8]) -> Option<(&[u8], &[u8])> {
     let mut cells = line.splitn(2, |b| *b == CELL_END);
     Some((cells.next()?, cells.next()?))

@@ -41,7 +41,7 @@ fn features_of_merges(rt: HostRuntime) -> Result<(), Fail> {
     assert_cases(&rt, rt.alloc(), merged::MERGED, 64, merges::<Features>)
 }
 
-/// The number in front of a text is its ISBN, and a text without one gives none.
+/// The number before a text is its ISBN, and a text without one gives none.
 #[test]
 fn isbn_in_a_text(rt: HostRuntime) -> Result<(), Fail> {
     assert_cases(&rt, rt.alloc(), worked::ISBNS, 5, makes::<Features>)
@@ -225,7 +225,7 @@ fn push_pair(text: &mut Vec<u8>, source: &[u8], number: &[u8]) -> Result<(), Mem
     Ok(())
 }
 
-/// Pushes what stands in front of the value at the place of a list.
+/// Pushes what stands before the value at the place of a list.
 fn push_gap(text: &mut Vec<u8>, place: usize) -> Result<(), Memory> {
     text.extend_from_slice(if place == 0 { b"" } else { b"; " })?;
     Ok(())

@@ -52,7 +52,7 @@ Takes-read (Some bytes) (Some rest) a b unread unread' room Passed same reads op
     (same (take room bytes) ∙ ap (λ xs. frames (b.pending ++ xs)) reads.0, reads.1)
 Takes-read (Some bytes) (Some rest) a b unread unread' room Ended same reads open_course = absurd (open_course refl)
 
--- no frame is behind what waits at the end of the source
+-- no frame is after what waits at the end of the source
 ends_with : (bytes unread' : List ℕ) (a b : Cutting) (unread : List ℕ) (room : ℕ) (last : List (Cut × List ℕ))
     → ((more : List ℕ) → frames (a.pending ++ (unread ++ more)) ≡ frames (b.pending ++ ([] ++ more)))
     → take room bytes ≡ unread' ++ [] → unread' ≡ [] → frames b.pending ≡ last

@@ -31,7 +31,7 @@ pub record AllHanded (limit : ℕ) (bytes : List ℕ) (handed : List (Cut × Lis
   pub fits : length bytes ≤ limit
   pub all : frames bytes ≡ handed
 
--- of a source that passes the limit, these are the frames that end within it: at most a rest is behind them
+-- of a source that passes the limit, these are the frames that end within it: at most a rest is after them
 pub record FrontHanded (limit : ℕ) (bytes : List ℕ) (handed : List (Cut × List ℕ)) : Type 0 where
   pub passes : limit < length bytes
   pub rest : Option Cut
@@ -53,7 +53,7 @@ CountsFault End before now = now ≡ before
 CountsFault TooLong before now = now ≡ before
 CountsFault Failed before now = (before ≤ now) × Rose before now
 
--- fewer frames can still be handed out behind a frame, and behind another answer no more than could
+-- fewer frames can still be handed out after a frame, and after another answer no more than could
 abbrev pub Fewer : Next → ℕ → ℕ → Type 0
 Fewer (Frame cut) before now = now < before
 Fewer End before now = now ≤ before

@@ -7,7 +7,7 @@ use Rattle.library_stream.specs.declared.course.Course.{Course}
 use Rattle.library_stream.specs.declared.course.Course.TheVariants.{Open, Ended, Passed}
 
 -- `pending` is as good as the bytes that wait for the end of their frame: whatever follows, the frames are the same.
--- `unread` are the bytes that the source gave behind them. `frame` is the frame that is lent
+-- `unread` are the bytes that the source gave after them. `frame` is the frame that is lent
 pub record Streaming : Type 0 where
   pub pending : List ℕ
   pub unread : List ℕ
@@ -33,7 +33,7 @@ bytes_within (Open room) left = take room left
 bytes_within Ended left = []
 bytes_within Passed left = []
 
--- the frames of what waits, of what is unread, and of as much of what is left as is within the limit; none behind the end
+-- the frames of what waits, of what is unread, and of as much of what is left as is within the limit; none after the end
 abbrev pub frames_on : Course → List ℕ → List ℕ → List ℕ → List (Cut × List ℕ)
 frames_on (Open room) pending unread left = frames (pending ++ (unread ++ take room left))
 frames_on Ended pending unread left = []

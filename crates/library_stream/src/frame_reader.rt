@@ -23,7 +23,7 @@ use union_io::source::Source;
 pub const LARGEST_SOURCE: u64 = 1_099_511_627_776;
 
 /// Reads a source piece by piece, and hands out its frames one after the other. Contracts see what waits for the end of its
-/// frame, what is unread behind it, how far the source was read, and the frame that is lent.
+/// frame, what is unread after it, how far the source was read, and the frame that is lent.
 #[derive(Drop)]
 pub struct FrameReader {
     cutter: Cutter,

@@ -65,7 +65,7 @@ impl Piece {
         self.from += count;
     }
 
-    /// Keeps so many bytes, and forgets those behind them. Takes no memory.
+    /// Keeps so many bytes, and forgets those after them. Takes no memory.
     pub fn keep(&mut self, count: usize)
         requires { count ≤ length self.old }
         ensures { self.new ≡ take count self.old }

@@ -69,7 +69,7 @@ data-more fields i f below is =
     ap (flat_map stored) (take_one_more fields i f below is)
     ∙ (flat_map-append stored (take i fields) (f ∷ []) ∙ ap (λ t. flat_map stored (take i fields) ++ t) (append-nil (stored f)))
 
--- the entry of one field behind others
+-- the entry of one field after others
 pub directory-push : (fields : List Field) (f : Field)
     → flat_map entry_bytes (entries_from 0 (fields ++ f ∷ []))
     ≡ flat_map entry_bytes (entries_from 0 fields) ++ entry_bytes (entry_at (length (flat_map stored fields)) f)

@@ -98,7 +98,7 @@ data-parts frame base has ends =
       sym (ap ends_no_record bytes) ∙ all_drop (λ b. not (b == 0x1D)) base text ended.before,
     )
 
--- what is behind the leader
+-- what is after the leader
 pub behind-parts : (frame : List ℕ) (base : ℕ) → HasBase frame base → ends_in_only 0x1D frame ≡ true
     → drop 24 frame ≡ take (base - 25) (drop 24 frame) ++ (0x1E ∷ (take (length frame - 1 - base) (drop base frame) ++ 0x1D ∷ []))
 behind-parts frame base has ends =

@@ -20,7 +20,7 @@ use Rattle.marc_fields.specs.declared.rules.Rule.TheVariants.{ControlShape, Data
 use Rattle.marc_fields.proofs.DirectoryLaws.{least-here, least-later, least-none}
 use Rattle.marc_fields.proofs.RowLaws.{ends-parts}
 
--- the value at a place, and the places behind it
+-- the value at a place, and the places after it
 least_at : {A : Type 0} (passes : A → Bool) (xs : List A) (i : ℕ) (x : A) → i < length xs → x ≡ get_or xs i x
     → least_where_not passes (i + 1) (drop i xs) ≡ least_where_not passes (i + 1) (x ∷ drop (suc i) xs)
 least_at passes xs i x below is = ap (least_where_not passes (i + 1)) (drop-cons xs i x below ∙ ap (λ y. y ∷ drop (suc i) xs) (sym is))

@@ -44,7 +44,7 @@ entry_of-entry_bytes e tag short near =
     let parts = and_parts (length e.tag == 3) (list_all is_tag_byte e.tag) tag in
     entry_of-entry_text e (eqb-true _ _ parts.0) (tag_bytes e.tag parts.1) (omega arith) (omega arith)
 
--- two texts in front of two others, of one length
+-- two texts before two others, of one length
 pub fronts_same : (a b x y : List ℕ) → length a ≡ length b → a ++ x ≡ b ++ y → a ≡ b
 fronts_same a b x y size same =
     sym (take-append_seam a x) ∙ (ap (take (length a)) same ∙ (ap (λ n. take n (b ++ y)) size ∙ take-append_seam b y))

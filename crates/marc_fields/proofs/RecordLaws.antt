@@ -84,7 +84,7 @@ fields-one bytes (e ∷ entries) (f ∷ fields) (g ∷ gs) are are' =
     let others : fields ≡ gs = fields-one bytes entries fields gs are.1 are'.1 in
     cc
 
--- what is behind the leader of a frame that spells a record
+-- what is after the leader of a frame that spells a record
 abbrev pub behind_leader : List Entry → List ℕ → List ℕ
 behind_leader entries bytes = flat_map entry_bytes entries ++ (0x1E ∷ (bytes ++ 0x1D ∷ []))
 

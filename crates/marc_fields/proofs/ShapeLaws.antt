@@ -64,7 +64,7 @@ pub first-are_coded : (rest next : List ℕ) (code : ℕ) (text : List ℕ) → 
 first-are_coded rest next code text first =
     ap are_coded first.parts ∙ are_coded-first code text next first.code_fits first.undelimited
 
--- subfields that were spelled have a code behind each delimiter
+-- subfields that were spelled have a code after each delimiter
 pub are_coded-subfields : (subfields : List Subfield) → list_all is_subfield subfields ≡ true → are_coded (flat_map spelled_subfield subfields) ≡ true
 are_coded-subfields [] formed = refl
 are_coded-subfields (s ∷ subfields) formed =

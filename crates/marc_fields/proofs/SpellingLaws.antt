@@ -41,7 +41,7 @@ length-directory start (f ∷ fields) =
     let later = length-directory (start + length (stored f)) fields in
     omega (arith, one, later, length-append (entry_bytes (entry_at start f)) (flat_map entry_bytes (entries_from (start + length (stored f)) fields)))
 
--- fields that lie one behind the other lie where their entries say
+-- fields that lie one after the other lie where their entries say
 pub AreEntriesOf-entries_from : (front : List ℕ) (fields : List Field) → list_all is_short fields ≡ true
     → AreEntriesOf (front ++ flat_map stored fields) (entries_from (length front) fields) fields
 AreEntriesOf-entries_from front [] short = tt
@@ -60,7 +60,7 @@ AreEntriesOf-entries_from front (f ∷ fields) short =
     let Same : List ℕ → Type 0 = λ bytes. AreEntriesOf bytes (entries_from (length front + length (stored f)) fields) fields in
     (here, subst Same (append_assoc front (stored f) rest) (subst Law (length-append front (stored f)) later))
 
--- a byte in front of all fields is in no range
+-- a byte before all fields is in no range
 pub owners-none : (start at : ℕ) (fields : List Field) → at < start → owners at (entries_from start fields) ≡ 0
 owners-none start at [] before = refl
 owners-none start at (f ∷ fields) before =

@@ -243,7 +243,7 @@ most m n h = grind (arith, nat_tests)
 below_more : (at start size : ℕ) → (nat_lt at start || (nat_le start at && nat_lt at (start + size))) ≡ nat_lt at (start + size)
 below_more at start size = grind (arith, nat_tests)
 
--- ranges that lie one behind the other: no entry is refused, and each byte has one
+-- ranges that lie one after the other: no entry is refused, and each byte has one
 in_order : (bytes : List ℕ) (start : ℕ) (rest : List ℕ) (earlier : List Entry) (i : ℕ) (entries : List Entry) → rest ≡ drop start bytes
     → start + length rest ≡ length bytes → ((at : ℕ) → is_owned earlier at ≡ nat_lt at start) → lie_in_order start rest entries ≡ true
     → (tiling_from bytes earlier i entries ≡ None) × ((at : ℕ) → is_owned (earlier ++ entries) at ≡ nat_lt at (length bytes))

@@ -29,7 +29,7 @@ base_in leader = number_of (base_place leader)
 abbrev pub base_of : List ℕ → ℕ
 base_of frame = base_in (leader_of_frame frame)
 
--- the base address of a directory, behind whose terminator the data begin
+-- the base address of a directory, after whose terminator the data begin
 abbrev pub is_base : ℕ → List ℕ → Bool
 is_base base frame =
     (nat_le 25 base && nat_le base (length frame - 1)) && (((base - 25) % 12 == 0) && (slice_index frame (base - 1) == field_terminator))
@@ -109,7 +109,7 @@ tiling_from bytes earlier i [] = None
 tiling_from bytes earlier i (e ∷ entries) =
     (if is_tile bytes e && not (shares earlier e) then tiling_from bytes (earlier ++ e ∷ []) (suc i) entries else Some i)
 
--- no entry is so, and a byte is in no range: the place behind the last entry
+-- no entry is so, and a byte is in no range: the place after the last entry
 abbrev pub covering : List ℕ → List Entry → Option ℕ
 covering bytes entries = (if all_from (is_owned entries) 0 (length bytes) then None else Some (suc (length entries)))
 

@@ -71,7 +71,7 @@ pub record Spells (frame : List ℕ) (r : Record) : Type 0 where
 abbrev pub entry_at : ℕ → Field → Entry
 entry_at start f = record { tag = f.tag; length = length (stored f); start = start }
 
--- the entries of fields that lie one behind the other from there on
+-- the entries of fields that lie one after the other from there on
 abbrev pub entries_from : ℕ → List Field → List Entry
 entries_from start [] = []
 entries_from start (f ∷ fields) = entry_at start f ∷ entries_from (start + length (stored f)) fields

@@ -13,7 +13,7 @@ is_marked mark = mark
 abbrev pub AreOwners : List Entry → List Bool → Type 0
 AreOwners entries marks = (at : ℕ) → slice_index_or marks at false ≡ is_owned entries at
 
--- the entries' ranges lie one behind the other in these bytes, which begin at that offset of the data; each is a field with
+-- the entries' ranges lie one after the other in these bytes, which begin at that offset of the data; each is a field with
 -- its terminator, and together they are all of the bytes
 abbrev pub lie_in_order : ℕ → List ℕ → List Entry → Bool
 lie_in_order start rest [] = length rest == 0

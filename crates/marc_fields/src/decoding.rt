@@ -125,7 +125,7 @@ fn decode_parts(
     }
 }
 
-/// The record that the frame with that leader spells, or the first rule behind those on the leader that fails.
+/// The record that the frame with that leader spells, or the first rule after those on the leader that fails.
 fn decode_behind(alloc: Global, frame: &[u8], front: &Front) -> Result<Record, DecodeRefusal>
     requires frame { IsFrame frame.now }
     requires front { IsFront (leader_of_frame frame.now) frame.now front.now.codes front.now.base }

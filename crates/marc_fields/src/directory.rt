@@ -19,7 +19,7 @@ fn are_numbers(text: &[u8]) -> bool
     digits(&text[3..7]).is_some() && digits(&text[7..12]).is_some()
 }
 
-/// The number of the first entry whose length or start is not all digits, behind so many others.
+/// The number of the first entry whose length or start is not all digits, after so many others.
 fn first_undigited(directory: &[u8], before: usize, count: usize) -> Option<u32>
     requires size { length directory.now ≡ 12 * count }
     requires few { before + count ≤ 9999 }
@@ -36,7 +36,7 @@ fn first_undigited(directory: &[u8], before: usize, count: usize) -> Option<u32>
     None
 }
 
-/// The first rule that entries break, behind so many others that break none, where the first of them breaks that one: a
+/// The first rule that entries break, after so many others that break none, where the first of them breaks that one: a
 /// tag that is none is named only where all numbers are digits.
 fn failure_at(rule: EntryRule, directory: &[u8], before: usize, count: usize) -> DecodeRefusal
     requires size { length directory.now ≡ 12 * count }

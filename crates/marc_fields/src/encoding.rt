@@ -103,7 +103,7 @@ fn append_entry(entry: &Entry, into: &mut Vec<u8>) -> Result<(), AllocError>
     into.extend_from_slice(&text)
 }
 
-/// Appends the entries of fields that lie one behind the other.
+/// Appends the entries of fields that lie one after the other.
 fn append_entries(fields: &[Field], into: &mut Vec<u8>) -> Result<(), AllocError>
     requires short { IsTrue (list_all is_short fields.now) }
     requires few { length (flat_map stored fields.now) ≤ 99999 }

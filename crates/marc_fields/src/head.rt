@@ -15,7 +15,7 @@ use marc_leader::leader::{LEADER_SIZE, Leader, LeaderRule};
 use marc_leader::numeral::digits;
 use union_base::body::FIELD_TERMINATOR;
 
-/// The base address of data of a record without fields: behind the leader and the directory's terminator.
+/// The base address of data of a record without fields: after the leader and the directory's terminator.
 pub const SMALLEST_BASE: usize = LEADER_SIZE + 1;
 
 /// The shortest frame: a leader and two terminators.
@@ -29,7 +29,7 @@ pub struct Front {
     pub base: usize,
 }
 
-/// Whether it is the base address of a directory, behind whose terminator the data begin.
+/// Whether it is the base address of a directory, after whose terminator the data begin.
 fn is_base_of(base: usize, frame: &[u8]) -> bool
     requires { 26 ≤ length frame.now }
     ensures { result ≡ is_base base frame.now }

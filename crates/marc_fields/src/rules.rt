@@ -13,7 +13,7 @@ pub enum Rule {
     LengthDigits,
     /// The length in the leader is not the frame's.
     LengthDiffers,
-    /// Bytes 12-16 of the leader are not the base address of data: 25 and 12 for each entry, behind a field terminator.
+    /// Bytes 12-16 of the leader are not the base address of data: 25 and 12 for each entry, after a field terminator.
     BaseAddress,
     /// A byte of the leader may not stand at its offset, which is the place.
     LeaderCounts,

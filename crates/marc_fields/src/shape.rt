@@ -63,7 +63,7 @@ pub fn are_undelimited(bytes: &[u8]) -> bool
     }
 }
 
-/// What a data field has before and behind its indicators.
+/// What a data field has before and after its indicators.
 #[derive(Clone, Copy)]
 struct Indicated<'a> {
     ind1: u8,
@@ -71,7 +71,7 @@ struct Indicated<'a> {
     rest: &'a [u8],
 }
 
-/// The indicators of a data field and the bytes behind them; None where they are no indicators, or no delimiter follows.
+/// The indicators of a data field and the bytes after them; None where they are no indicators, or no delimiter follows.
 fn split_indicators(bytes: &[u8]) -> Option<Indicated<'_>>
     ensures { MatchOption result (has_data_shape bytes.now ≡ false) (λ found. IsIndicated bytes.now found.ind1 found.ind2 found.rest.now) }
 {

@@ -1,4 +1,4 @@
-//! The rule that the entries' ranges partition the data, each a field with its terminator. Ranges that lie one behind the
+//! The rule that the entries' ranges partition the data, each a field with its terminator. Ranges that lie one after the
 //! other in the order of the directory, as they do in nearly all frames, partition it without more. Else each byte of the
 //! data is marked as it finds its entry, and the first entry that meets a mark is refused. The work is linear in the data.
 ghost use Rattle.std.specs.Prelude.{⊤, ◌≡◌, ◌+◌, ◌≤◌, ℕ, ◌||◌, ◌&&◌, [], not, false, nat_le, nat_lt, length, take, drop, Some, None, slice_index_or};
@@ -94,7 +94,7 @@ fn check_marks(marks: &mut [bool], entries: &[Entry], bytes: &[u8]) -> Result<()
     Ok(())
 }
 
-/// Whether the ranges lie one behind the other in the order of the directory, each a field with its terminator, and are all
+/// Whether the ranges lie one after the other in the order of the directory, each a field with its terminator, and are all
 /// of the data. Takes no memory.
 fn are_in_order(entries: &[Entry], bytes: &[u8]) -> bool
     ensures { result ≡ lie_in_order 0 bytes.now entries.now }

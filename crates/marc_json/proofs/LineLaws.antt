@@ -83,7 +83,7 @@ print_utf8 c (t ∷ ts) h =
     let p = both_true (is_plain t) (list_all is_plain ts) h in
     IsUtf8-append (separator c t) _ (IsUtf8-separator c t) (IsUtf8-append (token_text t) _ (token_utf8 t p.0) (print_utf8 (ends t) ts p.1))
 
--- ---- a line feed behind them is passed over
+-- ---- a line feed after them is passed over
 
 lex-quoted : (s r : List ℕ) → lex between (quoted s ++ r) ≡ token (text s) ∷ lex between r
 unfolding lex
@@ -95,7 +95,7 @@ lex-key : (s r : List ℕ) → lex between ((quoted s ++ 58 ∷ []) ++ r) ≡ to
 unfolding lex
 lex-key s r = ap (lex between) (append_assoc (quoted s) (58 ∷ []) r) ∙ lex-quoted s (58 ∷ r)
 
--- texts that are lexed alike are lexed alike behind a token, too
+-- texts that are lexed alike are lexed alike after a token, too
 token_then : (t : Token) (r s : List ℕ) → is_plain t ≡ true → lex between r ≡ lex between s → lex between (token_text t ++ r) ≡ lex between (token_text t ++ s)
 unfolding lex
 token_then begin_object r s h e = ap (λ l. token begin_object ∷ l) e

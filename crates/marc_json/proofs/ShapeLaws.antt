@@ -28,7 +28,7 @@ is_array (string s) items e = cc
 is_array (array other) items e = let same : items ≡ other = cc in ap array same
 is_array (object ms) items e = cc
 
--- a list is what stands before an item, the item, and what stands behind it
+-- a list is what stands before an item, the item, and what stands after it
 split_map : (xs : List Value) (k : ℕ) (d : Value) → k < length xs → map view xs ≡ map view (take k xs) ++ view (get_or xs k d) ∷ map view (drop (suc k) xs)
 split_map [] k d h = absurd (omega arith)
 split_map (x ∷ xs) zero d h = refl
@@ -90,7 +90,7 @@ first_wrong fields items k item h is same none = record {
 
 -- ---- data fields
 
--- the members of an object behind its two indicators
+-- the members of an object after its two indicators
 pub third_member : (value ind1 ind2 subfields one other : Json) (all behind rest : Members) → Some all ≡ as_object value → all ≡ member (codes "ind1") one behind
     → behind ≡ member (codes "ind2") other rest → data_object ind1 ind2 subfields ≡ value → rest ≡ member (codes "subfields") subfields no_members
 third_member value ind1 ind2 subfields one other all behind rest inside first second e =

@@ -47,7 +47,7 @@ printed_ascii : (xs : List ℕ) → list_all is_printable xs ≡ true → are_as
 printed_ascii [] h = refl
 printed_ascii (b ∷ rest) h = let p = both_true (is_printable b) (list_all is_printable rest) h in true_both _ _ (low_printable b p.0) (printed_ascii rest p.1)
 
--- a byte that prints in front of such bytes
+-- a byte that prints before such bytes
 printed_then : (b : ℕ) (xs : List ℕ) → is_printable b ≡ true → list_all is_printable xs ≡ true → list_all is_printable (b ∷ xs) ≡ true
 printed_then b xs h e = true_both (is_printable b) (list_all is_printable xs) h e
 

@@ -33,7 +33,7 @@ subfields_tokens subfields = flat_map (λ s. value_tokens (subfield_value s)) su
 abbrev pub fields_tokens : List Field → List Token
 fields_tokens fields = flat_map (λ f. value_tokens (field_value f)) fields
 
--- what stands in front of a data field's subfields
+-- what stands before a data field's subfields
 abbrev pub data_front : ℕ → ℕ → List Token
 data_front ind1 ind2 =
     begin_object ∷ key (codes "ind1") ∷ text (ind1 ∷ []) ∷ key (codes "ind2") ∷ text (ind2 ∷ []) ∷ key (codes "subfields") ∷ begin_array ∷ []
@@ -43,11 +43,11 @@ pub data_tokens : (ind1 ind2 : ℕ) (subfields : List Subfield)
 unfolding value_tokens
 data_tokens ind1 ind2 subfields = ap (λ l. data_front ind1 ind2 ++ (l ++ end_object ∷ [])) (list_tokens subfield_value subfields)
 
--- what stands in front of a record's fields
+-- what stands before a record's fields
 abbrev pub record_front : List Token
 record_front = begin_object ∷ key (codes "fields") ∷ begin_array ∷ []
 
--- what stands behind them
+-- what stands after them
 abbrev pub record_end : List ℕ → List Token
 record_end leader = key (codes "leader") ∷ text leader ∷ end_object ∷ []
 
@@ -56,7 +56,7 @@ pub record_tokens : (r : Record)
 unfolding value_tokens
 record_tokens r = ap (λ l. record_front ++ (l ++ record_end (leader_characters r.leader))) (list_tokens field_value r.fields)
 
--- what was written for a record, and a line feed behind it, is its line
+-- what was written for a record, and a line feed after it, is its line
 pub line_appended : (old before mid new : List ℕ) (ts : List Token) (r : Record) → before ≡ old → ts ≡ [] ++ value_tokens (record_value r)
     → mid ≡ before ++ print ts → new ≡ mid ++ line_feed ∷ [] → new ≡ old ++ json_line r
 unfolding value_tokens json_line

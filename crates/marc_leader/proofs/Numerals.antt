@@ -7,7 +7,7 @@ use Rattle.std.proofs.lemmas.List.{append-nil}
 use Rattle.std.specs.Char.{is_ascii_digit}
 use Rattle.marc_leader.specs.Numeral.{are_digits, number_after, number_of, numeral}
 
--- a digit behind a number
+-- a digit after a number
 pub number_after-push : (n : ℕ) (text : List ℕ) (b : ℕ) → number_after n (text ++ b ∷ []) ≡ 10 * number_after n text + (b - 48)
 number_after-push n [] b = refl
 number_after-push n (x ∷ rest) b = number_after-push (10 * n + (x - 48)) rest b
@@ -30,7 +30,7 @@ digit_range b h = (grind (arith, nat_tests), grind (arith, nat_tests))
 pub last_digit_is : (n : ℕ) → is_ascii_digit (48 + n % 10) ≡ true
 last_digit_is n = grind (arith, nat_tests)
 
--- digits in front of a digit are digits
+-- digits before a digit are digits
 pub are_digits-push : (text : List ℕ) (b : ℕ) → are_digits text ≡ true → is_ascii_digit b ≡ true → are_digits (text ++ b ∷ []) ≡ true
 are_digits-push [] b d h = rw h refl
 are_digits-push (x ∷ rest) b d h =
@@ -50,7 +50,7 @@ numeral-push k n b h =
     let last : 48 + (10 * n + (b - 48)) % 10 ≡ b = omega arith in
     rw (high, last) refl
 
--- the numeral of what digits spell behind a number is that number's numeral and the digits
+-- the numeral of what digits spell after a number is that number's numeral and the digits
 pub numeral_after : (k n m : ℕ) (text : List ℕ) → are_digits text ≡ true → m ≡ k + length text
     → numeral m (number_after n text) ≡ numeral k n ++ text
 numeral_after k n m [] d h = let e : m ≡ k = omega arith in rw (e, append-nil) refl

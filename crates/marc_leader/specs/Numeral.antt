@@ -7,7 +7,7 @@ use Rattle.std.specs.List.{list_all}
 abbrev pub are_digits : List ℕ → Bool
 are_digits text = list_all is_ascii_digit text
 
--- the number that the digits of the text spell, behind a number that stands before them
+-- the number that the digits of the text spell, after a number that stands before them
 abbrev pub number_after : ℕ → List ℕ → ℕ
 number_after n [] = n
 number_after n (b ∷ rest) = number_after (10 * n + (b - 48)) rest

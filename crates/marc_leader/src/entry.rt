@@ -10,10 +10,10 @@ pub const ENTRY_SIZE: usize = 12;
 /// Where an entry's tag ends.
 pub const TAG_END: usize = 3;
 
-/// Where the field's length ends, four digits behind the tag.
+/// Where the field's length ends, four digits after the tag.
 pub const SIZE_END: usize = 7;
 
-/// Where the field's start ends, five digits behind its length.
+/// Where the field's start ends, five digits after its length.
 pub const START_END: usize = 12;
 
 /// An entry of the directory (ISO 2709, 'Directory'; MARC 21, 'Directory').

@@ -1,4 +1,4 @@
-//! The leader, the 24 bytes at the front of a record: `leader_of` says what is read of them, `leader_text` what is written.
+//! The leader, the 24 bytes at the beginning of a record: `leader_of` says what is read of them, `leader_text` what is written.
 ghost use Rattle.std.specs.Prelude.{◌≡◌, ◌≤◌, length, IfOk, Ok};
 ghost use Rattle.marc_leader.specs.Leader.{leader_text, leader_of, may_stand, misfit};
 
@@ -8,7 +8,7 @@ use crate::numeral::{digits, last_digit};
 /// How many bytes a leader has.
 pub const LEADER_SIZE: usize = 24;
 
-/// Where the record's length ends, which five digits at the front give.
+/// Where the record's length ends, which five digits at the beginning give.
 pub const LENGTH_END: usize = 5;
 /// The offset of the record's status.
 pub const STATUS: usize = 5;

@@ -8,7 +8,7 @@ abbrev pub trim_start : List ℕ → List ℕ
 trim_start [] = []
 trim_start (b ∷ rest) = (if b == blank then trim_start rest else b ∷ rest)
 
--- a byte in front of a trimmed rest: a blank in front of nothing goes
+-- a byte before a trimmed rest: a blank before nothing goes
 abbrev pub before_trimmed : ℕ → List ℕ → List ℕ
 before_trimmed b [] = (if b == blank then [] else b ∷ [])
 before_trimmed b (c ∷ rest) = b ∷ c ∷ rest

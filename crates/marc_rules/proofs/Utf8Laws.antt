@@ -66,7 +66,7 @@ code_low b is = grind (arith, nat_tests)
 indicator_low : (b : ℕ) → is_indicator b ≡ true → b < 128
 indicator_low b is = grind (arith, nat_tests)
 
--- the text of a subfield, and the subfields behind it
+-- the text of a subfield, and the subfields after it
 text_of_first : (text : List ℕ) (subfields : List Subfield) → IsUtf8 (text ++ flat_map spelled_subfield subfields)
     → IsUtf8 text × IsUtf8 (flat_map spelled_subfield subfields)
 text_of_first text [] u = let Is : List ℕ → Type 0 = λ t. IsUtf8 t in (subst Is (append-nil text) u, IsUtf8-nil)

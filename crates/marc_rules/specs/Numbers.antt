@@ -33,7 +33,7 @@ no_entry = record { tag = []; length = 0; start = 0 }
 abbrev pub text_at : List ℕ → List Entry → ℕ → List ℕ
 text_at bytes entries i = text_of bytes (slice_index_or entries (i - 1) no_entry)
 
--- a control number has 1 to 64 printable bytes; blanks may stand in front of it and behind it
+-- a control number has 1 to 64 printable bytes; blanks may stand before it and after it
 abbrev pub is_control_number : List ℕ → Bool
 is_control_number text = has_number_shape (trimmed text)
 

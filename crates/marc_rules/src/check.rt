@@ -123,7 +123,7 @@ fn check_record(
     }
 }
 
-/// The entries of the frame with that base address, or the first rule behind those on the leader that fails.
+/// The entries of the frame with that base address, or the first rule after those on the leader that fails.
 fn check_behind(alloc: Global, frame: &[u8], front: &Front) -> Result<Vec<Entry>, DecodeRefusal>
     requires frame { IsFrame frame.now }
     requires front { IsFront (leader_of_frame frame.now) frame.now front.now.codes front.now.base }

@@ -10,7 +10,7 @@ use marc_leader::leader::LEADER_SIZE;
 /// The directory and the data of a frame.
 #[derive(Clone, Copy)]
 pub struct Parts<'a> {
-    /// The entries' bytes, without the terminator behind them.
+    /// The entries' bytes, without the terminator after them.
     pub directory: &'a [u8],
     /// The fields' bytes, each with its terminator.
     pub bytes: &'a [u8],

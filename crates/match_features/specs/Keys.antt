@@ -1,5 +1,6 @@
 -- The keys that features are looked up by.
-use Rattle.std.specs.Prelude.{Bool, false, nat_eq, ◌&&◌, ◌||◌, List, ◌++◌, map, Contains}
+use Rattle.std.specs.Prelude.{Bool, false, nat_eq, ◌&&◌, ◌||◌, List, [], ◌∷◌, ◌++◌, map, Contains}
+use Rattle.std.specs.Hash.{HashWrites, u8, str}
 use Rattle.std.specs.Cmp.Lexicographic.{pointwise}
 use Rattle.union_base.specs.SortedLists.{have_common}
 use Rattle.match_features.specs.declared.features.Features.{Features}
@@ -32,3 +33,10 @@ key_eq (Isbn a) (Isbn b) = pointwise nat_eq a b
 key_eq (Issn a) (Issn b) = pointwise nat_eq a b
 key_eq (Title a) (Title b) = pointwise nat_eq a b
 key_eq j k = false
+
+-- what a key gives to a hasher: its kind, and its texts, each in one piece
+abbrev pub key_writes : FeatureKey → HashWrites
+key_writes (Control p) = u8 0 ++ str p.0 ++ str p.1
+key_writes (Isbn a) = u8 1 ++ a ∷ []
+key_writes (Issn a) = u8 2 ++ a ∷ []
+key_writes (Title a) = u8 3 ++ a ∷ []

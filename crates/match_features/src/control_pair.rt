@@ -100,17 +100,20 @@ impl Eq for ControlPair {
     ghost laws = { and_equiv (on_equiv (λ p. p.0) nat_list_eq_equiv) (on_equiv (λ p. p.1) nat_list_eq_equiv) };
 }
 
+/// Each part goes to the hasher in one piece, as that of a `str` does.
 impl Hash for ControlPair {
     ghost use Rattle.std.specs.Hash as fed;
     ghost use Rattle.std.specs.Cmp.Rules.{hashing};
     ghost use Rattle.std.proofs.Common.{rules};
 
-    ghost hash_input = { λ p. fed.slice fed.u8 p.0 ++ fed.slice fed.u8 p.1 };
+    ghost hash_input = { λ p. fed.str p.0 ++ fed.str p.1 };
 
     ghost respects_eq = { Prim.search (hashing, rules) };
 
     fn hash<H: Hasher>(&self, state: &mut H) {
-        self.source().hash(state);
-        self.number().hash(state);
+        state.write(self.source());
+        state.write_u8(0xFF);
+        state.write(self.number());
+        state.write_u8(0xFF);
     }
 }

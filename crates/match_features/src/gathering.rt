@@ -33,7 +33,7 @@ pub(crate) struct Findings {
     pub(crate) names: Vec<Bytes>,
 }
 
-/// What the fields give, behind the control pairs that are there already.
+/// What the fields give, after the control pairs that are there already.
 pub(crate) fn gathered(
     alloc: Global,
     control: Vec<(Bytes, Bytes)>,

@@ -5,12 +5,13 @@ ghost use Rattle.match_features.specs.Keys.{keys, HasKey};
 use crate::control_pair::ControlPair;
 use crate::features::Features;
 use std::alloc::Global;
+use std::hash::{Hash, Hasher};
 use union_base::bytes::Bytes;
 use union_base::copied::Copied;
 use union_base::memory::Memory;
 
 /// What features are looked up by (this project's own). Features that meet have a key in common.
-#[derive(Debug, PartialEq, Eq, Hash)]
+#[derive(Debug, PartialEq, Eq)]
 pub enum FeatureKey {
     /// A control pair: the source and the number.
     Control(ControlPair),
@@ -34,6 +35,38 @@ impl Drop for FeatureKey {
     }
 }
 
+/// A kind's number goes to the hasher, and then each text in one piece.
+impl Hash for FeatureKey {
+    ghost use Rattle.std.specs.Cmp.Rules.{hashing};
+    ghost use Rattle.std.proofs.Common.{rules};
+    ghost use Rattle.match_features.specs.Keys.{key_writes};
+
+    ghost hash_input = { key_writes };
+
+    ghost respects_eq = { Prim.search (hashing, rules) };
+
+    fn hash<H: Hasher>(&self, state: &mut H) {
+        match self {
+            FeatureKey::Control(pair) => {
+                state.write_u8(0);
+                pair.hash(state);
+            }
+            FeatureKey::Isbn(isbn) => {
+                state.write_u8(1);
+                state.write(isbn);
+            }
+            FeatureKey::Issn(issn) => {
+                state.write_u8(2);
+                state.write(issn);
+            }
+            FeatureKey::Title(title) => {
+                state.write_u8(3);
+                state.write(title.bytes());
+            }
+        }
+    }
+}
+
 impl Copied for FeatureKey {
     fn copied(&self, alloc: Global) -> Result<FeatureKey, Memory> {
         match self {
@@ -47,7 +80,7 @@ impl Copied for FeatureKey {
 
 /// The keys of the features, each once: those of the control pairs, then of the ISBNs, of the ISSNs, and of the titles.
 ///
-/// Answers `Memory` where memory ran out.
+/// Returns `Memory` if allocation fails.
 pub fn feature_keys(alloc: Global, features: &Features) -> Result<Vec<FeatureKey>, Memory>
     ensures value { IfOk result (λ found. found.items ≡ keys features.now) }
     ensures had { IfOk result (λ found. (k : FeatureKey) → Contains found.items k ↔ HasKey features.now k) }

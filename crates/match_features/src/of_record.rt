@@ -26,7 +26,7 @@ const OWN: u8 = b'=';
 /// of 003 and 001, the system numbers of 035 `$a` and the LCCNs of 010 `$a`; leader/06 and 07; the ISBNs of 020 `$a`; the
 /// ISSNs of 022 `$a`; the title of 245; the year in 008/07-10; and the heading of 100, 110 or 111 (MARC 21).
 ///
-/// Answers `Memory` where memory ran out.
+/// Returns `Memory` if allocation fails.
 pub fn features_of(alloc: Global, library: &LibraryCode, rec: &Record) -> Result<Features, Memory>
     requires { IsTrue (is_loadable rec.now) }
     ensures { IfOk result (λ found. found ≡ features library.now rec.now) }

@@ -11,11 +11,11 @@ pub trait Join: Sized + Drop {
     /// What two values merge to.
     ghost join: { Self → Self → Self };
 
-    /// What this value and the other merge to. Memory where it runs out.
+    /// What this value and the other merge to. Returns `Memory` if allocation fails.
     fn joined(&self, alloc: Global, other: &Self) -> Result<Self, Memory>
         ensures { IfOk result (λ r. r ≡ join self.now other.now) };
 
-    /// An equal value. Memory where it runs out.
+    /// An equal value. Returns `Memory` if allocation fails.
     fn copied(&self, alloc: Global) -> Result<Self, Memory>
         ensures { IfOk result (λ r. r ≡ self.now) };
 

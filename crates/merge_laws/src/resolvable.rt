@@ -29,12 +29,12 @@ pub trait Resolvable: Join {
         ensures answer { result ≡ meets self.now other.now }
         ensures counted { steps.new ≡ steps.old + 1 };
 
-    /// The keys of the value, each once, in any order. Memory where it runs out.
+    /// The keys of the value, each once, in any order. Returns `Memory` if allocation fails.
     fn index_keys(&self, alloc: Global) -> Result<Vec<Self::Key>, Memory>
         ensures keys { IfOk result (λ keys. (k : Self.Key) → Contains keys.items k ↔ has_key self.now k) }
         ensures once { IfOk result (λ keys. AllPairs (λ j k. j ≢ k) keys.items) };
 
-    /// An equal key. Memory where it runs out.
+    /// An equal key. Returns `Memory` if allocation fails.
     fn copy_key(alloc: Global, key: &Self::Key) -> Result<Self::Key, Memory>
         ensures { IfOk result (λ k. k ≡ key.now) };
 

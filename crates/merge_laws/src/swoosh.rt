@@ -51,7 +51,7 @@ fn take_match<R: Resolvable, L: Ledger>(
     }
 }
 
-/// Puts what the two values merge to last. Memory where it runs out.
+/// Puts what the two values merge to last. Returns `Memory` if allocation fails.
 fn push_joined<R: Resolvable>(values: &mut Vec<R>, one: R, other: R) -> Result<(), Memory>
     ensures { OnOk result (values.new.items ≡ values.old.items ++ R.join one other ∷ []) }
 {
@@ -87,7 +87,7 @@ pub fn resolve_onto<R: Resolvable, L: Ledger>(
 }
 
 /// The resolution of the list, in an order that is not fixed. Counts at most k * k steps for k values, also where it
-/// answers Memory. Memory where it runs out.
+/// answers Memory. Returns `Memory` if allocation fails.
 pub fn resolve_plain<R: Resolvable, L: Ledger>(
     list: Vec<R>,
     steps: &mut Steps<L>,
@@ -99,7 +99,7 @@ pub fn resolve_plain<R: Resolvable, L: Ledger>(
     resolve_onto(none, list, steps)
 }
 
-/// The resolution of the list, in an order that is not fixed, for callers that count nothing. Memory where it runs out.
+/// The resolution of the list, in an order that is not fixed, for callers that count nothing. Returns `Memory` if allocation fails.
 pub fn resolve<R: Resolvable>(list: Vec<R>) -> Result<Vec<R>, Memory>
     ensures { IfOk result (λ done. IsResolution R.meets R.join list.items done.items) }
 {

@@ -9,7 +9,7 @@ use Rattle.caseless.proofs.CaselessLemmas.{default_case_fold-append, default_cas
 fold_one : (c : ℕ) → default_case_fold (c ∷ []) ≡ full_fold c
 fold_one c = default_case_fold-cons c [] ∙ ap (λ l. full_fold c ++ l) default_case_fold-nil ∙ append-nil (full_fold c)
 
--- the character at the next place is folded behind those before it
+-- the character at the next place is folded after those before it
 pub fold_more : (xs : List ℕ) (i c : ℕ) → i < length xs → get_or xs i c ≡ c → default_case_fold (take (i + 1) xs) ≡ default_case_fold (take i xs) ++ full_fold c
 fold_more xs i c h e =
     ap default_case_fold (take_more xs i c h ∙ ap (λ x. take i xs ++ (x ∷ [])) e)

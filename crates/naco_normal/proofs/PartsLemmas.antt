@@ -1,4 +1,4 @@
--- The forms of subfields, one behind the other.
+-- The forms of subfields, one after the other.
 use Rattle.std.proofs.Common.{◌≡◌, ℕ, ◌&&◌, ◌||◌, Bool, true, false, cond, not, eqb, List, ◌∷◌, map, ap, ◌∙◌}
 use Rattle.std.specs.List.{list_any}
 use Rattle.union_base.specs.Bodies.{Subfield}

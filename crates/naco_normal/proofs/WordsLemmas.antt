@@ -100,9 +100,9 @@ joined_filled : (text xs : List ℕ) → is_empty xs ≡ false → joined text x
 joined_filled text [] e = cc
 joined_filled text (x ∷ xs) e = refl
 
--- ---- words one behind the other
+-- ---- words one after the other
 
--- the words behind the text
+-- the words after the text
 abbrev pub all_joined : List ℕ → List (List ℕ) → List ℕ
 all_joined text [] = text
 all_joined text (w ∷ ws) = all_joined (joined text (encode_utf8_all w)) ws
@@ -186,7 +186,7 @@ encode_joined (c ∷ cs) (y ∷ ys) =
     ∙ ap (λ t. t ++ encode_utf8_all (y ∷ ys)) (encodes-append (c ∷ cs) (blank ∷ []) ∙ ap (λ t. encode_utf8_all (c ∷ cs) ++ (t ++ [])) (encode_ascii blank (omega arith)) ∙ sym (after_filled (encode_utf8_all (c ∷ cs)) (encodes_filled c cs)))
     ∙ sym (joined_filled (encode_utf8_all (c ∷ cs)) (encode_utf8_all (y ∷ ys)) (encodes_filled y ys))
 
--- words behind a text are that text and the joined words
+-- words after a text are that text and the joined words
 all_joined-words : (ws : List (List ℕ)) (text : List ℕ) → all_joined text ws ≡ joined text (encode_utf8_all (joined_words ws))
 all_joined-words [] text = refl
 all_joined-words (w ∷ ws) text =
@@ -200,7 +200,7 @@ blanked_spaced : (comma : Comma) (cs : List ℕ) → one_blank_between (blanked 
 blanked_spaced First cs = refl
 blanked_spaced None cs = refl
 
--- reading the letters puts their form behind the text
+-- reading the letters puts their form after the text
 pub read_on-spaced : (comma : Comma) (cs text : List ℕ) → read_on text true (keeps_first comma) cs ≡ joined text (encode_utf8_all (spaced comma cs))
 read_on-spaced comma cs text =
     read_on-words text true (keeps_first comma) cs

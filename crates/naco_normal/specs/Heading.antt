@@ -40,6 +40,6 @@ skipped skip cs = if nat_le skip (length cs) then drop skip cs else cs
 abbrev pub form_skipping : ℕ → List ℕ → List ℕ
 form_skipping skip text = encode_utf8_all (normal_form None (skipped skip (chars text)))
 
--- a title: no comma is kept, and the first $a is read behind the characters to skip
+-- a title: no comma is kept, and the first $a is read after the characters to skip
 abbrev pub title_of : List Subfield → List ℕ → ℕ → List ℕ
 title_of subfields wanted skip = joined_words (part_forms (form_skipping skip) form_without_comma (chosen wanted subfields))

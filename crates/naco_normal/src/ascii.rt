@@ -13,7 +13,7 @@ use crate::form::Comma;
 use crate::words::push_shown_byte;
 use union_base::memory::Memory;
 
-/// Appends the form of the text, behind one blank where neither is empty.
+/// Appends the form of the text, after one blank where neither is empty.
 pub(crate) fn append_ascii(form: &mut Vec<u8>, text: &[u8], comma: Comma) -> Result<(), Memory>
     requires { IsAscii text.now }
     ensures { OnOk result (form.new.items ≡ joined form.old.items (encode_utf8_all (normal_form comma text.now))) }

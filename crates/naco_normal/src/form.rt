@@ -40,7 +40,7 @@ impl Comma {
 /// `♭` and `♯` kept, and with `Comma::First` the first comma where a letter or number stands after it; every other
 /// character a blank, and the words joined by one blank. `Dvořák, Antonín,` gives `dvorak, antonin`.
 ///
-/// Answers `Memory` where memory ran out.
+/// Returns `Memory` if allocation fails.
 pub fn normal(alloc: Global, text: &str, comma: Comma) -> Result<Bytes, Memory>
     ensures { IfOk result (λ b. b ≡ encode_utf8_all (normal_form comma (chars text.now))) }
 {
@@ -49,7 +49,7 @@ pub fn normal(alloc: Global, text: &str, comma: Comma) -> Result<Bytes, Memory>
     Ok(Bytes::from(form))
 }
 
-/// Appends the form of the text, behind one blank where neither is empty.
+/// Appends the form of the text, after one blank where neither is empty.
 pub(crate) fn append_form(
     alloc: Global,
     form: &mut Vec<u8>,

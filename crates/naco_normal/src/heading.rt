@@ -20,7 +20,7 @@ const MAIN_CODE: u8 = b'a';
 /// with one blank between each two. The first $a keeps its first comma where a letter or number stands after it; all
 /// other commas go (this project's own, for the fields X00, X10 and X11 of MARC 21).
 ///
-/// Answers `Memory` where memory ran out.
+/// Returns `Memory` if allocation fails.
 pub fn heading(alloc: Global, subfields: Subfields<'_>, codes: &[u8]) -> Result<Bytes, Memory>
     requires { All (λ s. IsUtf8 s.text) subfields }
     ensures { IfOk result (λ b. b ≡ heading_of subfields.entry codes.now) }
@@ -29,10 +29,10 @@ pub fn heading(alloc: Global, subfields: Subfields<'_>, codes: &[u8]) -> Result<
 }
 
 /// The form of a title: the forms that aren't empty, of the subfields whose code is among `codes`, in their order and
-/// with one blank between each two. No comma is kept. The first $a is read behind its first `skip` characters (Unicode
+/// with one blank between each two. No comma is kept. The first $a is read after its first `skip` characters (Unicode
 /// scalar values), where it has that many, else from its beginning (MARC 21, nonfiling characters).
 ///
-/// Answers `Memory` where memory ran out.
+/// Returns `Memory` if allocation fails.
 pub fn title(
     alloc: Global,
     subfields: Subfields<'_>,
@@ -50,7 +50,7 @@ pub fn title(
 enum FirstPart {
     /// Its first comma is kept.
     WithComma,
-    /// It is read behind this number of characters, where it has that many.
+    /// It is read after this number of characters, where it has that many.
     Behind(u8),
 }
 

@@ -146,7 +146,7 @@ fn has_letter_or_number(text: &[char]) -> bool
     text.iter().any(|c| is_letter_or_number(*c))
 }
 
-/// Appends the words that the letters make, behind one blank where neither is empty.
+/// Appends the words that the letters make, after one blank where neither is empty.
 pub(crate) fn append_letters(
     form: &mut Vec<u8>,
     letters: &[char],

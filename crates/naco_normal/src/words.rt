@@ -9,7 +9,7 @@ use union_base::memory::Memory;
 
 const BLANK: u8 = b' ';
 
-/// Appends the character where it shows, behind one blank where a gap goes before it and it isn't the first.
+/// Appends the character where it shows, after one blank where a gap goes before it and it isn't the first.
 pub(crate) fn push_shown(form: &mut Vec<u8>, gap: bool, shown: bool, c: char) -> Result<(), Memory>
     ensures { OnOk result (form.new.items ≡ (if shown then after_gap form.old.items gap ++ encode_utf8 c else form.old.items)) }
 {
@@ -39,7 +39,7 @@ pub(crate) fn push_shown_byte(
     Ok(())
 }
 
-/// Appends one blank where a gap comes behind a word.
+/// Appends one blank where a gap comes after a word.
 fn open_word(form: &mut Vec<u8>, gap: bool) -> Result<(), Memory>
     ensures { OnOk result (form.new.items ≡ after_gap form.old.items gap) }
 {

@@ -83,7 +83,7 @@ fn streams_are_read_whatever_their_pieces(rt: HostRuntime) -> Result<(), Fail> {
     Ok(())
 }
 
-/// So many records, and a text behind them.
+/// So many records, and a text after them.
 fn records(alloc: Global, times: usize, tail: &[u8]) -> Result<Bytes, Memory> {
     let mut stream = Vec::new(alloc);
     for _ in 0..times {
@@ -93,7 +93,7 @@ fn records(alloc: Global, times: usize, tail: &[u8]) -> Result<Bytes, Memory> {
     Ok(Bytes::from(stream))
 }
 
-/// How many records, what is behind them, the limit, how many frames are handed out, and what comes then.
+/// How many records, what is after them, the limit, how many frames are handed out, and what comes then.
 static LIMITS: [(usize, &[u8], u32, u64, Next); 14] = [
     (0, b"", 1, 0, Next::End),
     (0, b"\r\n", 2, 0, Next::End),

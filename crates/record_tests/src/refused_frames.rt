@@ -772,7 +772,7 @@ static DIRECTORIES: [Refused; 95] = [
         4,
         b"00114nam a2200061 a 4500001000300000008004000004245000800044\x1Eid\x1E240101s1999    xx                  eng d\x1E00\x1FaCat\x1E\x1D",
     ),
-    // Entry 1: gap at the front of the data.
+    // Entry 1: gap at the beginning of the data.
     (
         Rule::Tiling,
         4,
@@ -1461,7 +1461,7 @@ static CONTENT: [Refused; 109] = [
         1,
         b"00115nam a2200061 a 4500001000400000008004100004245000800045\x1E   \x1E240101s1999    xx                  eng d\x1E00\x1FaCat\x1E\x1D",
     ),
-    // 001: tab at the front.
+    // 001: tab at the beginning.
     (
         Rule::ControlNumber,
         1,

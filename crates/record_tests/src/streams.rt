@@ -40,7 +40,7 @@ static RUNS: [(usize, &[u8], usize); 83] = [
     (13, ONE, 1),
     (13, b"\x0a\x0d\x0a\x0d", 1),
     (13, ONE, 1),
-    // CR LF in front of the first record
+    // CR LF before the first record
     (14, b"\x0d\x0a", 1),
     (14, ONE, 1),
     // CR LF after the last record
@@ -52,7 +52,7 @@ static RUNS: [(usize, &[u8], usize); 83] = [
     (17, b"\x0d\x0a\x0d\x0aab\x0d\x0a\x0d\x0acd\x1d", 1),
     // CR LF just before the record terminator
     (18, b"ab\x0d\x0a\x1d", 1),
-    // blank in front of LF is no skipped byte
+    // blank before LF is no skipped byte
     (19, b" \x0aab\x1d", 1),
     // LF, blank, LF: skipping ends at the blank
     (20, b"\x0a \x0aab\x1d", 1),
@@ -100,15 +100,15 @@ static RUNS: [(usize, &[u8], usize); 83] = [
     // 100,001 bytes
     (36, b"a", 100000),
     (36, b"\x1d", 1),
-    // 99,999 bytes behind CR LF
+    // 99,999 bytes after CR LF
     (37, b"\x0d\x0a", 1),
     (37, b"a", 99998),
     (37, b"\x1d", 1),
-    // 99,999 bytes behind 500 LF
+    // 99,999 bytes after 500 LF
     (38, b"\x0a", 500),
     (38, b"a", 99998),
     (38, b"\x1d", 1),
-    // 100,000 bytes behind LF
+    // 100,000 bytes after LF
     (39, b"\x0a", 1),
     (39, b"a", 99999),
     (39, b"\x1d", 1),

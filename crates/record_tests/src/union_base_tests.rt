@@ -10,7 +10,7 @@ use union_base::record_id::RecordId;
 use union_base::sorted_list::SortedList;
 use union_base::subfield::Subfield;
 
-/// The field whose bytes are spelled so: a control field's text, or two indicators and subfields behind delimiters.
+/// The field whose bytes are spelled so: a control field's text, or two indicators and subfields after delimiters.
 fn field(alloc: Global, tag: &[u8; 3], spelling: &[u8]) -> Result<Option<Field>, Fail> {
     let Some(body) = body(alloc, spelling)? else {
         return Ok(None);

@@ -23,7 +23,7 @@ use union_io::sure_sink::SureSink;
 use union_io::sure_source::SureSource;
 use union_io::writer_sink::{ErrSink, OutSink, WriterSink};
 
-/// Appends what one read answers: its bytes, `.` for the end or `!` for a failure, with a bar behind.
+/// Appends what one read answers: its bytes, `.` for the end or `!` for a failure, and then a bar.
 fn read_once<S: Source>(source: &mut S, into: &mut [u8], text: &mut Vec<u8>) -> Result<(), Memory>
     requires { 0 < length into.old }
     ensures { S.name source.new ≡ S.name source.old }
@@ -108,7 +108,7 @@ fn scripted_sources(rt: HostRuntime) -> Result<(), Fail> {
     Ok(())
 }
 
-/// The writing that fails, the room, the limit, and what three writings answer, with a bar and the content behind.
+/// The writing that fails, the room, the limit, and what three writings answer, with a bar and the content after.
 static WRITES: [(u64, usize, usize, &[u8]); 6] = [
     (0, 9, 9, b"...|abcdef"),
     (1, 9, 9, b"!..|cdef"),
@@ -118,7 +118,7 @@ static WRITES: [(u64, usize, usize, &[u8]); 6] = [
     (0, 2, 9, b".!!|ab"),
 ];
 
-/// What three texts' writings answer, with a bar and the content behind, where the writing of that number fails.
+/// What three texts' writings answer, with a bar and the content after, where the writing of that number fails.
 fn scripted_writes(alloc: Global, fail: u64, room: usize, limit: usize) -> Result<Vec<u8>, Fail> {
     let fails = [fail].to_vec(alloc)?;
     let mut sink = MemSink::new(fails, Vec::with_capacity(alloc, room)?, limit);
@@ -171,7 +171,7 @@ fn scripted_shelf(alloc: Global, fail: u64) -> Result<MemShelf, Memory> {
     Ok(shelf)
 }
 
-/// What the opens of `a.mrc`, `b.mrc` and `a.mrc` answer, each with so many reads, one behind the other.
+/// What the opens of `a.mrc`, `b.mrc` and `a.mrc` answer, each with so many reads, one after the other.
 fn three_opens<F: Shelf>(alloc: Global, shelf: &mut F, calls: u32) -> Result<Vec<u8>, Fail> {
     let mut text = Vec::new(alloc);
     for path in [b"a.mrc", b"b.mrc", b"a.mrc"] {

@@ -8,7 +8,7 @@ use Rattle.merge_laws.specs.Resolution.{KeyLaws, DoNotMatch, AreApart}
 use Rattle.merge_laws.proofs.Places.{Contains-head, Contains-cases, AllPairs-first, AllPairs-rest, AllPairs-one, AllPairs-append}
 use Rattle.swoosh_halves.specs.Strangers.{AreShared, ShareNoKey}
 
--- a relation between members at two places holds between one of the front and the first behind it
+-- a relation between members at two places holds between one of the front and the first after it
 pub across-from_pairs : {A : Type 0} (R : A → A → Type 0) (front : List A) (v : A) (rest : List A) → AllPairs R (front ++ v ∷ rest) → (x : A) → Contains front x → R x v
 across-from_pairs R [] v rest pairs x (i, within, e) = absurd (omega arith)
 across-from_pairs R (u ∷ front) v rest pairs x c = elim (Contains-cases u front x c) [

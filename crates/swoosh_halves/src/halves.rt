@@ -24,7 +24,7 @@ fn resolved<R: Resolvable>(list: Vec<R>) -> Result<Vec<R>, Memory>
 
 /// The resolution of the list by 1 to 64 workers, in an order that is not fixed. Each half of the list is resolved by half of
 /// the workers, in a thread of its own where one can be made; one worker makes no thread. Its contract does not bound the match
-/// tests. Memory where it runs out.
+/// tests. Returns `Memory` if allocation fails.
 // Another thread may use a bound only where its type is Send, so the keys, which each worker makes for itself, are Send too.
 #[cycle(halves)]
 pub fn resolve_halves<Rt: Threads + Sync, R: Resolvable + Send>(

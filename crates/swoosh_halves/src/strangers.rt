@@ -15,7 +15,7 @@ use std::alloc::Global;
 use std::hash::Hash;
 use union_base::memory::Memory;
 
-/// Adds the key to those seen, or to those shared where it was seen before. Memory where it runs out.
+/// Adds the key to those seen, or to those shared where it was seen before. Returns `Memory` if allocation fails.
 fn see<K: Eq + Hash + Drop>(
     seen: &mut IndexSet<K>,
     shared: &mut IndexSet<K>,
@@ -34,7 +34,7 @@ fn see<K: Eq + Hash + Drop>(
     Ok(())
 }
 
-/// Adds the keys of one more value to those seen, and to those shared where they were seen before. Memory where it runs out.
+/// Adds the keys of one more value to those seen, and to those shared where they were seen before. Returns `Memory` if allocation fails.
 fn see_all<K: Eq + Hash + Drop>(
     seen: &mut IndexSet<K>,
     shared: &mut IndexSet<K>,
@@ -52,7 +52,7 @@ fn see_all<K: Eq + Hash + Drop>(
     Ok(())
 }
 
-/// The keys that values at two places of the list have, and perhaps others. Memory where it runs out.
+/// The keys that values at two places of the list have, and perhaps others. Returns `Memory` if allocation fails.
 fn shared_keys<R: Resolvable>(alloc: Global, list: &[R]) -> Result<IndexSet<R::Key>, Memory>
     ensures { IfOk result (λ shared. AreShared R.has_key (contains R.Key.eq shared) list.now) }
 {
@@ -71,7 +71,7 @@ fn are_unshared<K: Eq + Hash + Drop>(shared: &IndexSet<K>, keys: &[K]) -> bool
     keys.iter().all(|key| !shared.contains(key))
 }
 
-/// The values of the list in two lists: strangers, of whose keys none is shared, and the others. Memory where it runs out.
+/// The values of the list in two lists: strangers, of whose keys none is shared, and the others. Returns `Memory` if allocation fails.
 fn parted<R: Resolvable>(
     alloc: Global,
     list: Vec<R>,

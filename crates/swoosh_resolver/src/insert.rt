@@ -39,7 +39,7 @@ impl<R: Resolvable> Blocks<R> {
         }
     }
 
-    /// The first block that the value matches among those that are not closed, with its number. Memory where it runs out.
+    /// The first block that the value matches among those that are not closed, with its number. Returns `Memory` if allocation fails.
     fn first_kept<L: Ledger>(
         &self,
         alloc: Global,
@@ -64,7 +64,7 @@ impl<R: Resolvable> Blocks<R> {
     }
 
     /// What the value merges to with a member of the view that it matches, and then the change is without this member. None
-    /// where it matches none. Memory where it runs out.
+    /// where it matches none. Returns `Memory` if allocation fails.
     fn merge_next<L: Ledger>(
         &self,
         alloc: Global,

@@ -116,7 +116,7 @@ fn open_all<R: Resolvable>(
     }
 }
 
-/// Copies the keys of each of the values. Memory where it runs out.
+/// Copies the keys of each of the values. Returns `Memory` if allocation fails.
 fn copies_of_keys<R: Resolvable>(alloc: Global, opened: &[Keyed<R>]) -> Result<Vec<R::Key>, Memory>
     ensures { IfOk result (λ keys. keys.items ≡ keys_in opened.now) }
 {
@@ -127,7 +127,7 @@ fn copies_of_keys<R: Resolvable>(alloc: Global, opened: &[Keyed<R>]) -> Result<V
     Ok(keys)
 }
 
-/// The numbers of so many opened values, in their order. Memory where it runs out.
+/// The numbers of so many opened values, in their order. Returns `Memory` if allocation fails.
 fn numbers_of_opened(
     alloc: Global,
     closed: &[u64],
@@ -147,7 +147,7 @@ fn numbers_of_opened(
 impl<R: Resolvable> Blocks<R> {
     /// Makes room for the change, and answers the numbers that `install` of this change gives to the opened values, in their
     /// order. They are distinct, and none of them is the number of a block that the change does not close. The blocks stay.
-    /// Memory where it runs out.
+    /// Returns `Memory` if allocation fails.
     pub fn make_room(&mut self, alloc: Global, change: &Change<R>) -> Result<Vec<u64>, Memory>
         requires { Fits R.meets self.old.blocks change.now.closed.items change.now.opened.items }
         ensures blocks { self.new.blocks ≡ self.old.blocks }

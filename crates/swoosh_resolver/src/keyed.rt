@@ -25,7 +25,7 @@ impl<R: Resolvable> Model for Keyed<R> {
 }
 
 impl<R: Resolvable> Keyed<R> {
-    /// The value with its keys. Memory where it runs out.
+    /// The value with its keys. Returns `Memory` if allocation fails.
     pub fn of(alloc: Global, value: R) -> Result<Keyed<R>, Memory>
         ensures { IfOk result (λ k. k.value ≡ value) }
     {

@@ -93,7 +93,7 @@ impl<R: Resolvable> Opened<R> {
         Ok(())
     }
 
-    /// Takes the value at the place out, and the last value takes its place. Memory where it runs out.
+    /// Takes the value at the place out, and the last value takes its place. Returns `Memory` if allocation fails.
     pub(crate) fn swap_remove(&mut self, alloc: Global, place: usize) -> Result<Keyed<R>, Memory>
         requires { place < length self.old.items }
         ensures value { IfOk result (λ e. e ≡ slice_index_or self.old.items place e) }
@@ -117,7 +117,7 @@ impl<R: Resolvable> Opened<R> {
     }
 
     /// The place of the first of the values that the given one matches. Only those that share a key with it are tested.
-    /// Memory where it runs out.
+    /// Returns `Memory` if allocation fails.
     pub(crate) fn first_match<L: Ledger>(
         &self,
         alloc: Global,

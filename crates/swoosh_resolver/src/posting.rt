@@ -35,7 +35,7 @@ pub(crate) fn unpost<R: Resolvable>(postings: &mut Postings<R::Key>, keyed: &Key
     }
 }
 
-/// Puts copies of the value's keys at the end. Memory where it runs out.
+/// Puts copies of the value's keys at the end. Returns `Memory` if allocation fails.
 pub(crate) fn push_copies<R: Resolvable>(
     alloc: Global,
     keyed: &Keyed<R>,
@@ -49,7 +49,7 @@ pub(crate) fn push_copies<R: Resolvable>(
     Ok(())
 }
 
-/// Makes room for one number more under each key of the value. The numbers stay. Memory where it runs out.
+/// Makes room for one number more under each key of the value. The numbers stay. Returns `Memory` if allocation fails.
 pub(crate) fn make_room_for<R: Resolvable>(
     alloc: Global,
     postings: &mut Postings<R::Key>,

@@ -13,7 +13,7 @@ use merge_laws::resolvable::Resolvable;
 use std::alloc::Global;
 use union_base::memory::Memory;
 
-/// Opens the values, in their order. Memory where it runs out.
+/// Opens the values, in their order. Returns `Memory` if allocation fails.
 fn open_values<R: Resolvable>(
     alloc: Global,
     opened: &mut Opened<R>,
@@ -45,7 +45,7 @@ impl<R: Resolvable> Blocks<R> {
         }
     }
 
-    /// The change without the member at the place. Memory where it runs out.
+    /// The change without the member at the place. Returns `Memory` if allocation fails.
     fn taken_out(&self, alloc: Global, change: Change<R>, at: Place) -> Result<Change<R>, Memory>
         requires { IsSome (member_at self.now.blocks change.closed.items change.opened.items at) }
         ensures closed { IfOk result (λ new. new.closed.items ≡ closed_after change.closed.items at) }
@@ -65,7 +65,7 @@ impl<R: Resolvable> Blocks<R> {
     }
 
     /// The change with the member at the place taken apart: its view has the parts in place of this member, and all its
-    /// other members. No match is tested. Memory where it runs out.
+    /// other members. No match is tested. Returns `Memory` if allocation fails.
     pub fn plan_split(
         &self,
         alloc: Global,

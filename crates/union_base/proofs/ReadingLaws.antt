@@ -43,7 +43,7 @@ pub is_end-subfields : (subfields : List Subfield) → is_end (flat_map spelled_
 is_end-subfields [] = refl
 is_end-subfields (s ∷ subfields) = refl
 
--- the first subfield, and those behind it
+-- the first subfield, and those after it
 pub subfields_in-first : (code : ℕ) (text rest : List ℕ) → (code == delimiter) ≡ false → is_undelimited text ≡ true → is_end rest ≡ true
     → subfields_in (delimiter ∷ code ∷ (text ++ rest)) ≡ record { code = code; text = text } ∷ subfields_in rest
 subfields_in-first code text rest other none end =

@@ -51,12 +51,12 @@ no_single (b ∷ []) short e =
     cc
 no_single (b ∷ d ∷ bytes) short e = absurd (omega arith)
 
--- what a delimiter begins, by whether the byte behind it is one
+-- what a delimiter begins, by whether the byte after it is one
 abbrev behind_delimiter : ℕ → List ℕ → Bool → List Subfield
 behind_delimiter code behind test =
     subfield_of (if test then [] else code ∷ text_in behind) ∷ (if test then subfield_of (text_in behind) ∷ subfields_in behind else subfields_in behind)
 
--- a code stands behind it
+-- a code stands after it
 with_code : (code : ℕ) (behind : List ℕ) (test : Bool) → (code == delimiter) ≡ test → flat_map spelled_subfield (behind_delimiter code behind test) ≡ delimiter ∷ code ∷ behind
     → (behind_delimiter code behind test ≡ record { code = code; text = text_in behind } ∷ subfields_in behind) × (text_in behind ++ flat_map spelled_subfield (subfields_in behind) ≡ behind)
 with_code code behind true is e =

@@ -1,4 +1,4 @@
--- What a field has behind its tag, as contracts see it (ISO 2709; MARC 21, 'Variable fields').
+-- What a field has after its tag, as contracts see it (ISO 2709; MARC 21, 'Variable fields').
 use Rattle.std.specs.Prelude.{ℕ, List, []}
 
 -- a subfield: its code and its text

@@ -33,7 +33,7 @@ longest-is_library_code text code = grind (arith, nat_tests, code)
 pub padded_size : (buffer : List ℕ) (size : ℕ) → IsPadded buffer size → length (take size buffer) ≡ size
 padded_size buffer size padded = omega (arith, length-take {A = ℕ}, padded.whole, padded.within)
 
--- a code and the zeros behind it give the sixteen bytes back
+-- a code and the zeros after it give the sixteen bytes back
 pub padded_buffer : (buffer : List ℕ) (size : ℕ) → IsPadded buffer size
     → take size buffer ++ replicate (longest_code - length (take size buffer)) 0 ≡ buffer
 padded_buffer buffer size padded = rw (padded_size buffer size padded) (sym padded.zeros)

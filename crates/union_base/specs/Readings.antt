@@ -18,7 +18,7 @@ abbrev pub text_in : List ℕ → List ℕ
 text_in [] = []
 text_in (b ∷ bytes) = if b == delimiter then [] else b ∷ text_in bytes
 
--- the subfield of the bytes behind a delimiter: the code, and the text
+-- the subfield of the bytes after a delimiter: the code, and the text
 abbrev pub subfield_of : List ℕ → Subfield
 subfield_of [] = record { code = 0; text = [] }
 subfield_of (code ∷ text) = record { code = code; text = text }
@@ -28,7 +28,7 @@ abbrev pub subfields_in : List ℕ → List Subfield
 subfields_in [] = []
 subfields_in (b ∷ bytes) = if b == delimiter then subfield_of (text_in bytes) ∷ subfields_in bytes else subfields_in bytes
 
--- a data field has a delimiter behind two indicators; all else is a control field's text
+-- a data field has a delimiter after two indicators; all else is a control field's text
 abbrev pub body_in : List ℕ → Body
 body_in (ind1 ∷ ind2 ∷ b ∷ rest) =
     if b == delimiter then Data ind1 ind2 (subfields_in (b ∷ rest)) else Control (ind1 ∷ ind2 ∷ b ∷ rest)

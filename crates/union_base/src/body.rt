@@ -1,4 +1,4 @@
-//! What a field has behind its tag.
+//! What a field has after its tag.
 ghost use Rattle.std.specs.Prelude.{◌≡◌, ◌≤◌, ◌&&◌, IfOk, IsTrue, nat_le, length};
 ghost use Rattle.std.specs.List.{list_all};
 ghost use Rattle.union_base.specs.Bodies.{Control, Data, subfields_of};
@@ -93,7 +93,7 @@ impl Body {
     }
 
     /// The bytes that spell the content in a record, without the terminator: a control field's text, or the indicators and
-    /// each subfield behind its delimiter. Takes no memory.
+    /// each subfield after its delimiter. Takes no memory.
     pub fn spelling(&self) -> &[u8]
         ensures { result.now ≡ spelled self.now }
     {

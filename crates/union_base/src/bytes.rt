@@ -158,16 +158,18 @@ impl Element for Bytes {
     ghost ties = { texts_apart };
 }
 
+/// The text goes to the hasher in one piece, as that of a `str` does, and not byte by byte, as a slice's elements would.
 impl Hash for Bytes {
     ghost use Rattle.std.specs.Hash as fed;
     ghost use Rattle.std.specs.Cmp.Rules.{hashing};
     ghost use Rattle.std.proofs.Common.{rules};
 
-    ghost hash_input = { fed.slice fed.u8 };
+    ghost hash_input = { fed.str };
 
     ghost respects_eq = { Prim.search (hashing, rules) };
 
     fn hash<H: Hasher>(&self, state: &mut H) {
-        self.bytes().hash(state);
+        state.write(self.bytes());
+        state.write_u8(0xFF);
     }
 }

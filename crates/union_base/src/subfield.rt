@@ -1,7 +1,7 @@
 //! One subfield of a data field.
 use std::marker::Model;
 
-/// A subfield: its code, the byte behind the delimiter 0x1F, and its text (MARC 21, 'Data elements').
+/// A subfield: its code, the byte after the delimiter 0x1F, and its text (MARC 21, 'Data elements').
 #[derive(Debug, Drop)]
 pub struct Subfield<'a> {
     pub code: u8,

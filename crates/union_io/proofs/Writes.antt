@@ -6,7 +6,7 @@ use Rattle.std.specs.declared.option.Option.{Option}
 use Rattle.std.specs.Io.KnownBytes.{Appends, Keeps}
 use Rattle.union_io.specs.Writing.{AppendsFront}
 
--- a front of the text is written, and the rest is to come
+-- a prefix of the text is written, and the rest is to come
 pub record IsWrittenUpTo (old new : Option (List ℕ)) (text rest : List ℕ) : Type 0 where
   pub front : List ℕ
   pub split : text ≡ front ++ rest
@@ -27,7 +27,7 @@ written_more old mid new text rest taken so_far piece = record {
   grown = Appends-trans old mid new so_far.front (take taken rest) so_far.grown piece;
 }
 
--- a failure that wrote nothing leaves a front of the text written
+-- a failure that wrote nothing leaves a prefix of the text written
 pub front_written : (old mid new : Option (List ℕ)) (text rest : List ℕ) → IsWrittenUpTo old mid text rest → Keeps mid new → AppendsFront old new text
 front_written old mid new text rest so_far kept =
     let within : length so_far.front ≤ length text = omega (arith, length-append so_far.front rest, ap length so_far.split) in

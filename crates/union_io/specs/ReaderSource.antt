@@ -2,7 +2,7 @@
 use Rattle.std.specs.Prelude.{ℕ, List}
 use Rattle.union_io.specs.declared.reader_source.ReaderSource.{ReaderSource}
 
--- the reader behind the source
+-- the reader of the source
 abbrev pub reader_of : {R : Type 0} → ReaderSource R → R
 reader_of source = source.reader
 

@@ -26,7 +26,7 @@ pub trait Sink: Drop {
         ensures cause { HasCause (faults self.old) (faults self.new) result };
 }
 
-/// Writes the whole text, in as many pieces as the sink wants. Where a write fails, a front of the text was written.
+/// Writes the whole text, in as many pieces as the sink wants. Where a write fails, a prefix of the text was written.
 /// Takes no memory.
 pub fn put_all<O: Sink>(out: &mut O, text: &[u8]) -> Result<(), Failed>
     ensures all { OnOk result (Appends (O.written out.old) (O.written out.new) text.now) }

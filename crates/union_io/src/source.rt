@@ -22,7 +22,7 @@ pub trait Source: Drop {
 
     /// Reads the next bytes to the front of `into`, and answers how many. 0 is the end.
     ///
-    /// What stands in `into` behind them is not said, nor what stands there after a failure. A failure takes no bytes.
+    /// What stands in `into` after them is not said, nor what stands there after a failure. A failure takes no bytes.
     fn read(&mut self, into: &mut [u8]) -> Result<usize, Failed>
         requires { 0 < length into.old }
         ensures name { name self.new ≡ name self.old }

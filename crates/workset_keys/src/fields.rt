@@ -13,7 +13,7 @@ use union_base::memory::Memory;
 /// The name in a field 100, 110, 111, 700, 710 or 711: the heading of its subfields `a b c d q`, in fields X00, or else of
 /// `a b c d n` (MARC 21, X00, X10 and X11). It is empty where these texts have no letter or digit.
 ///
-/// Answers `Memory` where memory ran out.
+/// Returns `Memory` if allocation fails.
 pub fn name_of(alloc: Global, field: &Field) -> Result<Bytes, Memory>
     requires { HasTexts field.now }
     ensures { IfOk result (λ b. b ≡ name_of field.now) }
@@ -42,7 +42,7 @@ pub(crate) fn title240_of(alloc: Global, field: &Field) -> Result<Bytes, Memory>
 /// The title in a field 245: the title form of its subfields `a b n p`, without the characters that its second indicator
 /// skips (MARC 21, 245). It is empty where these texts have no letter or digit.
 ///
-/// Answers `Memory` where memory ran out.
+/// Returns `Memory` if allocation fails.
 pub fn title245_of(alloc: Global, field: &Field) -> Result<Bytes, Memory>
     requires { HasTexts field.now }
     ensures { IfOk result (λ b. b ≡ title245_of field.now) }

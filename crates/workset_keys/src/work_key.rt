@@ -22,7 +22,7 @@ use union_base::record_id::RecordId;
 /// it is the title of the 245, and `//` and the byte-least added name that isn't empty, or where there is none `///` and
 /// the record's library and control number, joined by a point.
 ///
-/// Answers `Memory` where memory ran out.
+/// Returns `Memory` if allocation fails.
 pub fn work_key(
     alloc: Global,
     main: Option<&Field>,

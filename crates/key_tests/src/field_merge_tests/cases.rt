@@ -1,7 +1,7 @@
 //! Records with the contents that another program gave them. `¦` parts the cells of a case, and `‡` ends it.
 //!
 //! A content is written line by line: its contributors; its rank, its codes and the text of 008; the slots 005, 010, 040,
-//! 1XX, 240 and 245, each `-` where it is absent, with its rank behind 0x1E where that is another than the fixed part's; and
+//! 1XX, 240 and 245, each `-` where it is absent, with its rank after 0x1E where that is another than the fixed part's; and
 //! the united fields.
 
 /// A library, a frame, and the content of its record.

@@ -6,7 +6,7 @@ LIBA¦00402cam a2200157 a 450000100130000000300040001300500170001700800410003401
 ";
 
 /// Records without names, and their seven lists: three with one ISBN in its two forms, the last of them of another type; one
-/// whose ISBN has an X, and words behind it; and one whose ISBN fails its check.
+/// whose ISBN has an X, and words after it; and one whose ISBN fails its check.
 pub(crate) const ISBNS: &str = "\
 LIBA¦00141nam a2200073 a 4500001000300000008004100003020001500044245000800059\x1Er1\x1E240101s1999    xx                  eng d\x1E  \x1Fa0306406152\x1E00\x1FaCat\x1E\x1D¦(=LIBA)r1 | am | 9780306406157 |  | cat | 1999 | ‡\
 LIBA¦00148nam a2200073 a 4500001000300000008004100003020002200044245000800066\x1Er2\x1E240101s1999    xx                  eng d\x1E  \x1Fa978-0-306-40615-7\x1E00\x1FaCat\x1E\x1D¦(=LIBA)r2 | am | 9780306406157 |  | cat | 1999 | ‡\

@@ -1,6 +1,6 @@
 //! Records with the work keys that another program gave them. `¦` parts the cells of a case, and `‡` ends it.
 
-/// The key, a library, a control number, and the fields: tag, indicators, and subfields behind `$`.
+/// The key, a library, a control number, and the fields: tag, indicators, and subfields after `$`.
 pub(crate) const WORK_KEYS: &str = "\
 cat///LIBA.id¦LIBA¦id¦24500$aCat‡\
 cat///LIBA.x1¦LIBA¦x1¦24010$aCats¦24500$aCat‡\

@@ -6,7 +6,7 @@ use Rattle.library_stream.specs.Answering.{Takes}
 use Rattle.library_stream.proofs.AheadLaws.{Takes-more, handed_all}
 use Rattle.record_tests.proofs.library_stream_tests.frames_of.Goals as goal
 
--- a frame that was handed out and is kept behind the others
+-- a frame that was handed out and is kept after the others
 kept_behind : (a b c : Streaming) (one two three : Option (List ℕ)) (cuts cuts' : List (Cut × List ℕ)) (cut : Cut) (kept : List ℕ)
     → Takes a one b two cuts → Takes b two c three ((cut, c.frame) ∷ []) → kept ≡ c.frame → cuts' ≡ cuts ++ (cut, kept) ∷ []
     → Takes a one c three cuts'

@@ -1,4 +1,4 @@
--- A failed write leaves a front of the text written, and a write that took something leaves its rest to come.
+-- A failed write leaves a prefix of the text written, and a write that took something leaves its rest to come.
 use Rattle.std.proofs.Common.{rules, ◌∙◌}
 use Rattle.union_io.proofs.Writes.{front_written, written_more}
 use Rattle.union_io.proofs.sink.put_all.Goals as goal
