@@ -1,13 +1,12 @@
 -- The editions that have an index key, as the index of the blocks finds them.
-use Rattle.std.proofs.Common.{◌≡◌, ◌≢◌, Bor, ℕ, zero, suc, ◌+◌, ◌<◌, Bool, true, false, cond, List, [], ◌∷◌, ◌++◌, length, get_or, take, map, Contains, AllPairs, refl, sym, ap, subst, ◌∙◌, inl, inr, arith}
+use Rattle.std.proofs.Common.{◌≡◌, ◌≢◌, ℕ, zero, suc, ◌<◌, Bool, true, false, cond, List, [], ◌∷◌, Contains, AllPairs, refl, sym, ap, subst, ◌∙◌, inl, inr, arith}
 use Rattle.std.specs.Prelude.{◌↔◌, filter, filter_map, Option, Some, None, Result, Ok, Err, IfOk}
 use Rattle.std.specs.Option.{option_map}
 use Rattle.std.specs.Cmp.Lexicographic.{nat_list_cmp_total}
 use Rattle.std.specs.List.{list_all, cons_option}
-use Rattle.std.specs.List.Sorted.{IsPermutation, IsSorted, IsSortedBy}
+use Rattle.std.specs.List.Sorted.{IsPermutation, IsSorted}
 use Rattle.std.specs.Ordering.{is_lt}
-use Rattle.std.proofs.lemmas.List.{get_or-map, length-map, take_more}
-use Rattle.std.proofs.lemmas.List.Elements.{All-contains, All-contains_itself, All-filter, filter_map-append, filter_passes}
+use Rattle.std.proofs.lemmas.List.Elements.{All-contains, All-contains_itself, All-filter, filter_passes}
 use Rattle.std.proofs.lemmas.List.Kept.{AllPairs-cons, AllPairs-filter}
 use Rattle.std.proofs.lemmas.List.Sorted.{Contains-permutation, IsPermutation-sym, IsPermutation-trans}
 use Rattle.union_base.specs.Both.{both_true, true_both}
@@ -33,8 +32,9 @@ use Rattle.catalogue_editions.specs.Resolutions.{IsOrderedResolution}
 use Rattle.catalogue_editions.specs.declared.edition.Edition.{Edition}
 use Rattle.catalogue_editions.proofs.Apart.{one-ordered, ordered-from_sorted}
 use Rattle.catalogue_core.proofs.Housing.{same-some}
-use Rattle.catalogue_core.proofs.InstallLaws.{block-stands, value-in, in-value}
-use Rattle.catalogue_core.proofs.PlanLaws.{mapped-from_member, member-from_mapped}
+use Rattle.edition_blocks.proofs.BlockLaws.{block-stands, value-in, in-value}
+use Rattle.edition_blocks.proofs.LookingLaws.{value_at}
+use Rattle.edition_blocks.proofs.MappedLaws.{mapped-from_member, member-from_mapped}
 
 -- ---- the test says whether an edition has a key
 
@@ -101,33 +101,12 @@ ordered-some p list all is =
       ascending = ascending-filter p all is.ascending;
     }
 
--- ---- editions behind references
-
--- references in order of what they refer to
-pub sorted-seen : (seen : List (Bor Edition)) → IsSortedBy (λ a b. is_lt (edition_cmp a.now b.now)) seen → IsSorted edition_cmp (map (λ e. e.now) seen)
-sorted-seen [] up k d low within = absurd (omega arith)
-sorted-seen (x ∷ rest) up k d low within =
-    let seen = x ∷ rest in
-    let below : k + 1 < length seen = omega (arith, length-map seen (λ (e : Bor Edition). e.now)) in
-    rw (get_or-map (λ (e : Bor Edition). e.now) seen (k + 1) x d below, get_or-map (λ (e : Bor Edition). e.now) seen k x d (omega arith)) (up k x low below)
-
 -- what follows from two clauses of one call
 pub both-ok : {X E : Type 0} (r : Result X E) (P Q R : X → Type 0) → ((x : X) → P x → Q x → R x) → IfOk r P → IfOk r Q → IfOk r R
 both-ok (Ok x) P Q R more p q = more x p q
 both-ok (Err e) P Q R more p q = tt
 
--- ---- what stands under some numbers
-
-abbrev pub value_at : List (Option Block) → ℕ → Option Edition
-value_at blocks n = option_map (λ e. e.value) (block_at blocks n)
-
--- with one number more looked at
-pub found-more : {X : Type 0} (f : ℕ → Option X) (numbers : List ℕ) (place : ℕ) (found : Option X) → place < length numbers → found ≡ f (get_or numbers place 0)
-    → filter_map f (take (place + 1) numbers) ≡ filter_map f (take place numbers) ++ cons_option found []
-found-more f numbers place found within is =
-    ap (filter_map f) (take_more numbers place 0 within)
-    ∙ filter_map-append f (take place numbers) (get_or numbers place 0 ∷ [])
-    ∙ ap (λ o. filter_map f (take place numbers) ++ cons_option o []) (sym is)
+-- ---- blocks under numbers
 
 -- blocks under two numbers differ
 differ : (blocks : List (Option Block)) → AllPairs (λ x y. x ≢ y) (values_of (blocks_in blocks)) → (m n : ℕ) (e f : Block) → m < n

@@ -1,6 +1,6 @@
 -- What a catalogue keeps once a plan is installed.
-use Rattle.std.proofs.Common.{◌≡◌, ◌≢◌, ℕ, ◌<◌, true, false, cond, IsTrue, List, [], ◌∷◌, ◌++◌, length, Contains, refl, sym, ap, subst, ◌∙◌, inl, inr, arith}
-use Rattle.std.specs.Prelude.{◌⊎◌, fold, slice_get, slice_set, Option, Some, None, is_some, unwrap_or}
+use Rattle.std.proofs.Common.{◌≡◌, ℕ, ◌<◌, true, false, cond, IsTrue, List, [], ◌∷◌, ◌++◌, length, Contains, refl, sym, ap, subst, ◌∙◌, inl, inr, arith}
+use Rattle.std.specs.Prelude.{fold, slice_get, Option, Some, None, is_some, unwrap_or}
 use Rattle.std.specs.Option.{option_map}
 use Rattle.std.specs.List.{list_any, cons_option}
 use Rattle.std.specs.List.Sorted.{IsPermutation, IsStrictlySortedBy}
@@ -8,25 +8,24 @@ use Rattle.std.specs.BTreeMap.{is_at}
 use Rattle.std.specs.Map.{keys_of, values_of as values}
 use Rattle.std.proofs.lemmas.List.{map-append}
 use Rattle.std.proofs.lemmas.List.Sums.{fold-append}
-use Rattle.std.proofs.lemmas.List.Elements.{Contains-append_left, Contains-append_right, Contains-append_cases}
-use Rattle.std.proofs.Math.Decide.{dec_lt}
-use Rattle.std.proofs.lemmas.List.Sorted.{IsPermutation-sym, IsPermutation-map, Contains-permutation}
+use Rattle.std.proofs.lemmas.List.Sorted.{IsPermutation-map}
 use Rattle.std.proofs.lemmas.Option.{slice_get_within, get_or_from_slice_get}
 use Rattle.union_base.specs.declared.record_id.RecordId.{RecordId}
 use Rattle.union_base.specs.IdLaws.{ids_apart}
-use Rattle.merge_laws.specs.Resolution.{IsResolution, DoNotMatch, AreApart}
-use Rattle.merge_laws.proofs.Places.{Contains-head, Contains-tail, Contains-cases, AllPairs-permutation, AllPairs-first}
+use Rattle.merge_laws.specs.Resolution.{IsResolution, AreApart}
+use Rattle.merge_laws.proofs.Places.{Contains-head, Contains-tail, Contains-cases}
 use Rattle.merge_laws.proofs.Resolutions.{apart-from_resolution, IsResolution-permutation}
 use Rattle.match_features.proofs.MemberLaws.{member-from_has}
 use Rattle.field_merge.specs.Kept.{id_cmp}
 use Rattle.field_merge.specs.KeptLaws.{id_total}
 use Rattle.swoosh_resolver.specs.Changes.{AreNumbers, AreOpened, number_at, view_of, without}
 use Rattle.swoosh_resolver.specs.Tables.{block_at, blocks_in, values_of}
-use Rattle.swoosh_resolver.proofs.Places.{block-closed, block-kept, block-from_open, taken-from_set, number-from_block}
-use Rattle.work_clusters.specs.Works.{AreAfter, works_of, changed}
+use Rattle.swoosh_resolver.proofs.Places.{number-from_block}
+use Rattle.work_clusters.specs.Works.{AreAfter, changed}
 use Rattle.work_clusters.proofs.MemberLaws.{changed-members, works_of-permutation}
 use Rattle.catalogue_editions.specs.EditionKeys.{work_key_of, work_pairs}
 use Rattle.catalogue_core.specs.ClosedKeys.{closed_pairs}
+use Rattle.catalogue_core.specs.Grouping.{WorkList}
 use Rattle.catalogue_core.specs.Histories.{MapOf, at_id, is_current, after_batch, bases, current}
 use Rattle.catalogue_core.specs.Homes.{Block, has_contributor, place_of, places_in, standing, admitted, moved, housed_all}
 use Rattle.catalogue_editions.specs.Ids.{least}
@@ -43,78 +42,13 @@ use Rattle.catalogue_core.specs.declared.history_entry.HistoryEntry.{HistoryEntr
 use Rattle.catalogue_core.specs.declared.home.Home.{Home}
 use Rattle.catalogue_core.specs.declared.place.Place.{Place}
 use Rattle.catalogue_editions.proofs.Apart.{match-from_contributor, match-from_least}
+use Rattle.edition_blocks.proofs.BlockLaws.{block-stands, value-in, in-value, number-from_match, in-view, kept-in_view, fresh-in_view}
 use Rattle.catalogue_core.proofs.HomeLaws.{some-from_test, admitted-keeps, admitted-lets, admitted-only, ordered-admitted, moved_at, at-moved, ordered-moved, ordered-housed_all, place-housed_all, block-housed_all}
 use Rattle.catalogue_core.proofs.Looking.{member-from_any, any-from_member, bears-resolution, bears-current}
 use Rattle.catalogue_core.proofs.MapLaws.{same, one-id, same-itself, same-maps}
 use Rattle.catalogue_core.proofs.Placing.{lookup-values}
-use Rattle.catalogue_core.proofs.PlanLaws.{mapped-from_member, member-from_mapped}
+use Rattle.edition_blocks.proofs.MappedLaws.{mapped-from_member, member-from_mapped}
 use Rattle.catalogue_core.proofs.TurnLaws.{ordered-current}
-
--- ---- blocks
-
--- a block is among the blocks
-pub block-stands : (blocks : List (Option Block)) (n : ℕ) (e : Block) → block_at blocks n ≡ Some e → Contains (blocks_in blocks) e
-block-stands blocks n e at =
-    Contains-permutation (e ∷ blocks_in (slice_set blocks n None)) (blocks_in blocks) e
-    (IsPermutation-sym (blocks_in blocks) (e ∷ blocks_in (slice_set blocks n None)) (taken-from_set blocks n e at)) (Contains-head e (blocks_in (slice_set blocks n None)))
-
-pub value-in : (xs : List Block) (e : Block) → Contains xs e → Contains (values_of xs) e.value
-value-in [] e (k, kl, is) = absurd (omega arith)
-value-in (x ∷ xs) e c =
-    elim (Contains-cases x xs e c) [
-      | inl here ↦ subst (λ (y : Block). Contains (x.value ∷ values_of xs) y.value) here (Contains-head x.value (values_of xs))
-      | inr later ↦ Contains-tail x.value (values_of xs) e.value (value-in xs e later)
-    ]
-
-pub in-value : (xs : List Block) (v : Edition) → Contains (values_of xs) v → (e : Block) × Contains xs e × (e.value ≡ v)
-in-value [] v (k, kl, is) = absurd (omega arith)
-in-value (x ∷ xs) v c =
-    elim (Contains-cases x.value (values_of xs) v c) [
-      | inl here ↦ (x, Contains-head x xs, here)
-      | inr later ↦ (let (e, ce, is) = in-value xs v later in (e, Contains-tail x xs e ce, is))
-    ]
-
-dec-same : (m n : ℕ) → (m ≡ n) ⊎ (m ≢ n)
-dec-same m n = elim (dec_lt m n) [ yes h ↦ inr (λ e. omega arith) | no h ↦ elim (dec_lt n m) [ yes k ↦ inr (λ e. omega arith) | no k ↦ inl (omega arith) ] ]
-
--- blocks that match have one number
-pub number-from_match : (blocks : List (Option Block)) → AreApart match (values_of (blocks_in blocks)) → (m n : ℕ) (e f : Block) → block_at blocks m ≡ Some e → block_at blocks n ≡ Some f → IsTrue (match e.value f.value) → m ≡ n
-number-from_match blocks apart m n e f at at' matches =
-    elim (dec-same m n) [
-      | inl is ↦ is
-      | inr ne ↦ (let rest = blocks_in (slice_set blocks m None) in
-          let kept : block_at (slice_set blocks m None) n ≡ Some f = block-kept (m ∷ []) blocks n (λ c. elim (Contains-cases m [] n c) [ inl is ↦ ne is | inr (k, kl, is) ↦ omega arith ]) ∙ at' in
-          let moved' : AreApart match (values_of (e ∷ rest)) = apart-moved (blocks_in blocks) (e ∷ rest) (taken-from_set blocks m e at) apart in
-          absurd ((AllPairs-first (DoNotMatch match) e.value (values_of rest) moved' f.value (value-in rest f (block-stands (slice_set blocks m None) n f kept))).0 matches))
-    ]
-  where
-    apart-moved : (xs ys : List Block) → IsPermutation xs ys → AreApart match (values_of xs) → AreApart match (values_of ys)
-    apart-moved xs ys p a = AllPairs-permutation (DoNotMatch match) (λ x y h. (h.1, h.0)) (values_of xs) (values_of ys) (IsPermutation-map (λ (b : Block). b.value) xs ys p) a
-
--- a block of a view is one that is kept, or an opened one
-in-view : (blocks : List (Option Block)) (closed : List ℕ) (opened : List Block) (v : Edition) → Contains (view_of blocks closed opened) v
-    → ((n : ℕ) × (e : Block) × (block_at blocks n ≡ Some e) × (Contains closed n → ⊥) × (e.value ≡ v)) ⊎ ((e : Block) × Contains opened e × (e.value ≡ v))
-in-view blocks closed opened v c =
-    let (e, ce, is) = in-value (blocks_in (without blocks closed) ++ opened) v c in
-    elim (Contains-append_cases (blocks_in (without blocks closed)) opened e ce) [
-      | inl kept ↦ (let (n, at) = number-from_block (without blocks closed) e kept in
-          inl (
-            n,
-            e,
-            block-from_open closed blocks n e at,
-            λ gone. let none : ◌≡◌ {A = Option Block} (Some e) None = sym at ∙ block-closed closed blocks n gone in cc,
-            is,
-          ))
-      | inr fresh ↦ inr (e, fresh, is)
-    ]
-
-kept-in_view : (blocks : List (Option Block)) (closed : List ℕ) (opened : List Block) (n : ℕ) (e : Block) → block_at blocks n ≡ Some e → (Contains closed n → ⊥) → Contains (view_of blocks closed opened) e.value
-kept-in_view blocks closed opened n e at open' =
-    value-in (blocks_in (without blocks closed) ++ opened) e
-    (Contains-append_left (blocks_in (without blocks closed)) opened e (block-stands (without blocks closed) n e (block-kept closed blocks n open' ∙ at)))
-
-fresh-in_view : (blocks : List (Option Block)) (closed : List ℕ) (opened : List Block) (e : Block) → Contains opened e → Contains (view_of blocks closed opened) e.value
-fresh-in_view blocks closed opened e c = value-in (blocks_in (without blocks closed) ++ opened) e (Contains-append_right (blocks_in (without blocks closed)) opened e c)
 
 -- ---- works
 
@@ -214,7 +148,12 @@ keys-values {X} {Y} f (p ∷ all) = ap (λ (ks : List RecordId). p.0 ∷ ks) (ke
 
 -- ---- a plan is installed
 
-module _ (history : List HistoryEntry) (entry : HistoryEntry) (homes : MapOf Home) (blocks : List (Option Block)) (works : List (List ℕ × List RecordId)) (k : IsKept history homes blocks works) (closed : List ℕ) (opened : List Block) (touched : MapOf (Option Place)) (numbers : List ℕ) (p : IsPlanned (batches history ++ entry.batch ∷ []) homes blocks (after_batch (current history) entry.batch) closed opened touched) where
+-- what a value was made of
+from-mapped : {A B : Type 0} (f : A → B) (o : Option A) (y : B) → option_map f o ≡ Some y → (x : A) × (o ≡ Some x) × (f x ≡ y)
+from-mapped f None y is = absurd cc
+from-mapped f (Some x) y is = (x, refl, cc)
+
+module _ (history : List HistoryEntry) (entry : HistoryEntry) (homes : MapOf Home) (blocks : List (Option Block)) (works : Option WorkList) (k : IsKept history homes blocks works) (closed : List ℕ) (opened : List Block) (touched : MapOf (Option Place)) (numbers : List ℕ) (p : IsPlanned (batches history ++ entry.batch ∷ []) homes blocks (after_batch (current history) entry.batch) closed opened touched) where
   abbrev all : List Batch
   all = batches history ++ entry.batch ∷ []
 
@@ -344,9 +283,9 @@ module _ (history : List HistoryEntry) (entry : HistoryEntry) (homes : MapOf Hom
               (match-from_contributor f.value e.value q (member-from_has id_total ids_apart f.value.content.contributors q bears') (member-from_has id_total ids_apart e.value.content.contributors q bears)),
         )
 
-    pub kept-installed : (works' : List (List ℕ × List RecordId)) (gone come : List (List ℕ × RecordId)) → gone ≡ closed_pairs blocks closed → come ≡ work_pairs (values_of opened) → works' ≡ changed works gone come
+    pub kept-installed : (works' : Option WorkList) → works' ≡ option_map (λ ws. changed ws (closed_pairs blocks closed) (work_pairs (values_of opened))) works
         → IsKept (history ++ entry ∷ []) homes' blocks' works'
-    kept-installed works' gone come is-gone is-come is-changed =
+    kept-installed works' is-changed =
         let turn : current (history ++ entry ∷ []) ≡ now = fold-append (λ all (entry : HistoryEntry). after_batch all entry.batch) [] history (entry ∷ []) in
         let whole : batches (history ++ entry ∷ []) ≡ all = map-append (λ (t : HistoryEntry). t.batch) history (entry ∷ []) in
         let apart = apart-from_resolution edition_join_laws edition_match_laws (bases history) (values_of (blocks_in blocks)) k.resolved in
@@ -354,9 +293,10 @@ module _ (history : List HistoryEntry) (entry : HistoryEntry) (homes : MapOf Hom
           current = record { loads = ap (λ bs. map_values (loaded_at bs) (places_in homes')) whole ∙ stands-settled.loads ∙ ap (map_values Some) (sym turn) };
           resolved = subst (λ list. IsResolution match join list (values_of (blocks_in blocks'))) (ap values (sym turn)) resolved';
           housed = record { each = housed-each; only = housed-only };
-          clustered = is-changed
-              ∙ ap (λ ws. changed ws gone come) k.clustered ∙ ap (λ ps. changed (works_of (work_pairs (values_of (blocks_in blocks)))) ps come) is-gone
-              ∙ ap (changed (works_of (work_pairs (values_of (blocks_in blocks)))) (closed_pairs blocks closed)) is-come
+          clustered = λ ws' is.
+              let (ws, old, same) = from-mapped (λ ws. changed ws (closed_pairs blocks closed) (work_pairs (values_of opened))) works ws' (sym is-changed ∙ is) in
+              sym same
+              ∙ ap (λ ws. changed ws (closed_pairs blocks closed) (work_pairs (values_of opened))) (k.clustered ws old)
               ∙ changed-members (work_pairs (values_of (blocks_in blocks))) (closed_pairs blocks closed) (work_pairs (values_of opened)) (work_pairs (view_of blocks closed opened))
               (after-change blocks closed opened apart)
               ∙ works_of-permutation (work_pairs (view_of blocks closed opened)) (work_pairs (values_of (blocks_in blocks')))
@@ -364,7 +304,7 @@ module _ (history : List HistoryEntry) (entry : HistoryEntry) (homes : MapOf Hom
         }
 
 -- step by step
-pub installed : (history : List HistoryEntry) (entry : HistoryEntry) (homes : MapOf Home) (blocks : List (Option Block)) (works : List (List ℕ × List RecordId)) → IsKept history homes blocks works
+pub installed : (history : List HistoryEntry) (entry : HistoryEntry) (homes : MapOf Home) (blocks : List (Option Block)) (works : Option WorkList) → IsKept history homes blocks works
     → (closed : List ℕ) (opened : List Block) (touched : MapOf (Option Place)) → IsPlanned (batches history ++ entry.batch ∷ []) homes blocks (after_batch (current history) entry.batch) closed opened touched
     → (ids : List RecordId) → ids ≡ standing touched
     → (let-in : MapOf Home) → let-in ≡ admitted homes ids
@@ -374,15 +314,14 @@ pub installed : (history : List HistoryEntry) (entry : HistoryEntry) (homes : Ma
     → (roomy : List (Option Block)) → roomy ≡ blocks
     → (blocks' : List (Option Block)) → ((n : ℕ) (e : Block) → block_at roomy n ≡ Some e → (Contains closed n → ⊥) → block_at blocks' n ≡ Some e)
     → AreOpened (without roomy closed) closed (length roomy) opened blocks' → IsPermutation (view_of roomy closed opened) (values_of (blocks_in blocks'))
-    → (gone come : List (List ℕ × RecordId)) → gone ≡ closed_pairs blocks closed → come ≡ work_pairs (values_of opened)
-    → (works₁ works' : List (List ℕ × List RecordId)) → works₁ ≡ works → works' ≡ changed works₁ gone come
+    → (works' : Option WorkList) → works' ≡ option_map (λ ws. changed ws (closed_pairs blocks closed) (work_pairs (values_of opened))) works
     → (history₁ history' : List HistoryEntry) → history₁ ≡ history → history' ≡ history₁ ++ entry ∷ []
     → IsKept history' homes' blocks' works'
-installed history entry homes blocks works k closed opened touched p ids are within lets after settles numbers given homes' houses roomy same' blocks' kept fresh moved' gone come is-gone is-come works₁ works' same-works changes history₁ history' same-history appended =
+installed history entry homes blocks works k closed opened touched p ids are within lets after settles numbers given homes' houses roomy same' blocks' kept fresh moved' works' changes history₁ history' same-history appended =
     let kept' = subst (λ bs. (n : ℕ) (e : Block) → block_at bs n ≡ Some e → (Contains closed n → ⊥) → block_at blocks' n ≡ Some e) same' kept in
     let fresh' = subst (λ bs. AreOpened (without bs closed) closed (length bs) opened blocks') same' fresh in
     let view = subst (λ bs. IsPermutation (view_of bs closed opened) (values_of (blocks_in blocks'))) same' moved' in
-    let whole = kept-installed history entry homes blocks works k closed opened touched numbers p blocks' kept' fresh' view given works' gone come is-gone is-come (changes ∙ ap (λ ws. changed ws gone come) same-works) in
+    let whole = kept-installed history entry homes blocks works k closed opened touched numbers p blocks' kept' fresh' view given works' changes in
     let found : homes' ≡ housed_all (fold moved (admitted homes (standing touched)) touched) opened numbers =
     houses ∙ ap (λ all. housed_all all opened numbers) (settles ∙ ap (λ all. fold moved all touched) (lets ∙ ap (admitted homes) are)) in
     subst (λ turns. IsKept turns homes' blocks' works') (sym (appended ∙ ap (λ turns. turns ++ entry ∷ []) same-history))

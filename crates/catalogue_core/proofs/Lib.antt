@@ -16,3 +16,4 @@ pub mod WalkLaws
 pub mod PartsLaws
 pub mod LeavingLaws
 pub mod TouchLaws
+mod ToldLaws

@@ -25,6 +25,7 @@ use Rattle.swoosh_resolver.proofs.Places.{number-from_block}
 use Rattle.work_clusters.proofs.MemberLaws.{works_of-permutation}
 use Rattle.work_clusters.specs.Works.{works_of}
 use Rattle.catalogue_editions.specs.EditionKeys.{work_key_of, work_pairs}
+use Rattle.catalogue_core.specs.Grouping.{WorkList}
 use Rattle.catalogue_core.specs.Histories.{MapOf, at_id, is_current, bases, current, AreEditionsOf}
 use Rattle.catalogue_core.specs.Homes.{Block, has_contributor, places_in, named, named_in}
 use Rattle.catalogue_editions.specs.Ids.{least, edition_cmp}
@@ -39,10 +40,12 @@ use Rattle.catalogue_core.specs.declared.history_entry.HistoryEntry.{HistoryEntr
 use Rattle.catalogue_core.specs.declared.home.Home.{Home}
 use Rattle.catalogue_editions.proofs.Apart.{least-stands, match-from_contributor}
 use Rattle.catalogue_core.proofs.Housing.{same-some}
-use Rattle.catalogue_core.proofs.InstallLaws.{block-stands, value-in, in-value, keys-values}
+use Rattle.edition_blocks.proofs.BlockLaws.{block-stands, value-in, in-value}
+use Rattle.edition_blocks.proofs.MappedLaws.{mapped-from_member, member-from_mapped}
+use Rattle.catalogue_core.proofs.InstallLaws.{keys-values}
 use Rattle.catalogue_core.proofs.Looking.{holder-current, length-kept}
 use Rattle.catalogue_core.proofs.MapLaws.{same, one-id, same-itself}
-use Rattle.catalogue_core.proofs.PlanLaws.{mapped-from_member, member-from_mapped, base-found}
+use Rattle.catalogue_core.proofs.PlanLaws.{base-found}
 use Rattle.catalogue_core.proofs.TurnLaws.{ordered-current, found-home}
 
 -- the pair of an id
@@ -119,7 +122,7 @@ once-ascending (x ∷ xs) up =
     (All-from_members (λ y. x ≢ y) xs (λ y c e. not-below_itself (least y) (ap (λ (z : Edition). is_lt (id_cmp (least z) (least y))) (sym e) ∙ each-of (λ y. is_lt (edition_cmp x y)) xs parts.0 y c)))
     (once-ascending xs parts.1)
 
-module _ (history : List HistoryEntry) (homes : MapOf Home) (blocks : List (Option Block)) (works : List (List ℕ × List RecordId)) (k : IsKept history homes blocks works) where
+module _ (history : List HistoryEntry) (homes : MapOf Home) (blocks : List (Option Block)) (works : Option WorkList) (k : IsKept history homes blocks works) where
   ordered : IsStrictlySortedBy id_cmp (keys_of homes)
   ordered = subst (IsStrictlySortedBy id_cmp)
       (sym (keys-values Some (current history)) ∙ ap keys_of (sym k.current.loads) ∙ keys-values (loaded_at (batches history)) (places_in homes) ∙ keys-values (λ (home : Home). home.place) homes)
@@ -149,8 +152,9 @@ module _ (history : List HistoryEntry) (homes : MapOf Home) (blocks : List (Opti
     ascending = ascending-named blocks homes ordered;
   }
 
-  pub named-works : works ≡ works_of (work_pairs (named_in blocks homes))
-  named-works = k.clustered ∙ works_of-permutation (work_pairs (values_of (blocks_in blocks))) (work_pairs (named_in blocks homes))
+  -- the works of the blocks are those of the editions in order
+  pub works-in_order : works_of (work_pairs (values_of (blocks_in blocks))) ≡ works_of (work_pairs (named_in blocks homes))
+  works-in_order = works_of-permutation (work_pairs (values_of (blocks_in blocks))) (work_pairs (named_in blocks homes))
       (IsPermutation-map (λ (e : Edition). (work_key_of e, least e)) (values_of (blocks_in blocks)) (named_in blocks homes) walk-order)
 
   pub named-count : length (blocks_in blocks) ≡ length (named_in blocks homes)
@@ -208,7 +212,7 @@ pub all-pass : {A : Type 0} (xs : List A) → filter (λ x. true && not false) x
 all-pass [] = refl
 all-pass {A} (x ∷ xs) = ap (λ (rest : List A). x ∷ rest) (all-pass xs)
 
--- the first edition among those of the homes behind an id
+-- the first edition among those of the homes after an id
 pub first-behind_named : (blocks : List (Option Block)) (homes : MapOf Home) (id : RecordId) → first_of (named_in blocks (filter (λ p. is_lt (id_cmp id p.0) && not false) homes)) ≡ first_behind (named_in blocks homes) id
 first-behind_named blocks [] id = refl
 first-behind_named blocks (p ∷ homes) id =
@@ -232,13 +236,16 @@ first-behind_named blocks (p ∷ homes) id =
 
 -- ---- nothing is kept
 
-pub kept-nothing : IsKept [] [] [] []
+pub kept-nothing : IsKept [] [] [] None
 kept-nothing = record {
   current = record { loads = refl };
   resolved = IsResolution-from_apart edition_join_laws edition_match_laws [] [] (λ e (k, kl, h). absurd (omega arith)) (λ x (k, kl, h). absurd (omega arith)) (AllPairs-none (λ x y. (IsTrue (match x y) → ⊥) × (IsTrue (match y x) → ⊥)));
   housed = record { each = λ id home at. cc; only = λ n e id at. absurd (nothing-stands n e at) };
-  clustered = refl;
+  clustered = λ ws is. absurd (none-holds ws is);
 }
   where
+    none-holds : (ws : WorkList) → ◌≡◌ {A = Option WorkList} None (Some ws) → ⊥
+    none-holds ws is = cc
+
     nothing-stands : (n : ℕ) (e : Block) → block_at [] n ≡ Some e → ⊥
     nothing-stands n e at = cc

@@ -15,7 +15,7 @@ use Rattle.union_base.specs.IdLaws.{ids_apart}
 use Rattle.merge_laws.specs.Reach.{near, reach}
 use Rattle.merge_laws.specs.Resolution.{Derives, member, IsDominated, IsResolution, AreApart}
 use Rattle.merge_laws.specs.Withdrawal.{IsWithdrawn}
-use Rattle.merge_laws.proofs.Places.{Contains-head, Contains-tail, Contains-cases}
+use Rattle.merge_laws.proofs.Places.{Contains-head}
 use Rattle.merge_laws.proofs.Resolutions.{IsDominated-refl, apart-from_resolution, IsPermutation-from_resolutions, IsResolution-permutation, IsResolution-through, IsResolution-push}
 use Rattle.merge_laws.proofs.Tags.{tag-from_dominated, dominated-from_tag, same-from_tag}
 use Rattle.merge_laws.proofs.Withdrawing.{IsResolution-withdrawn}
@@ -41,32 +41,12 @@ use Rattle.catalogue_editions.specs.declared.edition.Edition.{Edition}
 use Rattle.catalogue_core.specs.declared.home.Home.{Home}
 use Rattle.catalogue_editions.specs.declared.op.Op.TheVariants.{Load, Withdraw}
 use Rattle.catalogue_core.specs.declared.place.Place.{Place}
+use Rattle.edition_blocks.proofs.MappedLaws.{mapped-from_member, member-from_mapped}
 use Rattle.catalogue_core.proofs.Growing.{grown-insert}
 use Rattle.catalogue_core.proofs.Looking.{tags, any-from_member, bears-resolution, bears-current, single-insert, single-remove, flat-then, flat-some}
 use Rattle.catalogue_core.proofs.MapLaws.{same, same-maps, one-id, same-itself, at-inserted, at-removed, ordered-inserted, ordered-removed, id-of_value, value-of_id}
 
 -- ---- members of what a function finds
-
-pub mapped-from_member : {A B : Type 0} (f : A → Option B) (xs : List A) (x : A) (y : B) → Contains xs x → f x ≡ Some y → Contains (filter_map f xs) y
-mapped-from_member f [] x y (k, kl, e) is = absurd (omega arith)
-mapped-from_member {A} {B} f (z ∷ xs) x y c is =
-    elim (Contains-cases z xs x c) [
-      | inl here ↦ (let hit : f z ≡ Some y = ap f here ∙ is in
-          subst (λ (o : Option B). Contains (cons_option o (filter_map f xs)) y) (sym hit) (Contains-head y (filter_map f xs)))
-      | inr later ↦ (let rest = mapped-from_member f xs x y later is in
-          elim (f z) as (λ o. Contains (cons_option o (filter_map f xs)) y) [ Some w ↦ Contains-tail w (filter_map f xs) y rest | None ↦ rest ])
-    ]
-
-pub member-from_mapped : {A B : Type 0} (f : A → Option B) (xs : List A) (y : B) → Contains (filter_map f xs) y → (x : A) × Contains xs x × (f x ≡ Some y)
-member-from_mapped f [] y (k, kl, e) = absurd (omega arith)
-member-from_mapped {A} {B} f (z ∷ xs) y c =
-    elim (f z) as (λ o. f z ≡ o → Contains (cons_option o (filter_map f xs)) y → (x : A) × Contains (z ∷ xs) x × (f x ≡ Some y)) [
-      | Some w ↦ λ is h. elim (Contains-cases w (filter_map f xs) y h) [
-        | inl here ↦ (z, Contains-head z xs, is ∙ ap Some here)
-        | inr later ↦ (let (x, cx, e) = member-from_mapped f xs y later in (x, Contains-tail z xs x cx, e))
-      ]
-      | None ↦ λ is h. (let (x, cx, e) = member-from_mapped f xs y h in (x, Contains-tail z xs x cx, e))
-    ] refl c
 
 pub length-mapped : {A B : Type 0} (f : A → Option B) (xs : List A) → length (filter_map f xs) ≤ length xs
 length-mapped f [] = omega arith

@@ -45,7 +45,7 @@ pub first-at : (all : List Edition) → first_of all ≡ slice_get all 0
 first-at [] = refl
 first-at (e ∷ all) = refl
 
--- where all are behind the id, the first is the first behind it
+-- where all are after the id, the first is the first after it
 first-behind : (xs : List Edition) (id : RecordId) → list_all (λ y. is_lt (id_cmp id (least y))) xs ≡ true → first_behind xs id ≡ slice_get xs 0
 first-behind [] id all = refl
 first-behind (x ∷ xs) id all =
@@ -54,7 +54,7 @@ first-behind (x ∷ xs) id all =
 skips : (x : Edition) (xs : List Edition) (id : RecordId) → is_lt (id_cmp id (least x)) ≡ false → first_behind (x ∷ xs) id ≡ first_behind xs id
 skips x xs id not_behind = ap (λ b. cond b (Some x) (first_behind xs id)) not_behind
 
--- behind an edition stands the next one
+-- after an edition stands the next one
 pub next-behind : (all : List Edition) (place : ℕ) (e : Edition) → is_ascending edition_cmp all ≡ true → slice_get all place ≡ Some e
     → first_behind all (least e) ≡ slice_get all (suc place)
 next-behind [] place e up at = cc
@@ -76,7 +76,7 @@ told-more f xs place x at =
     ∙ flat_map-append f (take place xs) (x ∷ [])
     ∙ ap (λ t. flat_map f (take place xs) ++ t) (flat_map-cons f x [] ∙ append-nil (f x))
 
--- behind an edition of a catalogue stands the next one
+-- after an edition of a catalogue stands the next one
 pub next-after : (history : List HistoryEntry) (all other : List Edition) (place : ℕ) (e : Edition) (next : Option Edition) → AreEditionsOf history all
     → AreEditionsOf history other → slice_get all place ≡ Some e → next ≡ first_behind other (least e) → next ≡ slice_get all (place + 1)
 next-after history all other place e next are others at is =

@@ -17,6 +17,7 @@ pub mod Walks
 pub mod Keeping
 pub mod Homes
 pub mod ClosedKeys
+pub mod Grouping
 pub mod Plans
 pub mod Reaches
 pub mod Kept

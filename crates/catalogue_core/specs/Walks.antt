@@ -12,7 +12,7 @@ abbrev pub first_of : List Edition → Option Edition
 first_of [] = None
 first_of (e ∷ editions) = Some e
 
--- the first whose least contributor is behind that id
+-- the first whose least contributor is after that id
 abbrev pub first_behind : List Edition → RecordId → Option Edition
 first_behind editions id = find (λ e. is_lt (id_cmp id (least e))) editions
 

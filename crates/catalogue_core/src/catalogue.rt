@@ -12,6 +12,8 @@ ghost use Rattle.std.specs.Option.{option_copied};
 ghost use Rattle.catalogue_editions.specs.declared.edition.Edition.{Edition as EditionModel};
 ghost use Rattle.work_clusters.specs.Works.{works_of};
 ghost use Rattle.catalogue_editions.specs.EditionKeys.{work_pairs};
+ghost use Rattle.catalogue_core.specs.Grouping.{works_in};
+ghost use Rattle.edition_blocks.specs.Deltas.{IsDelta};
 ghost use Rattle.catalogue_core.specs.Histories.{current, bases, at_id, is_current, outcomes, AreEditionsOf};
 ghost use Rattle.catalogue_editions.specs.IndexKeys.{has_key};
 ghost use Rattle.catalogue_editions.specs.Net.{net};
@@ -21,6 +23,7 @@ ghost use Rattle.catalogue_editions.specs.Resolutions.{IsOrderedResolution};
 ghost use Rattle.catalogue_core.specs.Walks.{first_of, first_behind, holder_of};
 
 use crate::by_key;
+use crate::grouping::{Grouping, grouped};
 use crate::history_entry::HistoryEntry;
 use crate::home::Home;
 use crate::installing::install;
@@ -32,6 +35,8 @@ use catalogue_editions::batch::Batch;
 use catalogue_editions::edition::Edition;
 use catalogue_editions::outcome::Outcome;
 use catalogue_editions::prepared::Prepared;
+use edition_blocks::delta::Delta;
+use edition_blocks::telling::delta_of;
 use match_features::keys::FeatureKey;
 use merge_laws::steps::Steps;
 use std::alloc::Global;
@@ -45,12 +50,23 @@ use union_base::record_id::RecordId;
 use work_clusters::works::Works;
 
 /// The union catalogue of some libraries. Contracts see it as its history.
-#[derive(Drop)]
 pub struct Catalogue {
     history: Vec<HistoryEntry>,
     homes: BTreeMap<RecordId, Home>,
     blocks: Blocks<Edition>,
-    works: Works,
+    works: Option<Works>,
+}
+
+/// A drop of its own, as that of `Bytes`.
+impl Drop for Catalogue {
+    fn drop(self) {
+        let Catalogue {
+            history: _,
+            homes: _,
+            blocks: _,
+            works: _,
+        } = self;
+    }
 }
 
 impl Model for Catalogue {
@@ -59,15 +75,16 @@ impl Model for Catalogue {
 
     ghost Value = { List HistoryEntry };
 
+    ghost use Rattle.catalogue_core.specs.Grouping.{kept_works};
     ghost use Rattle.catalogue_core.specs.Kept.{IsKept};
 
     ghost view = { λ c. c.history.items };
 
-    ghost invariant = { λ c. IsKept c.history.items c.homes.entries c.blocks.blocks c.works.works };
+    ghost invariant = { λ c. IsKept c.history.items c.homes.entries c.blocks.blocks (kept_works c.works) };
 }
 
 impl Catalogue {
-    /// A catalogue without history. Answers `Memory` where memory ran out.
+    /// A catalogue without history, which keeps no works yet. Returns `Memory` if allocation fails.
     pub fn empty(alloc: Global) -> Result<Catalogue, Memory>
         ensures { IfOk result (λ catalogue. catalogue ≡ []) }
     {
@@ -75,8 +92,20 @@ impl Catalogue {
             history: Vec::new(alloc),
             homes: BTreeMap::new(alloc),
             blocks: Blocks::empty(alloc),
-            works: Works::empty(alloc),
+            works: None,
         })
+    }
+
+    /// Has the works kept from now on: they are made, each later turn regroups the editions that it changes, and `works` answers
+    /// without making any. Worth it where works are asked for more than once.
+    ///
+    /// Returns `Memory` if allocation fails; what is kept is as before then.
+    pub fn keep_works(&mut self, alloc: Global) -> Result<(), Memory>
+        ensures { self.new ≡ self.old }
+    {
+        let works = grouped(alloc, &self.blocks, &self.homes)?;
+        self.works = Some(works);
+        Ok(())
     }
 
     /// Applies a batch under that number, and answers what came of each of its operations. Counts the match tests: at most the
@@ -120,6 +149,51 @@ impl Catalogue {
         Ok(found)
     }
 
+    /// Applies a batch under that number as `apply` does, and answers with the outcomes the delta of the editions before and after:
+    /// what the turn closed and what it opened. An edition that comes out equal is in neither list. Takes time and memory by what
+    /// the turn changes, and not by how many editions there are.
+    ///
+    /// Answers `Memory` where memory ran out; the catalogue is as before then.
+    pub fn apply_told<L: Ledger>(
+        &mut self,
+        alloc: Global,
+        number: u32,
+        batch: Batch,
+        steps: &mut Steps<L>,
+    ) -> Result<(Vec<Outcome>, Delta), Memory>
+        ensures appended { OnOk result (self.new ≡ self.old ++ record { pass = number; batch = batch } ∷ []) }
+        ensures outcomes { IfOk result (λ told. told.0.items ≡ outcomes batch.library (current self.old) batch.ops) }
+        ensures delta { IfOk result (λ told. (before after : List EditionModel) → AreEditionsOf self.old before
+            → AreEditionsOf self.new after → IsDelta before after told.1.closed.items told.1.opened.items) }
+        ensures kept { OnErr result (self.new ≡ self.old) }
+        ensures reach { (number : ℕ) → IsReachOf batch.library (current self.old) batch.ops number
+            → steps.new ≤ steps.old + number }
+    {
+        let (plan, found) = planned(
+            alloc,
+            &self.history,
+            &self.homes,
+            &self.blocks,
+            &batch,
+            steps,
+        )?;
+        let delta = delta_of(alloc, &self.blocks, &plan.change)?;
+        let entry = HistoryEntry {
+            pass: number,
+            batch,
+        };
+        install(
+            alloc,
+            &mut self.history,
+            &mut self.homes,
+            &mut self.blocks,
+            &mut self.works,
+            entry,
+            plan,
+        )?;
+        Ok((found, delta))
+    }
+
     /// Applies a batch whose loads are resolved among themselves, under that number, and answers what came of each of its
     /// operations, as `apply` does. The records that the batch names are withdrawn, and then what its loads come to is inserted.
     /// Counts the match tests: at most the reach of the parts, also where it answers `Memory`.
@@ -159,7 +233,7 @@ impl Catalogue {
         first_named(&self.blocks, self.homes.range(..))
     }
 
-    /// The first edition whose least contributor is behind that id: None exactly where there is none. Takes no memory.
+    /// The first edition whose least contributor is after that id: None exactly where there is none. Takes no memory.
     pub fn after(&self, id: &RecordId) -> Option<&Edition>
         ensures { (all : List EditionModel) × AreEditionsOf self.now all × (option_copied result ≡ first_behind all id.now) }
     {
@@ -181,7 +255,7 @@ impl Catalogue {
     /// The editions that have the index key, in order of their least contributors. It is looked up, so it takes time by the number
     /// of editions that it answers, and not by how many there are.
     ///
-    /// Answers `Memory` where memory ran out.
+    /// Returns `Memory` if allocation fails.
     pub fn with_key(&self, alloc: Global, key: &FeatureKey) -> Result<Vec<&Edition>, Memory>
         ensures { IfOk result (λ found. (all : List EditionModel) × AreEditionsOf self.now all
             × (map (λ e. e.now) found.items ≡ filter (has_key key.now) all)) }
@@ -213,11 +287,31 @@ impl Catalogue {
         self.homes.len() as u64
     }
 
-    /// The works of the editions: under each work key, by their least contributors, the editions that have it. Takes no memory.
-    pub fn works(&self) -> &Works
-        ensures { (all : List EditionModel) × AreEditionsOf self.now all × (result.now.works ≡ works_of (work_pairs all)) }
+    /// The works of the editions: under each work key, by their least contributors, the editions that have it. Where they are
+    /// kept it takes no memory, and else the time and memory of making them.
+    ///
+    /// Returns `Memory` if allocation fails.
+    pub fn works(&self, alloc: Global) -> Result<Grouping<'_>, Memory>
+        ensures { (all : List EditionModel) × AreEditionsOf self.now all
+            × IfOk result (λ grouping. works_in grouping ≡ works_of (work_pairs all)) }
     {
-        &self.works
+        match &self.works {
+            Some(works) => Ok(Grouping::Kept(works)),
+            None => match grouped(alloc, &self.blocks, &self.homes) {
+                Ok(made) => Ok(Grouping::Made(made)),
+                Err(Memory) => Err(Memory),
+            },
+        }
+    }
+
+    /// How many works the editions make. Costs what `works` does.
+    ///
+    /// Returns `Memory` if allocation fails.
+    pub fn work_count(&self, alloc: Global) -> Result<u64, Memory>
+        ensures { IfOk result (λ count. (all : List EditionModel) × AreEditionsOf self.now all
+            × (count ≡ length (works_of (work_pairs all)))) }
+    {
+        Ok(self.works(alloc)?.works().count())
     }
 
     /// How many turns the history has. Takes no memory.

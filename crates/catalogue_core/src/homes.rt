@@ -21,7 +21,7 @@ const BLANK: Home = Home {
     block: 0,
 };
 
-/// Copies of the ids that the plan lets stand. Memory where it runs out.
+/// Copies of the ids that the plan lets stand. Returns `Memory` if allocation fails.
 pub fn standing(
     alloc: Global,
     touched: &BTreeMap<RecordId, Option<Place>>,

@@ -1,44 +1,38 @@
 //! A plan takes effect.
 //!
-//! All memory is taken first: for the works and the blocks, for one turn more in the history, and last for ids that are new.
+//! All memory is taken first: for the works, where they are kept, and the blocks, for one turn more in the history, and last for ids that are new.
 //! Where it runs out the catalogue is as before. Then everything is installed, which wants no memory and is not refused.
 ghost use Rattle.std.specs.Prelude.{◌≡◌, ◌++◌, ◌∷◌, [], IfOk, OnOk, OnErr};
 ghost use Rattle.swoosh_resolver.specs.Tables.{values_of};
-ghost use Rattle.catalogue_editions.specs.EditionKeys.{work_key_of, work_pairs};
+ghost use Rattle.std.specs.Option.{option_map};
+ghost use Rattle.work_clusters.specs.Room.{HasRoom};
+ghost use Rattle.work_clusters.specs.Works.{changed};
+ghost use Rattle.catalogue_editions.specs.EditionKeys.{work_pairs};
 ghost use Rattle.catalogue_core.specs.ClosedKeys.{closed_pairs};
+ghost use Rattle.catalogue_core.specs.Grouping.{HasRoomFor, kept_works, regrouped};
 ghost use Rattle.catalogue_core.specs.Histories.{after_batch, current};
-ghost use Rattle.catalogue_editions.specs.Ids.{least};
 ghost use Rattle.catalogue_core.specs.Keeping.{batches};
 ghost use Rattle.catalogue_core.specs.Kept.{IsKept};
 ghost use Rattle.catalogue_core.specs.Plans.{IsPlanned};
 
+use crate::grouping::work_pair;
 use crate::history_entry::HistoryEntry;
 use crate::home::Home;
 use crate::homes::{admit, house_all, move_all, standing};
 use crate::plan::Plan;
 use catalogue_editions::edition::Edition;
-use catalogue_editions::work_key::work_key_of;
 use std::alloc::Global;
 use std::collections::BTreeMap;
 use swoosh_resolver::blocks::Blocks;
 use swoosh_resolver::change::Change;
 use swoosh_resolver::keyed::Keyed;
 use union_base::bytes::Bytes;
-use union_base::copied::Copied;
 use union_base::memory::Memory;
 use union_base::record_id::RecordId;
 use work_clusters::change::WorkChange;
 use work_clusters::works::Works;
 
-/// The work key of the edition, with a copy of its least contributor. Memory where it runs out.
-fn work_pair(alloc: Global, edition: &Edition) -> Result<(Bytes, RecordId), Memory>
-    ensures { IfOk result (λ pair. pair ≡ (work_key_of edition.now, least edition.now)) }
-{
-    let key = work_key_of(alloc, edition)?;
-    Ok((key, edition.least().copied(alloc)?))
-}
-
-/// The work keys of the blocks under the numbers, each with its edition's least contributor. Memory where it runs out.
+/// The work keys of the blocks under the numbers, each with its edition's least contributor. Returns `Memory` if allocation fails.
 fn closed_pairs(
     alloc: Global,
     blocks: &Blocks<Edition>,
@@ -55,7 +49,7 @@ fn closed_pairs(
     Ok(pairs)
 }
 
-/// The work keys of the opened blocks, each with its edition's least contributor. Memory where it runs out.
+/// The work keys of the opened blocks, each with its edition's least contributor. Returns `Memory` if allocation fails.
 fn opened_pairs(alloc: Global, opened: &[Keyed<Edition>]) -> Result<Vec<(Bytes, RecordId)>, Memory>
     ensures { IfOk result (λ pairs. pairs.items ≡ work_pairs (values_of opened.now)) }
 {
@@ -66,19 +60,55 @@ fn opened_pairs(alloc: Global, opened: &[Keyed<Edition>]) -> Result<Vec<(Bytes, 
     Ok(pairs)
 }
 
-/// The change of the works that goes with one of the blocks. Memory where it runs out.
-fn regrouped(
+/// The change of the works that goes with one of the blocks, with room for it. Memory where it runs out; the works stay.
+fn make_room_in(
     alloc: Global,
     blocks: &Blocks<Edition>,
-    works: &Works,
+    works: &mut Works,
     change: &Change<Edition>,
 ) -> Result<WorkChange, Memory>
-    ensures gone { IfOk result (λ works. works.gone ≡ closed_pairs blocks.now.blocks change.now.closed.items) }
-    ensures come { IfOk result (λ works. works.come ≡ work_pairs (values_of change.now.opened.items)) }
+    ensures same { works.new.works ≡ works.old.works }
+    ensures gone { IfOk result (λ c. c.gone ≡ closed_pairs blocks.now.blocks change.now.closed.items) }
+    ensures come { IfOk result (λ c. c.come ≡ work_pairs (values_of change.now.opened.items)) }
+    ensures room { IfOk result (λ c. HasRoom works.new.room c.come) }
 {
     let gone = closed_pairs(alloc, blocks, change.closed.as_slice())?;
     let come = opened_pairs(alloc, change.opened.as_slice())?;
-    works.plan(alloc, gone, come)
+    let regrouped = works.plan(alloc, gone, come)?;
+    works.make_room(alloc, &regrouped)?;
+    Ok(regrouped)
+}
+
+/// The same where works are kept, and nothing where they are not.
+fn make_room_in_kept(
+    alloc: Global,
+    blocks: &Blocks<Edition>,
+    works: &mut Option<Works>,
+    change: &Change<Edition>,
+) -> Result<Option<WorkChange>, Memory>
+    ensures same { kept_works works.new ≡ kept_works works.old }
+    ensures room { IfOk result (λ c. HasRoomFor works.new c) }
+    ensures change { IfOk result (λ c. regrouped (kept_works works.old) c
+        ≡ option_map (λ ws. changed ws (closed_pairs blocks.now.blocks change.now.closed.items)
+        (work_pairs (values_of change.now.opened.items))) (kept_works works.old)) }
+{
+    match works {
+        Some(works) => {
+            let regrouped = make_room_in(alloc, blocks, works, change)?;
+            Ok(Some(regrouped))
+        }
+        None => Ok(None),
+    }
+}
+
+/// Makes the works that are kept those after the change. Takes no memory.
+fn regroup(works: &mut Option<Works>, change: Option<WorkChange>)
+    requires { HasRoomFor works.old change }
+    ensures { kept_works works.new ≡ regrouped (kept_works works.old) change }
+{
+    if let (Some(works), Some(change)) = (works, change) {
+        works.install(change);
+    }
 }
 
 /// Appends the turn to the history, and makes the homes, the blocks and the works those of the plan. Memory where it runs out;
@@ -88,21 +118,20 @@ pub fn install(
     history: &mut Vec<HistoryEntry>,
     homes: &mut BTreeMap<RecordId, Home>,
     blocks: &mut Blocks<Edition>,
-    works: &mut Works,
+    works: &mut Option<Works>,
     entry: HistoryEntry,
     plan: Plan,
 ) -> Result<(), Memory>
-    requires kept { IsKept history.old.items homes.old.entries blocks.old.blocks works.old.works }
+    requires kept { IsKept history.old.items homes.old.entries blocks.old.blocks (kept_works works.old) }
     requires planned { IsPlanned (batches history.old.items ++ entry.batch ∷ []) homes.old.entries blocks.old.blocks
         (after_batch (current history.old.items) entry.batch) plan.change.closed.items plan.change.opened.items
         plan.touched.entries }
-    ensures kept { IsKept history.new.items homes.new.entries blocks.new.blocks works.new.works }
+    ensures kept { IsKept history.new.items homes.new.entries blocks.new.blocks (kept_works works.new) }
     ensures appended { OnOk result (history.new.items ≡ history.old.items ++ entry ∷ []) }
     ensures same { OnErr result (history.new.items ≡ history.old.items) }
 {
     let ids = standing(alloc, &plan.touched)?;
-    let regrouped = regrouped(alloc, blocks, works, &plan.change)?;
-    works.make_room(alloc, &regrouped)?;
+    let regrouped = make_room_in_kept(alloc, blocks, works, &plan.change)?;
     let numbers = blocks.make_room(alloc, &plan.change)?;
     history.reserve(1)?;
     admit(alloc, homes, ids.as_slice())?;
@@ -110,7 +139,7 @@ pub fn install(
     move_all(homes, &touched);
     house_all(homes, change.opened.as_slice(), numbers.as_slice());
     blocks.install(change);
-    works.install(regrouped);
+    regroup(works, regrouped);
     let _ = history.push(entry);
     Ok(())
 }

@@ -1,7 +1,8 @@
 //! The catalogue, an object that changes: the editions of the records that are current, and their works.
 //!
 //! A [`catalogue::Catalogue`] takes batches of loads and withdrawals, and answers the editions of the records now current. What
-//! an edition and a batch are stands in `catalogue_editions`, whose modules are handed on here.
+//! an edition and a batch are stands in `catalogue_editions`, and what a turn closes and opens in `edition_blocks`; their modules
+//! are handed on here.
 //!
 //! Guarantee: whatever was loaded, corrected and withdrawn, the editions of a catalogue are those to which its current records
 //! resolve, from scratch.
@@ -13,9 +14,11 @@
 pub use catalogue_editions::{
     batch, edition, net, op, ordering, outcome, prepared, records, work_key,
 };
+pub use edition_blocks::delta;
 
 mod by_key;
 pub mod catalogue;
+pub mod grouping;
 pub mod history_entry;
 mod home;
 mod homes;

@@ -41,7 +41,7 @@ use union_base::library_code::LibraryCode;
 use union_base::memory::Memory;
 use union_base::record_id::RecordId;
 
-/// The id of the library's record that the operation loads or withdraws. Memory where it runs out.
+/// The id of the library's record that the operation loads or withdraws. Returns `Memory` if allocation fails.
 fn named(alloc: Global, library: &LibraryCode, op: &Op) -> Result<RecordId, Memory>
     ensures { IfOk result (λ id. id ≡ id_of library.now op.now) }
 {
@@ -54,7 +54,7 @@ fn named(alloc: Global, library: &LibraryCode, op: &Op) -> Result<RecordId, Memo
     }
 }
 
-/// The plan without the record of that id, where it is current by it. Counts the match tests. Memory where it runs out.
+/// The plan without the record of that id, where it is current by it. Counts the match tests. Returns `Memory` if allocation fails.
 fn withdraw_current<L: Ledger>(
     alloc: Global,
     history: &[HistoryEntry],
@@ -85,7 +85,7 @@ fn withdraw_current<L: Ledger>(
     }
 }
 
-/// The change with the parts inserted, one after the other. Counts the match tests. Memory where it runs out.
+/// The change with the parts inserted, one after the other. Counts the match tests. Returns `Memory` if allocation fails.
 fn insert_parts<L: Ledger>(
     alloc: Global,
     blocks: &Blocks<Edition>,
@@ -110,7 +110,7 @@ fn insert_parts<L: Ledger>(
 }
 
 /// A plan of the turn of this batch, by which the records that the batch names are no longer current. Counts the match tests.
-/// Memory where it runs out.
+/// Returns `Memory` if allocation fails.
 fn without_named<L: Ledger>(
     alloc: Global,
     history: &[HistoryEntry],
@@ -180,7 +180,7 @@ fn touch_op(
 }
 
 /// Where the records are found that the batch, as the next turn, loads or withdraws, and what came of each of its operations.
-/// Memory where it runs out.
+/// Returns `Memory` if allocation fails.
 fn touch_all(
     alloc: Global,
     history: &[HistoryEntry],
@@ -205,7 +205,7 @@ fn touch_all(
 }
 
 /// The plan of a turn of this batch, for a catalogue with that history, those homes and those blocks, where the batch's loads
-/// come to these parts; and what came of each of its operations. Counts the match tests. Memory where it runs out.
+/// come to these parts; and what came of each of its operations. Counts the match tests. Returns `Memory` if allocation fails.
 pub fn planned_parts<L: Ledger>(
     alloc: Global,
     history: &[HistoryEntry],

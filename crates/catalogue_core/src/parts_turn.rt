@@ -1,6 +1,7 @@
 //! A turn whose loads are resolved among themselves already.
 ghost use Rattle.std.specs.Prelude.{◌≡◌, ◌≤◌, ◌+◌, ◌++◌, ◌∷◌, [], ℕ, IfOk, OnOk, OnErr};
 ghost use Rattle.merge_laws.specs.Resolution.{IsResolution};
+ghost use Rattle.catalogue_core.specs.Grouping.{kept_works};
 ghost use Rattle.catalogue_core.specs.Histories.{current, outcomes};
 ghost use Rattle.catalogue_editions.specs.Joining.{join};
 ghost use Rattle.catalogue_core.specs.Kept.{IsKept};
@@ -33,15 +34,15 @@ pub fn apply_parts<L: Ledger>(
     history: &mut Vec<HistoryEntry>,
     homes: &mut BTreeMap<RecordId, Home>,
     blocks: &mut Blocks<Edition>,
-    works: &mut Works,
+    works: &mut Option<Works>,
     number: u32,
     batch: Batch,
     parts: Vec<Edition>,
     steps: &mut Steps<L>,
 ) -> Result<Vec<Outcome>, Memory>
-    requires kept { IsKept history.old.items homes.old.entries blocks.old.blocks works.old.works }
+    requires kept { IsKept history.old.items homes.old.entries blocks.old.blocks (kept_works works.old) }
     requires parts { IsResolution edition_match join (net batch) parts.items }
-    ensures kept { IsKept history.new.items homes.new.entries blocks.new.blocks works.new.works }
+    ensures kept { IsKept history.new.items homes.new.entries blocks.new.blocks (kept_works works.new) }
     ensures appended { OnOk result (history.new.items ≡ history.old.items ++ record { pass = number; batch = batch } ∷ []) }
     ensures outcomes { IfOk result (λ found. found.items ≡ outcomes batch.library (current history.old.items) batch.ops) }
     ensures same { OnErr result (history.new.items ≡ history.old.items) }

@@ -79,7 +79,7 @@ fn base_beside<'a>(
     loaded_in(history, batch, place)
 }
 
-/// Copies of the records under the ids, but of the one that goes. Memory where it runs out.
+/// Copies of the records under the ids, but of the one that goes. Returns `Memory` if allocation fails.
 fn bases_beside(
     alloc: Global,
     history: &[HistoryEntry],
@@ -170,7 +170,7 @@ fn holder_at(
 }
 
 /// Where in the view of the plan the edition stands that the record of that id is a contributor of, and copies of its other
-/// contributors. The record is current by the plan. Memory where it runs out.
+/// contributors. The record is current by the plan. Returns `Memory` if allocation fails.
 fn left_behind(
     alloc: Global,
     history: &[HistoryEntry],
@@ -199,7 +199,7 @@ fn left_behind(
 }
 
 /// The plan without the record of that id, which is current by it: the edition that has it is taken apart, and what its other
-/// records come to takes its place. Counts the match tests. Memory where it runs out.
+/// records come to takes its place. Counts the match tests. Returns `Memory` if allocation fails.
 pub fn withdraw<L: Ledger>(
     alloc: Global,
     history: &[HistoryEntry],
@@ -234,7 +234,7 @@ pub fn withdraw<L: Ledger>(
 }
 
 /// The plan with the edition of one record inserted, which is loaded at that place; no record of its id is current by the plan.
-/// Counts the match tests. Memory where it runs out.
+/// Counts the match tests. Returns `Memory` if allocation fails.
 fn insert<L: Ledger>(
     alloc: Global,
     history: &[HistoryEntry],
@@ -271,7 +271,7 @@ fn insert<L: Ledger>(
 }
 
 /// The plan after the load of an edition of one record, which stands at that place, and what came of it. Counts the match
-/// tests. Memory where it runs out.
+/// tests. Returns `Memory` if allocation fails.
 fn plan_load<L: Ledger>(
     alloc: Global,
     history: &[HistoryEntry],
@@ -319,7 +319,7 @@ fn plan_load<L: Ledger>(
 }
 
 /// The plan after the withdrawal of the record that the batch's library has under the control number, and what came of it.
-/// Counts the match tests. Memory where it runs out.
+/// Counts the match tests. Returns `Memory` if allocation fails.
 fn plan_withdrawal<L: Ledger>(
     alloc: Global,
     history: &[HistoryEntry],

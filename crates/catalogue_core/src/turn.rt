@@ -30,7 +30,7 @@ use union_base::memory::Memory;
 use union_base::record_id::RecordId;
 
 /// The plan of a turn of this batch, for a catalogue with that history, those homes and those blocks, and what came of each of
-/// its operations. Counts the match tests. Memory where it runs out.
+/// its operations. Counts the match tests. Returns `Memory` if allocation fails.
 pub fn planned<L: Ledger>(
     alloc: Global,
     history: &[HistoryEntry],

@@ -14,7 +14,7 @@ use swoosh_resolver::blocks::Blocks;
 use union_base::record_id::RecordId;
 
 /// The block of the home, where its least contributor is the id.
-fn named<'a>(blocks: &'a Blocks<Edition>, id: &RecordId, home: Home) -> Option<&'a Edition>
+pub fn named<'a>(blocks: &'a Blocks<Edition>, id: &RecordId, home: Home) -> Option<&'a Edition>
     ensures { option_copied result ≡ named blocks.now.blocks (id.now, home) }
 {
     let edition = blocks.block(home.block)?;

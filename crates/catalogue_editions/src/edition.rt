@@ -17,7 +17,7 @@ use union_base::memory::Memory;
 /// each contributor is a library's code and a control number of 1 to 64 printing ASCII characters; the codes are those of
 /// a new record in UTF-8, with the 40 bytes of a field 008; each slot has a field of its tag; no united field has the tag
 /// of a slot, or one of 001, 003, 008, 991 and 993; and a frame can store each field, whose texts are UTF-8.
-#[derive(Debug, Drop)]
+#[derive(Debug)]
 pub struct EditionParts {
     pub features: Features,
     pub content: Content,
@@ -25,11 +25,28 @@ pub struct EditionParts {
     pub ghost sound: { IsTrue (is_sound content) },
 }
 
+/// A drop of its own, as that of `Bytes`.
+impl Drop for EditionParts {
+    fn drop(self) {
+        let EditionParts {
+            features: _,
+            content: _,
+        } = self;
+    }
+}
+
 /// What one or several records that describe one edition come to, which contracts see as its parts. All owners of an edition
 /// share its parts, which nothing changes once they were made, so one more owner takes no memory.
-#[derive(Debug, Drop)]
+#[derive(Debug)]
 pub struct Edition {
     parts: Arc<EditionParts, Global>,
+}
+
+/// A drop of its own, as that of `Bytes`.
+impl Drop for Edition {
+    fn drop(self) {
+        let Edition { parts: _ } = self;
+    }
 }
 
 impl Model for Edition {
@@ -44,7 +61,7 @@ impl Model for Edition {
 impl Edition {
     /// The edition of those parts.
     ///
-    /// Answers `Memory` where memory ran out.
+    /// Returns `Memory` if allocation fails.
     pub fn of(alloc: Global, parts: EditionParts) -> Result<Edition, Memory>
         ensures { IfOk result (λ edition. edition ≡ parts) }
     {

@@ -17,7 +17,7 @@ use union_base::record_id::RecordId;
 /// For each control number whose last operation in the batch is a load, a copy of the edition of that load, in order of the
 /// ids.
 ///
-/// Answers `Memory` where memory ran out.
+/// Returns `Memory` if allocation fails.
 pub fn net(alloc: Global, batch: &Batch) -> Result<Vec<Edition>, Memory>
     ensures { IfOk result (λ editions. editions.items ≡ net batch.now) }
 {
@@ -29,7 +29,7 @@ pub fn net(alloc: Global, batch: &Batch) -> Result<Vec<Edition>, Memory>
     Ok(editions)
 }
 
-/// The same under the ids. Memory where it runs out.
+/// The same under the ids. Returns `Memory` if allocation fails.
 fn left_by(alloc: Global, batch: &Batch) -> Result<BTreeMap<RecordId, Edition>, Memory>
     ensures { IfOk result (λ left. left.entries ≡ after_batch [] batch.now) }
 {
@@ -40,7 +40,7 @@ fn left_by(alloc: Global, batch: &Batch) -> Result<BTreeMap<RecordId, Edition>, 
     Ok(left)
 }
 
-/// Lets the editions under their ids follow an operation of the library. Memory where it runs out.
+/// Lets the editions under their ids follow an operation of the library. Returns `Memory` if allocation fails.
 fn follow(
     alloc: Global,
     editions: &mut BTreeMap<RecordId, Edition>,

@@ -10,7 +10,7 @@ use union_base::memory::Memory;
 /// The editions in order of their least contributors. Where no two of them match, as in a resolution, these differ, so there
 /// is one such order (`laws::sorted_resolution_is_ordered`).
 ///
-/// Answers `Memory` where memory ran out.
+/// Returns `Memory` if allocation fails.
 pub fn sorted_by_least(mut editions: Vec<Edition>) -> Result<Vec<Edition>, Memory>
     ensures same { IfOk result (λ sorted. IsPermutation editions.items sorted.items) }
     ensures ascending { IfOk result (λ sorted. IsSorted edition_cmp sorted.items) }

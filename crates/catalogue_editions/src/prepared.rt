@@ -9,10 +9,16 @@ use std::marker::Model;
 
 /// A batch, and the editions to which the records that it leaves of its loads resolve among themselves, in order of the least
 /// contributors. Contracts see it as the batch, by which the editions are determined.
-#[derive(Drop)]
 pub struct Prepared {
     batch: Batch,
     parts: Vec<Edition>,
+}
+
+/// A drop of its own, as that of `Bytes`.
+impl Drop for Prepared {
+    fn drop(self) {
+        let Prepared { batch: _, parts: _ } = self;
+    }
 }
 
 impl Model for Prepared {

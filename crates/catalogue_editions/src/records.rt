@@ -25,7 +25,7 @@ use union_base::memory::Memory;
 /// The edition of a record that the library loads: the features and the content of that record. Each accepted record that
 /// is no withdrawal can be loaded, and a frame can store its fields (`laws::accepted_can_be_loaded`).
 ///
-/// Answers `Memory` where memory ran out.
+/// Returns `Memory` if allocation fails.
 pub fn edition_of(alloc: Global, library: &LibraryCode, rec: Record) -> Result<Edition, Memory>
     requires loadable { IsTrue (is_loadable rec) }
     requires short { IsTrue (list_all is_short rec.fields) }
@@ -43,7 +43,7 @@ pub fn edition_of(alloc: Global, library: &LibraryCode, rec: Record) -> Result<E
 
 /// The record's control number: its field 001 without the blanks at its ends (MARC 21, 001), empty where there is none.
 ///
-/// Answers `Memory` where memory ran out.
+/// Returns `Memory` if allocation fails.
 pub fn control_of(alloc: Global, rec: &Record) -> Result<Bytes, Memory>
     ensures { IfOk result (λ number. number ≡ control_number rec.now) }
 {
@@ -53,7 +53,7 @@ pub fn control_of(alloc: Global, rec: &Record) -> Result<Bytes, Memory>
 /// What the library's record asks for: the withdrawal of the record under its control number where its status is `d`, and
 /// else the load of its edition.
 ///
-/// Answers `Memory` where memory ran out.
+/// Returns `Memory` if allocation fails.
 pub fn op_of(alloc: Global, library: &LibraryCode, rec: Record) -> Result<Op, Memory>
     requires { IsAccepted rec }
     ensures value { IfOk result (λ done. op library.now rec ≡ Some done) }

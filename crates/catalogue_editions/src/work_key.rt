@@ -22,7 +22,7 @@ use workset_keys::work_key::work_key;
 /// main entry, its 240, its 245, its added entries 700, 710 and 711, and its least contributor. It has none of 0x1D, 0x1E
 /// and 0x1F.
 ///
-/// Answers `Memory` where memory ran out.
+/// Returns `Memory` if allocation fails.
 pub fn work_key_of(alloc: Global, edition: &Edition) -> Result<Bytes, Memory>
     ensures value { IfOk result (λ key. key ≡ work_key_of edition.now) }
     ensures text { IfOk result (λ key. IsTrue (is_text key)) }

@@ -84,7 +84,7 @@ parts-split c key =
     regrouped : (a b s k d u : List Field) → (a ++ (b ++ (s ++ (k ++ d)))) ++ u ≡ (a ++ (b ++ (s ++ k))) ++ (d ++ u)
     regrouped a b s k d u = simp append_assoc
 
--- what lists weigh one behind the other
+-- what lists weigh one after the other
 weights : (w : Field → ℕ) (a b s5 e s10 s40 s1 s24 l k : List Field)
     → weighed w (a ++ (b ++ ((s5 ++ (e ++ (s10 ++ (s40 ++ (s1 ++ (s24 ++ l)))))) ++ k)))
     ≡ weighed w a + (weighed w b + ((weighed w s5 + (weighed w e + (weighed w s10 + (weighed w s40 + (weighed w s1 + (weighed w s24 + weighed w l)))))) + weighed w k))

@@ -442,3 +442,7 @@ exported-accepted c id ids key sound first unicode few = accepted c id ids key s
 
 pub exported-numbered_too_long : ExportedIsNumberedTooLong
 exported-numbered_too_long c id ids key sound first unicode many = refused c id ids key sound first unicode many
+
+pub exported-utf8 : (c : Content) (id : RecordId) (ids : List RecordId) (key : List ℕ) → is_sound c ≡ true → c.contributors ≡ id ∷ ids
+    → is_utf8 key ≡ true → list_all is_utf8_field (exported c key).fields ≡ true
+exported-utf8 c id ids key sound first unicode = texts-utf8 c id ids key sound first unicode

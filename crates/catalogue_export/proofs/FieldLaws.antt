@@ -87,7 +87,7 @@ is_text-front most text h =
       | false ↦ is_text-take (last_boundary text most) text h
     ]
 
--- what stands behind a data field's tag has a subfield, and each is one
+-- what stands after a data field's tag has a subfield, and each is one
 pub are_subfields-data : (tag : List ℕ) (ind1 ind2 : ℕ) (subfields : List Subfield) → is_field tag (Data ind1 ind2 subfields) ≡ true
     → (1 ≤ length subfields) × (list_all is_subfield subfields ≡ true)
 are_subfields-data tag ind1 ind2 subfields h =

@@ -23,10 +23,10 @@ use Rattle.catalogue_core.specs.Ids.{first_id, least}
 use Rattle.catalogue_core.specs.EditionKeys.{is_added_entry, field_in, work_key_of}
 use Rattle.catalogue_editions.specs.declared.edition.Edition.{Edition}
 use Rattle.catalogue_export.specs.Editions.{edition_text}
-use Rattle.catalogue_export.specs.ExportedLaws.{EditionIsAccepted, EditionIsNumberedTooLong}
+use Rattle.catalogue_export.specs.ExportedLaws.{EditionIsAccepted, EditionIsNumberedTooLong, EditionIsUtf8}
 use Rattle.catalogue_export.proofs.SoundLaws.{sound-ids}
 use Rattle.catalogue_export.proofs.KeyLetters.{joined_words-all, utf8-form}
-use Rattle.catalogue_export.proofs.ExportedProof.{low_utf8, own_name-utf8, exported-unbroken, exported-numbered_too_long}
+use Rattle.catalogue_export.proofs.ExportedProof.{low_utf8, own_name-utf8, exported-unbroken, exported-numbered_too_long, exported-utf8}
 
 utf8-either : (b : Bool) (x y : List ℕ) → is_utf8 x ≡ true → is_utf8 y ≡ true → is_utf8 (cond b x y) ≡ true
 utf8-either true x y p q = p
@@ -126,7 +126,7 @@ first-is_id : (ids : List RecordId) → nat_le 1 (length ids) ≡ true → list_
 first-is_id [] some all = cc
 first-is_id (id ∷ ids) some all = (both_true (is_id id) (list_all is_id ids) all).0
 
--- the contributors behind the first
+-- the contributors after the first
 abbrev later_ids : List RecordId → List RecordId
 later_ids [] = []
 later_ids (id ∷ ids) = ids
@@ -156,3 +156,6 @@ pub edition-numbered_too_long : EditionIsNumberedTooLong
 unfolding edition_text
 edition-numbered_too_long e many =
     exported-numbered_too_long e.content (least e) (later_ids e.content.contributors) (work_key_of e) e.sound (contributors e) (utf8-work_key_of e) many
+
+pub edition-utf8 : EditionIsUtf8
+edition-utf8 e = exported-utf8 e.content (least e) (later_ids e.content.contributors) (work_key_of e) e.sound (contributors e) (utf8-work_key_of e)

@@ -14,5 +14,5 @@ pub mod ExportedProof
 pub mod KeyLetters
 pub mod KeyUtf8
 pub mod WritingLaws
-mod AroundLaws
+pub mod AroundLaws
 mod WorkWalk

@@ -30,7 +30,7 @@ before-kept : (b : ℕ) (t : List ℕ) → 1 ≤ length t → before_trimmed b t
 before-kept b [] some = absurd (omega arith)
 before-kept b (c ∷ t) some = refl
 
--- a point stays, and what is in front of it
+-- a point stays, and what is before it
 behind-point : (t : List ℕ) → before_trimmed 0x2E t ≡ 0x2E ∷ t
 behind-point [] = refl
 behind-point (c ∷ t) = refl

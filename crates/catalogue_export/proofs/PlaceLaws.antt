@@ -62,7 +62,7 @@ below_001 (a ∷ b ∷ c ∷ d ∷ rest) is =
     let size : length (a ∷ b ∷ c ∷ d ∷ rest) ≡ 3 = eqb-true _ _ (and_parts (length (a ∷ b ∷ c ∷ d ∷ rest) == 3) (list_all is_tag_byte (a ∷ b ∷ c ∷ d ∷ rest)) is).0 in
     absurd (omega arith)
 
--- how many of the fields at the front of a list are lower than that one
+-- how many of the fields at the beginning of a list are lower than that one
 abbrev pub lead : Field → List Field → ℕ
 lead f [] = 0
 lead f (g ∷ fields) = (if is_lower g f then suc (lead f fields) else 0)
@@ -93,7 +93,7 @@ module _ (tag bytes : List ℕ) where
       let here : is_same e.tag tag ≡ true = ap (λ t. is_same t tag) are.0.tag ∙ is in
       rw here (ap (λ ps. i ∷ ps) (no_places (suc i) entries fields are.1 none))
 
-  -- the only field with its tag stands behind those that are lower
+  -- the only field with its tag stands after those that are lower
   pub place-put : (i : ℕ) (entries : List Entry) (f : Field) (fields : List Field) → is_under tag f ≡ true → counted (is_under tag) fields ≡ 0
       → AreEntriesOf bytes entries (put f fields) → places tag i entries ≡ (i + lead f fields) ∷ []
   place-put i entries f [] is none are = this_entry i entries f [] are is refl ∙ ap (λ n. n ∷ []) (same i)

@@ -16,7 +16,7 @@ module _ {X : Type 0} (lt : X → X → Bool) where
   Rising [] = Unit {0}
   Rising (x ∷ xs) = Floor x xs × Rising xs
 
-  -- a value put in front of the first one that is no less
+  -- a value put before the first one that is no less
   abbrev pub put_before : X → List X → List X
   put_before x [] = x ∷ []
   put_before x (y ∷ ys) = (if lt y x then y ∷ put_before x ys else x ∷ y ∷ ys)

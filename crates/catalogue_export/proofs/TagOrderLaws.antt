@@ -40,7 +40,7 @@ pub in_tag_order-all : (p : Field → Bool) (fields : List Field) → list_all p
 in_tag_order-all p [] = refl
 in_tag_order-all p (f ∷ fields) = put-all p f (in_tag_order fields) ∙ ap (λ b. p f && b) (in_tag_order-all p fields)
 
--- in either order they are as many, and spelled one behind the other they have as many bytes
+-- in either order they are as many, and spelled one after the other they have as many bytes
 put-size : (f : Field) (fields : List Field) → length (put f fields) ≡ suc (length fields)
 put-size f [] = refl
 put-size f (g ∷ fields) =

@@ -21,7 +21,7 @@ Appends-nothing (Some bytes) = sym (append-nil bytes)
 pub written-none : (written : Option (List ℕ)) → IsWrittenTo [] [] written written
 written-none written = record { front = []; split = refl; grown = Appends-nothing written }
 
--- more text was pending, and a front of it was written
+-- more text was pending, and a prefix of it was written
 pub written-more : (old mid new : Option (List ℕ)) (text pending more rest : List ℕ) → IsWrittenTo text pending old mid
     → IsWrittenTo (pending ++ more) rest mid new → IsWrittenTo (text ++ more) rest old new
 written-more old mid new text pending more rest a b = record {
@@ -30,7 +30,7 @@ written-more old mid new text pending more rest a b = record {
   grown = Appends-trans old mid new a.front b.front a.grown b.grown;
 }
 
--- a front of what was pending was written, and so a front of the whole text
+-- a prefix of what was pending was written, and so a prefix of the whole text
 pub front-more : (old mid new : Option (List ℕ)) (text pending more whole later : List ℕ) → IsWrittenTo text pending old mid
     → AppendsFront mid new (pending ++ more) → whole ≡ text ++ (more ++ later) → AppendsFront old new whole
 front-more old mid new text pending more whole later a b is =
@@ -65,7 +65,7 @@ pub moved-more : (old mid new : Option (List ℕ)) (text pending more rest : Lis
     → HasMoved (pending ++ more) rest (record { old = mid; new = new; before = before; after = after }) (Ok tt) → IsWrittenTo (text ++ more) rest old new
 moved-more old mid new text pending more rest before after so_far moved = written-more old mid new text pending more rest so_far moved.written
 
--- the rest was written, or a front of it
+-- the rest was written, or a prefix of it
 pub rest-written : (old mid new : Option (List ℕ)) (before middle after : ℕ) (text pending : List ℕ) (result : Result (Unit {0}) ExportFail)
     → IsWrittenTo text pending old mid → middle ≡ before
     → HasWritten pending (record { old = mid; new = new; before = middle; after = after }) result

@@ -11,7 +11,7 @@ use Rattle.catalogue_export.specs.Exported.{edition_bytes, left_out}
 unfoldable pub edition_text : Edition → List ℕ
 edition_text e = edition_bytes e.content (work_key_of e)
 
--- the export: the records of the editions, one behind the other
+-- the export: the records of the editions, one after the other
 abbrev pub export_text : List Edition → List ℕ
 export_text editions = flat_map edition_text editions
 

@@ -1,11 +1,13 @@
 -- Which rules the record that is shown of an edition keeps.
-use Rattle.std.specs.Prelude.{◌≡◌, ℕ, suc, ◌+◌, ◌<◌, ◌≤◌, IsTrue, List, ◌∷◌, length, codes, None, Some}
+use Rattle.std.specs.Prelude.{◌≡◌, ℕ, suc, ◌+◌, ◌<◌, ◌≤◌, true, IsTrue, List, ◌∷◌, length, codes, None, Some}
+use Rattle.std.specs.List.{list_all}
 use Rattle.std.specs.Str.{is_utf8}
 use Rattle.union_base.specs.declared.record_id.RecordId.{RecordId}
 use Rattle.iso2709_frame.specs.Frames.{IsWhole}
 use Rattle.iso2709_frame.specs.declared.cut.Cut.TheVariants.{Whole}
 use Rattle.marc_fields.specs.declared.marc_record.Record.{Record}
 use Rattle.marc_fields.specs.declared.rules.Rule.TheVariants.{ControlNumber}
+use Rattle.marc_parts.specs.Loads.{is_utf8_field}
 use Rattle.marc_parts.specs.Parts.{how_many, control_number}
 use Rattle.marc_parts.specs.Trimmed.{trim_end}
 use Rattle.marc_rules.specs.Accepted.{IsAccepted}
@@ -43,7 +45,7 @@ ExportedIsAccepted =
     (c : Content) (id : RecordId) (ids : List RecordId) (key : List ℕ) → IsTrue (is_sound c) → c.contributors ≡ id ∷ ids → IsTrue (is_utf8 key)
     → name_size id ≤ 63 → IsAccepted (exported c key)
 
--- where they have more, its 001 is too long, and that is the first rule that the bytes break: at the 001, which stands behind
+-- where they have more, its 001 is too long, and that is the first rule that the bytes break: at the 001, which stands after
 -- fields 000 alone
 abbrev pub ExportedIsNumberedTooLong : Type 0
 ExportedIsNumberedTooLong =
@@ -61,3 +63,7 @@ abbrev pub EditionIsNumberedTooLong : Type 0
 EditionIsNumberedTooLong =
     (e : Edition) → 63 < name_size (least e)
     → first_rule Whole (edition_text e) ≡ Some (record { rule = ControlNumber; place = suc (how_many (codes "000") (exported e.content (work_key_of e)).fields) })
+
+-- the texts of the record that is shown of an edition are UTF-8
+abbrev pub EditionIsUtf8 : Type 0
+EditionIsUtf8 = (e : Edition) → list_all is_utf8_field (exported e.content (work_key_of e)).fields ≡ true

@@ -8,7 +8,7 @@ use Rattle.union_base.specs.declared.field.Field.{Field}
 abbrev pub is_lower : Field → Field → Bool
 is_lower f g = is_lt (slice_cmp nat_cmp f.tag g.tag)
 
--- a field put in front of the first one whose tag is no less
+-- a field put before the first one whose tag is no less
 abbrev pub put : Field → List Field → List Field
 put f [] = f ∷ []
 put f (g ∷ fields) = (if is_lower g f then g ∷ put f fields else f ∷ g ∷ fields)

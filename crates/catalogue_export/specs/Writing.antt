@@ -14,20 +14,20 @@ pub record Output : Type 0 where
   pub before : ℕ
   pub after : ℕ
 
--- a front of the text was written, and this rest of it is still to be written
+-- a prefix of the text was written, and this rest of it is still to be written
 pub record IsWrittenTo (text rest : List ℕ) (old new : Option (List ℕ)) : Type 0 where
   pub front : List ℕ
   pub split : text ≡ front ++ rest
   pub grown : Appends old new front
 
--- the text was written but for this rest, or a front of it was; a write failed where that is answered, and none did at any
+-- the text was written but for this rest, or a prefix of it was; a write failed where that is answered, and none did at any
 -- other answer
 pub record HasMoved (text rest : List ℕ) (out : Output) (result : Result (Unit {0}) ExportFail) : Type 0 where
   pub written : MatchResult result (λ _. IsWrittenTo text rest out.old out.new) (λ _. AppendsFront out.old out.new text)
   pub failed : result ≡ Err WriteFault → Rose out.before out.after
   pub calm : result ≢ Err WriteFault → out.after ≡ out.before
 
--- the whole text was written, or a front of it; a write failed where that is answered, and none did at any other answer
+-- the whole text was written, or a prefix of it; a write failed where that is answered, and none did at any other answer
 pub record HasWritten (text : List ℕ) (out : Output) (result : Result (Unit {0}) ExportFail) : Type 0 where
   pub written : MatchResult result (λ _. Appends out.old out.new text) (λ _. AppendsFront out.old out.new text)
   pub failed : result ≡ Err WriteFault → Rose out.before out.after

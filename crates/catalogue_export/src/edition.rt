@@ -43,6 +43,22 @@ pub fn edition_bytes(
     append_content(alloc, edition.content(), key.bytes(), into)
 }
 
+/// The record that is shown of an edition under this work key, and how many of the edition's fields were left out of it: the record
+/// of which `edition_bytes` appends the bytes.
+///
+/// Returns `Memory` if allocation fails.
+pub fn edition_record(
+    alloc: Global,
+    edition: &Edition,
+    key: &Bytes,
+) -> Result<(Record, usize), Memory>
+    requires { IsTrue (is_text key.now) }
+    ensures value { IfOk result (λ r. r.0 ≡ exported edition.now.content key.now) }
+    ensures left { IfOk result (λ r. r.1 ≡ left_out edition.now.content key.now) }
+{
+    exported(alloc, edition.content(), key.bytes())
+}
+
 /// Appends the record that is shown of an edition with this work key, and answers how many of its fields were left out of it,
 /// since a frame has no room for more.
 fn append_content(
@@ -84,7 +100,7 @@ fn exported(alloc: Global, content: &Content, key: &[u8]) -> Result<(Record, usi
     Ok((rec, all - shown))
 }
 
-/// So many fields of the two lists, one behind the other.
+/// So many fields of the two lists, one after the other.
 fn front_of(
     alloc: Global,
     mut own: Vec<Field>,

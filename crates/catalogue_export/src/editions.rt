@@ -10,10 +10,10 @@ use union_base::copied::Copied;
 use union_base::memory::Memory;
 use union_base::record_id::RecordId;
 
-/// Appends the records of the editions, one behind the other, each under its own work key; and appends to `left`, for each
+/// Appends the records of the editions, one after the other, each under its own work key; and appends to `left`, for each
 /// edition of which fields were left out since a frame has no room for more, its least contributor and their number.
 ///
-/// Answers `Memory` where memory ran out.
+/// Returns `Memory` if allocation fails.
 pub fn append_editions(
     alloc: Global,
     editions: &[Edition],

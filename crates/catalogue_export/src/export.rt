@@ -14,11 +14,11 @@ use std::alloc::Global;
 use union_base::record_id::RecordId;
 use union_io::sink::Sink;
 
-/// Writes the export of a catalogue: the records of its editions, one behind the other. Appends to `left`, for each edition of
+/// Writes the export of a catalogue: the records of its editions, one after the other. Appends to `left`, for each edition of
 /// which fields were left out since a frame has no room for more, its least contributor and their number. The records are
 /// handed on in pieces, so that memory does not grow with the export.
 ///
-/// Answers `WriteFault` only where a write of `out` failed, and `Memory` where memory ran out. A front of the export was
+/// Answers `WriteFault` only where a write of `out` failed, and `Memory` where memory ran out. A prefix of the export was
 /// written then, and `left` may have gained the first of its lines.
 pub fn export<O: Sink>(
     alloc: Global,
@@ -44,7 +44,7 @@ pub fn export<O: Sink>(
     hand_on_rest(pending.as_slice(), out)
 }
 
-/// Writes the record of an edition behind what is pending, and notes the edition where fields of it were left out.
+/// Writes the record of an edition after what is pending, and notes the edition where fields of it were left out.
 fn write_edition<O: Sink>(
     alloc: Global,
     edition: &Edition,

@@ -76,7 +76,7 @@ pub(crate) fn contributor_field(alloc: Global, id: &RecordId) -> Result<Field, M
     made_blank(alloc, b"993", &subfields)
 }
 
-/// The longest front of the text of at most so many bytes that ends between two characters.
+/// The longest prefix of the text of at most so many bytes that ends between two characters.
 fn front_within(text: &[u8], most: usize) -> &[u8]
     ensures { result.now ≡ front_within most text.now }
 {

@@ -12,7 +12,7 @@ use union_base::field::Field;
 /// The bytes of a frame beside those of its fields: the leader and two terminators.
 const FRAME_REST: usize = 26;
 
-/// How many fields fit in a record, of two lists one behind the other. Takes no memory.
+/// How many fields fit in a record, of two lists one after the other. Takes no memory.
 pub(crate) fn fitting_count(own: &[Field], united: &[Field]) -> usize
     requires own { IsTrue (list_all is_short own.now) }
     requires united { IsTrue (list_all is_short united.now) }

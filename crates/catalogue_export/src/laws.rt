@@ -1,6 +1,6 @@
 //! What holds of the record that is shown of an edition, for whoever reasons about one. Each function is empty, and its clause
 //! is the law.
-ghost use Rattle.catalogue_export.specs.ExportedLaws.{ExportedIsWhole, ExportedBreaksNoRule, ExportedIsAccepted, ExportedIsNumberedTooLong, NumbersEndInNoBlank, EditionIsAccepted, EditionIsNumberedTooLong};
+ghost use Rattle.catalogue_export.specs.ExportedLaws.{ExportedIsWhole, ExportedBreaksNoRule, ExportedIsAccepted, ExportedIsNumberedTooLong, NumbersEndInNoBlank, EditionIsAccepted, EditionIsNumberedTooLong, EditionIsUtf8};
 
 /// The bytes that are shown of an edition are a whole frame: no more than a frame may have, and the only record terminator
 /// among them is the last.
@@ -40,4 +40,9 @@ pub fn edition_is_accepted()
 /// at the place of the 001, which stands first but for fields 000 of the contributors.
 pub fn edition_is_numbered_too_long()
     ensures { EditionIsNumberedTooLong }
+{}
+
+/// The texts of the record that is shown of an edition, under its own work key, are UTF-8.
+pub fn edition_is_utf8()
+    ensures { EditionIsUtf8 }
 {}

@@ -13,12 +13,13 @@ use std::alloc::Global;
 use union_base::memory::Memory;
 use union_base::record_id::RecordId;
 use union_io::sink::Sink;
+use work_clusters::works::Works;
 use workset_keys::work_key::own_name;
 
 /// Writes the works of a catalogue's editions, in order of their keys: each by its key, with a line for each of its editions in
 /// order of the least contributors. The text is handed on in pieces, so that memory grows with the largest work alone.
 ///
-/// Answers `WriteFault` only where a write of `out` failed, and `Memory` where memory ran out. A front of the text was written
+/// Answers `WriteFault` only where a write of `out` failed, and `Memory` where memory ran out. A prefix of the text was written
 /// then.
 pub fn works_text<O: Sink>(
     alloc: Global,
@@ -29,7 +30,18 @@ pub fn works_text<O: Sink>(
         × HasWritten (works_text_of all)
         (record { old = O.written out.old; new = O.written out.new; before = O.faults out.old; after = O.faults out.new }) result }
 {
-    let works = catalogue.works();
+    match catalogue.works(alloc) {
+        Ok(grouping) => write_works(alloc, grouping.works(), out),
+        Err(Memory) => Err(ExportFail::Memory),
+    }
+}
+
+/// Writes the works, in order of their keys.
+fn write_works<O: Sink>(alloc: Global, works: &Works, out: &mut O) -> Result<(), ExportFail>
+    ensures { HasWritten (flat_map work_text works.now.works)
+        (record { old = O.written out.old; new = O.written out.new; before = O.faults out.old; after = O.faults out.new }) result }
+{
+    works.are_in_order();
     let mut pending = Vec::new(alloc);
     let mut next = works.after(None);
     for _ in 0..works.count() {
@@ -45,7 +57,7 @@ pub fn works_text<O: Sink>(
     hand_on_rest(pending.as_slice(), out)
 }
 
-/// Writes a work behind what is pending.
+/// Writes a work after what is pending.
 fn write_work<O: Sink>(
     alloc: Global,
     key: &[u8],

@@ -20,7 +20,7 @@ work_line key = codes "work " ++ key
 abbrev pub plain_byte : ℕ → ℕ
 plain_byte b = if nat_lt b 0x20 || (b == 0x7F) || (b == 0x7C) then 0x20 else b
 
--- a text of a holding, behind its sign |
+-- a text of a holding, after its sign |
 abbrev pub cell : List ℕ → List ℕ
 cell text = 0x7C ∷ map plain_byte text
 

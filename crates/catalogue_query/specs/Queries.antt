@@ -27,7 +27,7 @@ is_blank b = b == 0x20
 abbrev pub first_word : List ℕ → List ℕ
 first_word line = before_first is_blank line
 
--- behind the first blank: nothing where there is none
+-- after the first blank: nothing where there is none
 abbrev pub rest_of : List ℕ → List ℕ
 rest_of line = after_first is_blank line
 

@@ -37,7 +37,7 @@ use union_base::sequence::Sequence;
 ///
 /// An answer that would have no line has the one line `none`.
 ///
-/// Answers `Memory` where memory ran out.
+/// Returns `Memory` if allocation fails.
 pub fn answer(alloc: Global, catalogue: &Catalogue, query: &Query) -> Result<Answer, Memory>
     ensures { IfOk result (λ found. (all : List EditionModel) × AreEditionsOf catalogue.now all
         × (found.lines ≡ answer_lines query.now (current catalogue.now) all)) }
@@ -162,7 +162,8 @@ fn lines_of_work(alloc: Global, catalogue: &Catalogue, key: &Bytes) -> Result<Ve
     ensures { IfOk result (λ lines. (all : List EditionModel) × AreEditionsOf catalogue.now all
         × (lines.items ≡ told_of (Work key.now) (current catalogue.now) all)) }
 {
-    edition_lines(alloc, catalogue.works().editions_of(key))
+    let grouping = catalogue.works(alloc)?;
+    edition_lines(alloc, grouping.works().editions_of(key))
 }
 
 /// The line of each edition, by its least contributor.
@@ -182,7 +183,7 @@ fn count_lines(alloc: Global, catalogue: &Catalogue) -> Result<Vec<Bytes>, Memor
         × (lines.items ≡ lines_of Count (current catalogue.now) all)) }
 {
     let editions = catalogue.edition_count();
-    let works = catalogue.works().count();
+    let works = catalogue.work_count(alloc)?;
     let records = catalogue.record_count();
     let mut lines = Vec::with_capacity(alloc, 1)?;
     lines.push(count_line(alloc, editions, works, records)?)?;

@@ -96,7 +96,7 @@ fn add_name(line: &mut Vec<u8>, id: &RecordId) -> Result<(), Memory>
     Ok(())
 }
 
-/// Adds the text behind `|`, with a blank for each byte that would spoil the line or its cells.
+/// Adds the text after `|`, with a blank for each byte that would spoil the line or its cells.
 fn add_cell(line: &mut Vec<u8>, text: &[u8]) -> Result<(), Memory>
     ensures { OnOk result (line.new.items ≡ line.old.items ++ cell text.now) }
 {

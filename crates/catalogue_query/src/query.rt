@@ -11,7 +11,7 @@ use union_base::memory::Memory;
 use union_base::record_id::RecordId;
 
 /// A question to the catalogue.
-#[derive(Debug, PartialEq, Eq, Drop)]
+#[derive(Debug, PartialEq, Eq)]
 pub enum Query {
     /// `id LIB CTL`: the edition that has the record.
     Id(RecordId),
@@ -31,12 +31,28 @@ pub enum Query {
     Count,
 }
 
+/// A drop of its own, as that of `Bytes`.
+impl Drop for Query {
+    fn drop(self) {
+        match self {
+            Query::Id(_) => (),
+            Query::Isbn(_) => (),
+            Query::Issn(_) => (),
+            Query::Control(_, _) => (),
+            Query::Title(_) => (),
+            Query::Work(_) => (),
+            Query::Holdings(_) => (),
+            Query::Count => (),
+        }
+    }
+}
+
 /// Why a line gives no query.
 #[derive(Clone, Copy, Debug, PartialEq, Eq)]
 pub enum QueryRefusal {
     /// The first word is none of the eight with which queries begin.
     Unknown,
-    /// The first word is one of the eight, and what stands behind it is not in its grammar.
+    /// The first word is one of the eight, and what stands after it is not in its grammar.
     Word,
     /// Memory ran out.
     Memory,

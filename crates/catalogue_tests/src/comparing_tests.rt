@@ -215,7 +215,7 @@ fn same_answers(
             && catalogue.edition_count() == plain.edition_count()
             && catalogue.turns() == plain.turns()
             && same_walks(catalogue, plain)
-            && same_works(catalogue.works(), plain.works()),
+            && same_works(catalogue.works(alloc)?.works(), plain.works()),
     )
 }
 
@@ -252,6 +252,7 @@ fn agree<L: Ledger>(
 {
     let mut steps: Steps<L> = Steps::open(blank);
     let mut catalogue = Catalogue::empty(alloc)?;
+    catalogue.keep_works(alloc)?;
     let mut plain = PlainCatalogue::empty(alloc);
     let mut draws = Draws { state: seed };
     for _ in 0..turns {

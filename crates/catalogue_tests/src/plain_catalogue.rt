@@ -109,7 +109,7 @@ impl PlainCatalogue {
         self.editions.first()
     }
 
-    /// The first edition whose least contributor is behind that id: None exactly where there is none.
+    /// The first edition whose least contributor is after that id: None exactly where there is none.
     pub fn after(&self, id: &RecordId) -> Option<&Edition>
         ensures { (all : List EditionModel) × AreEditionsOf self.now all × (option_copied result ≡ first_behind all id.now) }
     {
@@ -270,14 +270,14 @@ fn paired(alloc: Global, editions: &[Edition]) -> Result<Vec<(Bytes, RecordId)>,
     Ok(pairs)
 }
 
-/// Whether the least contributor is behind the id.
+/// Whether the least contributor is after the id.
 fn is_behind(edition: &Edition, id: &RecordId) -> bool
     ensures { result ≡ is_lt (id_cmp id.now (least edition.now)) }
 {
     id.cmp(edition.least()).is_lt()
 }
 
-/// The first of the editions whose least contributor is behind the id.
+/// The first of the editions whose least contributor is after the id.
 fn first_behind<'a>(editions: &'a [Edition], id: &RecordId) -> Option<&'a Edition>
     ensures { option_copied result ≡ first_behind editions.now id.now }
 {

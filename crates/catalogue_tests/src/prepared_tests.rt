@@ -179,7 +179,7 @@ fn apply_both<L: Ledger>(
         found.as_slice() == turn.outcomes.as_slice()
             && beside.as_slice() == turn.outcomes.as_slice()
             && same_walks(one, other, turn.sizes)
-            && same_works(one.works(), other.works())
+            && same_works(one.works(alloc)?.works(), other.works(alloc)?.works())
             && one.record_count() == other.record_count()
             && one.turns() == other.turns(),
     )
@@ -194,6 +194,7 @@ fn come_true<L: Ledger>(alloc: Global, turns: &[Turn; 2], blank: Blank) -> Resul
     let mut steps: Steps<L> = Steps::open(blank);
     let mut one = Catalogue::empty(alloc)?;
     let mut other = Catalogue::empty(alloc)?;
+    one.keep_works(alloc)?;
     for turn in turns {
         if !apply_both(alloc, &mut one, &mut other, turn, &mut steps)? {
             return Ok(false);

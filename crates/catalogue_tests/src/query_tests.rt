@@ -41,7 +41,7 @@ const READINGS: [(&[u8], &[u8]); 74] = [
     (b"work  cat///LIBA.id", b"work; cat///LIBA.id;"),
     (b"work hill, ann/red ships ", b"work;hill, ann/red ships ;"),
     (b"work \xFF\xFE", b"work;\xFF\xFE;"),
-    // the count, with nothing behind it but the one blank
+    // the count, with nothing after it but the one blank
     (b"count", b"count;;"),
     (b"count ", b"count;;"),
     (b"count  ", b"refused word"),

@@ -1,4 +1,4 @@
--- A block of frames in front of others, and the batch that it gives.
+-- A block of frames before others, and the batch that it gives.
 use Rattle.std.proofs.Common.{◌≡◌, ℕ, zero, suc, ◌≤◌, ◌<◌, Bool, true, false, cond, ◌||◌, List, [], ◌∷◌, ◌++◌, length, take, drop, append-nil, ◌⊎◌, inl, inr, refl, sym, ap, subst, ◌∙◌, arith, length-append}
 use Rattle.std.specs.Prelude.{map, filter}
 use Rattle.std.specs.List.{AllZip, list_any}
@@ -23,14 +23,14 @@ blocks_within-more (suc n) (suc m) (frame ∷ frames) one two =
     let fewer : length (drop LARGEST_BATCH (frame ∷ frames)) ≤ length frames = omega (arith, length-drop LARGEST_BATCH (frame ∷ frames)) in
     ap (λ bs. take LARGEST_BATCH (frame ∷ frames) ∷ bs) (blocks_within-more n m (drop LARGEST_BATCH (frame ∷ frames)) (omega arith) (omega arith))
 
--- a front of that length
+-- a prefix of that length
 front_of : {A : Type 0} (n : ℕ) (xs ys : List A) → length xs ≡ n → take n (xs ++ ys) ≡ xs
 front_of n xs ys is = subst (λ k. take k (xs ++ ys) ≡ xs) is (take-append_seam xs ys)
 
 rest_of : {A : Type 0} (n : ℕ) (xs ys : List A) → length xs ≡ n → drop n (xs ++ ys) ≡ ys
 rest_of n xs ys is = subst (λ k. drop k (xs ++ ys) ≡ ys) is (drop-append_seam xs ys)
 
--- a whole block, and what is behind it
+-- a whole block, and what is after it
 blocks-whole : (taken still : List Frame) → length taken ≡ LARGEST_BATCH → blocks (taken ++ still) ≡ taken ∷ blocks still
 blocks-whole [] still whole = absurd (omega arith)
 blocks-whole (frame ∷ taken) still whole =
@@ -53,7 +53,7 @@ blocks-last frame taken most =
 abbrev pub turning : List Frame → List (List Frame)
 turning frames = filter has_accepted (blocks frames)
 
--- a block is whole, or nothing is behind it
+-- a block is whole, or nothing is after it
 abbrev pub IsBlockBefore : List Frame → List Frame → Type 0
 IsBlockBefore taken still = (length taken ≡ LARGEST_BATCH) ⊎ (still ≡ []) × (length taken ≤ LARGEST_BATCH)
 

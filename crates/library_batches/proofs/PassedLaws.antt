@@ -56,7 +56,7 @@ KeepsFrames-block a b c coming between still taken keeps takes library frames re
           ∙ keeps.refused)));
     }
 
--- where the source ended within a block, nothing is behind it
+-- where the source ended within a block, nothing is after it
 is_before : (ended : Bool) (c : Batching) (rest : List ℕ) (taken : List Frame) → IsFull ended c.stream (length taken) → length taken ≤ LARGEST_BATCH
     → IsBlockBefore taken (ahead c rest)
 is_before true c rest taken full most = inr (ap (λ course. frames_on course c.stream.pending c.stream.unread rest) full, most)

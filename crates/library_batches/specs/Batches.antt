@@ -35,7 +35,7 @@ pub record IsBatchOf (library : List ℕ) (block : List Frame) (batch : Batch) :
 abbrev pub AreBatches : List ℕ → List Frame → List Batch → Type 0
 AreBatches library frames batches = AllZip (IsBatchOf library) (filter has_accepted (blocks frames)) batches
 
--- the batches are the first ones of the frames, so many as there are
+-- the batches are the first ones of the frames, as many as there are
 abbrev pub AreFirstBatches : List ℕ → List Frame → List Batch → Type 0
 AreFirstBatches library frames batches =
     AllZip (IsBatchOf library) (take (length batches) (filter has_accepted (blocks frames))) batches

@@ -46,7 +46,7 @@ impl BatchReader {
     /// A reader of which nothing was asked, for a library's source that may give so many bytes. It takes the room of a piece
     /// and of the largest frame.
     ///
-    /// Answers `Memory` where memory ran out.
+    /// Returns `Memory` if allocation fails.
     pub fn open(alloc: Global, library: &LibraryCode, limit: u64) -> Result<BatchReader, Memory>
         requires { limit ≤ LARGEST_SOURCE }
         ensures { IfOk result (λ reader. reader ≡ begun library.now limit) }

@@ -16,7 +16,7 @@ pub fn nothing_is_handed_out_at_first()
     ensures { (library : List ℕ) (limit : ℕ) (left : Option (List ℕ)) → HandsOut library limit left [] (begun library limit) left }
 {}
 
-/// A batch that is answered is behind those that were handed out before.
+/// A batch that is answered is after those that were handed out before.
 pub fn a_batch_is_behind_the_others()
     ensures { (library : List ℕ) (limit : ℕ) (left before now : Option (List ℕ)) (done : List Batch) (batch : Batch) (a b : Batching)
         → HandsOut library limit left done a before → Answers (Ok (Some batch)) a before b now

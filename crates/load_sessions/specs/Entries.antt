@@ -17,11 +17,11 @@ entries_of history = map (λ (entry : HistoryEntry). (entry.pass, entry.batch)) 
 abbrev pub history_of : List (ℕ × Batch) → List HistoryEntry
 history_of entries = map (λ (entry : ℕ × Batch). record { pass = entry.0; batch = entry.1 }) entries
 
--- what comes of a batch behind these entries
+-- what comes of a batch after these entries
 abbrev pub gives : List (ℕ × Batch) → Batch → List Outcome → Type 0
 gives entries batch found = found ≡ outcomes batch.library (current (history_of entries)) batch.ops
 
--- what is answered behind these entries
+-- what is answered after these entries
 abbrev pub tells : List (ℕ × Batch) → Query → Answer → Type 0
 tells entries query told = (all : List Edition) × AreEditionsOf (history_of entries) all
     × (told.lines ≡ answer_lines query (current (history_of entries)) all)

@@ -14,7 +14,7 @@ use union_base::memory::Memory;
 /// The batch, with the records that it leaves of its loads resolved among themselves by 1 to 64 workers, each in a thread of its
 /// own where one can be made. One worker makes no thread.
 ///
-/// Answers `Memory` where memory ran out.
+/// Returns `Memory` if allocation fails.
 pub fn prepare<R: Threads + Sync>(
     rt: &R,
     alloc: Global,

@@ -27,13 +27,23 @@ pub struct Served {
 }
 
 impl Served {
-    /// A catalogue without history, to open a desk with. Answers `Memory` where memory ran out.
+    /// A catalogue without history, to open a desk with. Returns `Memory` if allocation fails.
     pub fn empty(alloc: Global) -> Result<Served, Memory>
         ensures { IfOk result (λ served. served.catalogue ≡ []) }
     {
         Ok(Served {
             catalogue: Catalogue::empty(alloc)?,
         })
+    }
+
+    /// The same, where the catalogue keeps its works, so that questions on works need not make them. Returns `Memory` if
+    /// allocation fails.
+    pub fn keeping_works(alloc: Global) -> Result<Served, Memory>
+        ensures { IfOk result (λ served. served.catalogue ≡ []) }
+    {
+        let mut catalogue = Catalogue::empty(alloc)?;
+        catalogue.keep_works(alloc)?;
+        Ok(Served { catalogue })
     }
 }
 

@@ -69,7 +69,7 @@ fn shown(alloc: Global, batches: &[Batch]) -> Result<Vec<u8>, Memory> {
     Ok(text)
 }
 
-/// So many records, and a text behind them.
+/// So many records, and a text after them.
 fn records(alloc: Global, times: usize, tail: &[u8]) -> Result<Bytes, Memory> {
     let mut stream = Vec::new(alloc);
     for _ in 0..times {

@@ -88,7 +88,7 @@ fn are_loaded<R: Threads + Wait + Sync>(
         workers,
         &OpenGate,
     );
-    // One worker asks last, so behind the one turn of each session.
+    // One worker asks last, so after the one turn of each session.
     let over = asker.replies.first().map(|reply| reply.0);
     let asked = asker.end == End::Done && (workers > 1 || over == Some(2));
     Ok(asked && sessions.iter().all(is_done))

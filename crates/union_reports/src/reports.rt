@@ -1,6 +1,6 @@
 //! The reports on libraries, and the lines on editions of which fields were left out.
 //!
-//! Each function adds its text behind what stands in a buffer. The texts are those of specs/Reports.antt.
+//! Each function adds its text after what stands in a buffer. The texts are those of specs/Reports.antt.
 ghost use Rattle.std.specs.Prelude.{◌≡◌, ◌++◌, List, length, OnOk};
 ghost use Rattle.std.specs.List.{flat_map};
 ghost use Rattle.catalogue_editions.specs.declared.outcome.Outcome.{Outcome};
@@ -41,7 +41,7 @@ fn add_counts(
 
 /// Adds the report of a library that has so many frames, of which these are refused, and what came of the others.
 ///
-/// Answers `Memory` where memory ran out.
+/// Returns `Memory` if allocation fails.
 pub fn add_report(
     text: &mut Vec<u8>,
     library: &[u8],

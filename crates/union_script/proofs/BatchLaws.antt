@@ -72,7 +72,7 @@ hands_long library limit (Some bytes) (Some rest) None a b batches hands answers
 hands_long library limit (Some bytes) (Some rest) (Some more) a b batches hands answers =
     ltb-true limit (length bytes) (sym hands.long ∙ answers)
 
--- behind the last batch the frames were counted, and all batches were handed out
+-- after the last batch the frames were counted, and all batches were handed out
 pub record AllHandedOut (library : List ℕ) (limit : ℕ) (bytes : List ℕ) (reader : Batching) (batches : List Batch) : Type 0 where
   pub fits : length bytes ≤ limit
   pub all : AreBatches library (frames bytes) batches
@@ -148,7 +148,7 @@ few_ops library ops fits =
 pub few_outcomes : (batch : Batch) (all : MapOf Edition) → length (outcomes batch.library all batch.ops) ≤ 256
 few_outcomes batch all = subst (λ n. n ≤ 256) (sym (length_outcomes batch.library all batch.ops)) (few_ops batch.library batch.ops batch.fits)
 
--- behind an answer that is no batch
+-- after an answer that is no batch
 pub hands_rest : (next : Option Batch) (library : List ℕ) (limit : ℕ) (told now then : Option (List ℕ)) (a b : Batching) (batches : List Batch)
     → ((batch : Batch) → next ≡ Some batch → ⊥) → a.library ≡ library → Hands library limit told a now batches → Answers (Ok next) a now b then
     → IfSome told (λ bytes. AllHandedOut library limit bytes b batches)

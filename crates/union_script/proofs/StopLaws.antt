@@ -1,4 +1,4 @@
--- Runs of lines that end early, with lines before them and behind them.
+-- Runs of lines that end early, with lines before them and after them.
 use Rattle.std.proofs.Common.{◌≡◌, ℕ, Bool, List, ◌∷◌, ◌++◌, sym, ap, subst, ◌∙◌, append_assoc}
 use Rattle.std.specs.Prelude.{Option, Some, None, IfSome}
 use Rattle.std.proofs.KnownBytes.{Appends-trans}
@@ -21,7 +21,7 @@ Known = Option (List ℕ)
 abbrev pub outflow : Known → Known → ℕ → ℕ → Outflow
 outflow old new before after = record { old = old; new = new; before = before; after = after }
 
--- lines behind
+-- lines after
 loading_more : (input : Input) (lines more : List ScriptLine) (history : List HistoryEntry) (files : Option Contents) (old new : Known)
     → StopsLoading input lines history files old new → StopsLoading input (lines ++ more) history files old new
 loading_more input lines more history files old new stop = record {

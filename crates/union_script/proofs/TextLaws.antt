@@ -1,4 +1,4 @@
--- Lines of a script one behind the other: their texts, the files that they load, and whether something is refused.
+-- Lines of a script one after the other: their texts, the files that they load, and whether something is refused.
 use Rattle.std.proofs.Common.{◌≡◌, ℕ, ◌+◌, Bool, true, false, not, cond, List, [], ◌∷◌, ◌++◌, length, take, refl, sym, ap, subst, ◌∙◌, arith, append_assoc, append-nil, length-append}
 use Rattle.std.specs.Prelude.{Option, Some, None, IfSome, ◌||◌, map, filter}
 use Rattle.std.specs.List.{find}
@@ -32,7 +32,7 @@ pub on_all : {P : Contents → Type 0} (files : Option Contents) → ((contents 
 on_all None holds = tt
 on_all (Some contents) holds = holds contents
 
--- what lines ask for, one part behind the other
+-- what lines ask for, one part after the other
 pub asked_behind : (lines others : List (List ℕ)) → asked_by (lines ++ others) ≡ asked_by lines ++ asked_by others
 asked_behind lines others =
     ap (map script_line) (filter-append (λ line. not (is_skipped line)) lines others)
@@ -99,7 +99,7 @@ run_behind contents first others history between now one two old mid new p q = r
   written = Appends-trans old mid new p.text q.text p.written q.written;
 }
 
--- a text, and a front of the next
+-- a text, and a prefix of the next
 pub front_behind : (old middle new : Option (List ℕ)) (a b : List ℕ) → Appends old middle a → AppendsFront middle new b → AppendsFront old new (a ++ b)
 front_behind old middle new a b p q = (
   length a + q.0,

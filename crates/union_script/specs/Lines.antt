@@ -18,7 +18,7 @@ use Rattle.union_words.specs.declared.status.Status.TheVariants.{Done, DoneWithR
 use Rattle.union_script.specs.Texts.{Contents, ScriptText, has_refusals}
 use Rattle.union_script.specs.Inputs.{files_loaded, AreWithin}
 
--- the lines were run: their text was written, and the history is that behind them
+-- the lines were run: their text was written, and the history is that after them
 pub record HasRun (contents : Contents) (lines : List ScriptLine) (history now : List HistoryEntry) (told : Bool) (old new : Option (List ℕ)) : Type 0 where
   pub within : AreWithin contents (files_loaded lines)
   pub refused : told ≡ has_refusals contents lines
@@ -34,7 +34,7 @@ pub record WritesFirst (contents : Contents) (first : List ScriptLine) (history 
   pub writes : ScriptText contents first history text now
   pub written : Appends old new text
 
--- a front of the text of the first of the lines was written
+-- a prefix of the text of the first of the lines was written
 pub record WritesFront (contents : Contents) (lines : List ScriptLine) (history : List HistoryEntry) (old new : Option (List ℕ)) : Type 0 where
   pub first : List ScriptLine
   pub others : List ScriptLine

@@ -60,7 +60,7 @@ pub record IsScript (path : List ℕ) (shelf : ShelfFlow) (out : Outflow) (statu
   pub other : status ≢ Usage
   -- which input is too long
   pub too_long : (i : Input) → status ≡ TooLong i → IfSome shelf.files (λ contents. IsTooLongAt contents (inputs_of contents path) i)
-  -- all of the text was written, that of the lines before the one at which the run stopped, or a front of it
+  -- all of the text was written, that of the lines before the one at which the run stopped, or a prefix of it
   pub done : IsTrue (is_done status) → IfSome shelf.files (λ contents. AreWithin contents (inputs_of contents path)
       × (status ≡ end_by (has_refusals contents (script_of (contents path)))) × WritesAll contents (script_of (contents path)) out)
   pub before : (i : Input) → named_by status ≡ Some i → IfSome shelf.files (λ contents. WritesBefore i contents (script_of (contents path)) out)

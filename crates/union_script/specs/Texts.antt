@@ -65,7 +65,7 @@ refused_word = codes "refused word" ++ line_feed ∷ []
 abbrev pub refused_unknown : List ℕ
 refused_unknown = codes "refused unknown" ++ line_feed ∷ []
 
--- each line, with a line feed behind it
+-- each line, with a line feed after it
 abbrev pub ended_lines : List (List ℕ) → List ℕ
 ended_lines lines = flat_map (λ line. line ++ line_feed ∷ []) lines
 
@@ -82,7 +82,7 @@ IsReply (Err Unknown) history text = text ≡ refused_unknown
 IsReply (Err BadRest) history text = text ≡ refused_word
 IsReply (Err QueryMemory) history text = ⊥
 
--- what a line writes over that history, and the history behind it
+-- what a line writes over that history, and the history after it
 abbrev pub Writes : Contents → ScriptLine → List HistoryEntry → List ℕ → List HistoryEntry → Type 0
 Writes contents (Load file) history text now = Loads file.library (frames (contents file.path)) history text now
 Writes contents Export history text now = IsExport history text × (now ≡ history)
@@ -90,7 +90,7 @@ Writes contents Works history text now = IsWorkList history text × (now ≡ his
 Writes contents (Ask line) history text now = IsReply (query_of line) history text × (now ≡ history)
 Writes contents Word history text now = (text ≡ refused_word) × (now ≡ history)
 
--- what lines write, one behind the other, and the history behind them
+-- what lines write, one after the other, and the history after them
 abbrev pub ScriptText : Contents → List ScriptLine → List HistoryEntry → List ℕ → List HistoryEntry → Type 0
 ScriptText contents [] history text now = (text ≡ []) × (now ≡ history)
 ScriptText contents (line ∷ lines) history text now =

@@ -11,7 +11,7 @@ pub const REFUSED_WORD: &[u8] = b"refused word\n";
 /// What is told of a line that begins with an unknown word.
 pub const REFUSED_UNKNOWN: &[u8] = b"refused unknown\n";
 
-/// Adds the lines, each with a line feed behind it.
+/// Adds the lines, each with a line feed after it.
 pub fn add_lines(text: &mut Vec<u8>, lines: &[Bytes]) -> Result<(), AllocError>
     ensures { OnOk result (text.new.items ≡ text.old.items ++ ended_lines lines.now) }
 {

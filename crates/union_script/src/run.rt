@@ -1,5 +1,5 @@
 //! The run of a script.
-ghost use Rattle.std.specs.Prelude.{◌≡◌, ◌<◌, List, []};
+ghost use Rattle.std.specs.Prelude.{◌≡◌, ◌<◌, List, [], IfOk};
 ghost use Rattle.catalogue_core.specs.declared.history_entry.HistoryEntry.{HistoryEntry};
 ghost use Rattle.union_words.specs.Statuses.{end_by};
 ghost use Rattle.union_script.specs.Lines.{LinesRun};
@@ -22,6 +22,15 @@ use union_io::sink::Sink;
 use union_words::input::Input;
 use union_words::status::Status;
 
+/// A catalogue without history, which keeps its works, since any line may ask for them.
+fn empty_catalogue(alloc: Global) -> Result<Catalogue, Memory>
+    ensures { IfOk result (λ catalogue. catalogue ≡ []) }
+{
+    let mut catalogue = Catalogue::empty(alloc)?;
+    catalogue.keep_works(alloc)?;
+    Ok(catalogue)
+}
+
 /// Runs a script over a new catalogue, with the match tests counted in a ledger of their own.
 fn run_counted<L: Ledger, F: Shelf, O: Sink>(
     alloc: Global,
@@ -37,12 +46,12 @@ fn run_counted<L: Ledger, F: Shelf, O: Sink>(
         (record { files = F.files shelf.old; before = F.faults shelf.old; after = F.faults shelf.new })
         (record { old = O.written out.old; new = O.written out.new; before = O.faults out.old; after = O.faults out.new }) }
 {
-    match Catalogue::empty(alloc) {
+    match empty_catalogue(alloc) {
         Ok(catalogue) => {
             let steps: Steps<L> = Steps::open(blank);
             let mut union = Union { catalogue, steps };
             let ended = run_lines(alloc, script, &mut union, shelf, out);
-            // The program ends behind this, and the system takes all its memory back at once.
+            // The program ends after this, and the system takes all its memory back at once.
             forget(union);
             ended
         }
@@ -82,7 +91,7 @@ fn end_by(refused: bool) -> Status
 /// line, or a frame of a file that was loaded, is refused. `OpenFault` and `ReadFault` come only where an open or a read of the
 /// input that they name failed, `WriteFault` only where a write failed, and `TooLong` exactly where the script has more than
 /// 1,048,576 bytes, or the first load of a file of more than 2^40 bytes. The first fault ends the run: what was written is then
-/// the text of the lines before it, or behind `WriteFault` and `Memory` a front of the whole text.
+/// the text of the lines before it, or after `WriteFault` and `Memory` a prefix of the whole text.
 pub fn script_run<F: Shelf, O: Sink>(
     alloc: Global,
     path: &Bytes,

@@ -134,7 +134,7 @@ none_taken : {A B : Type 0} (f : A → B) (xs : List A) → length (map f xs) �
 none_taken f [] none = refl
 none_taken f (x ∷ xs) none = absurd (omega arith)
 
--- a block without operations is behind the last one
+-- a block without operations is after the last one
 pub loaded-all : (seed count place : ℕ) (history now : List HistoryEntry) (before still : List Draws) (ops : List Op)
     → HasLoaded seed count place history now before → IsBlockOf (library_code place) before still ops → length ops ≡ 0
     → Loads seed count place history now
@@ -160,7 +160,7 @@ loaded-all seed count place history now before still ops loaded block none = rec
     empty : before ≡ []
     empty = block.are.split ∙ (λ i. nothing i ++ last i)
 
--- fewer draws are still to come behind a block with operations
+-- fewer draws are still to come after a block with operations
 pub block-fewer : (library : List ℕ) (before still : List Draws) (ops : List Op) → IsBlockOf library before still ops → 0 < length ops → length still < length before
 block-fewer library before still ops block some =
     let zip : length (map bytes_of block.taken) ≡ length ops = zip-length (IsOpOf library) (map bytes_of block.taken) ops block.are.asked in

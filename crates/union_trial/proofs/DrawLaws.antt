@@ -4,7 +4,7 @@ use Rattle.std.specs.Prelude.{◌==◌, if◌then◌else◌}
 use Rattle.union_trial.specs.Draws.{draws_of, state_behind, draws_from}
 use Rattle.union_trial.specs.declared.draws.Draws.{Draws}
 
--- those behind the next frame
+-- those after the next frame
 abbrev pub behind : ℕ → ℕ → ℕ → ℕ → List Draws
 behind count place state number = draws_from count place (state_behind state) (number + 1) (count - (number + 1))
 
@@ -28,7 +28,7 @@ draws_passed count place state number more other =
     next_frame count place state number more
     ∙ ap (λ b. if b then draws_of count state ∷ behind count place state number else behind count place state number) other
 
--- behind the last frame there are none
+-- after the last frame there are none
 pub draws_none : (count place state number : ℕ) → count ≤ number → draws_from count place state number (count - number) ≡ []
 draws_none count place state number past =
     let none : count - number ≡ 0 = omega arith in

@@ -2,11 +2,11 @@
 use Rattle.std.specs.Prelude.{ℕ, zero, suc, ◌+◌, ◌*◌, ◌/◌, ◌%◌, ◌^◌, ◌==◌, List, [], ◌∷◌, if◌then◌else◌}
 use Rattle.union_trial.specs.declared.draws.Draws.{Draws}
 
--- the state behind a draw
+-- the state after a draw
 unfoldable pub next_state : ℕ → ℕ
 next_state state = (state * 6364136223846793005 + 1442695040888963407) % 2 ^ 64
 
--- the number below that one which a draw gives, by the state behind it
+-- the number below that one which a draw gives, by the state after it
 unfoldable pub number_below : ℕ → ℕ → ℕ
 number_below below state = (state / 2 ^ 33) % below
 
@@ -28,7 +28,7 @@ draws_of count state =
       number = number_below (4 * count) sixth;
     }
 
--- the state behind them
+-- the state after them
 unfoldable pub state_behind : ℕ → ℕ
 state_behind state = next_state (next_state (next_state (next_state (next_state (next_state state)))))
 

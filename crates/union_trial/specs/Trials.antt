@@ -29,7 +29,7 @@ pub record IsTrialText (seed count : ℕ) (text : List ℕ) : Type 0 where
   pub measured : AreMeasured history measures
   pub line : text ≡ trial_line count measures
 
--- a run with that status: the line was written; or a front of it, where a write failed; or nothing, where memory ran out. It
+-- a run with that status: the line was written; or a prefix of it, where a write failed; or nothing, where memory ran out. It
 -- has no other status
 abbrev pub IsTrial : ℕ → ℕ → Outflow → Status → Type 0
 IsTrial seed count out Done = (out.after ≡ out.before) × ((text : List ℕ) × IsTrialText seed count text × Appends out.old out.new text)

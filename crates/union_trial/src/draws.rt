@@ -13,6 +13,6 @@ pub struct Draws {
     pub name: u32,
     /// The year of publication.
     pub year: u32,
-    /// The nine digits of the ISBN behind its prefix.
+    /// The nine digits of the ISBN after its prefix.
     pub number: u32,
 }

@@ -8,7 +8,7 @@ use crate::generator::Generator;
 /// no list of frames is kept.
 #[derive(Clone, Copy, Debug)]
 pub struct LibraryDraws {
-    /// The generator behind the frames so far.
+    /// The generator after the frames so far.
     pub generator: Generator,
     /// How many frames are generated.
     pub count: u32,

@@ -29,7 +29,7 @@ fn library_code(place: u32) -> LibraryCode
 /// The operations of the library's next frames, `LARGEST_BATCH` of them unless there are fewer. Each frame is written into
 /// the buffer.
 ///
-/// Answers `Memory` where memory ran out.
+/// Returns `Memory` if allocation fails.
 fn read_block(
     alloc: Global,
     library: &LibraryCode,
@@ -54,7 +54,7 @@ fn read_block(
 /// Loads the stream of the library at that place, whose draws are still to come: applies its batches one after the other, each of
 /// which so many workers prepare. Counts the match tests of the turns.
 ///
-/// Answers `Memory` where memory ran out. Some of the batches may be applied then.
+/// Returns `Memory` if allocation fails. Some of the batches may be applied then.
 fn load_library<R: Threads + Sync, L: Ledger>(
     rt: &R,
     alloc: Global,
@@ -88,7 +88,7 @@ fn load_library<R: Threads + Sync, L: Ledger>(
 /// Loads the streams of the three libraries, one after the other, into a catalogue without history; so many workers prepare each
 /// batch. Counts the match tests of the turns.
 ///
-/// Answers `Memory` where memory ran out.
+/// Returns `Memory` if allocation fails.
 pub fn load_all<R: Threads + Sync, L: Ledger>(
     rt: &R,
     alloc: Global,

@@ -40,15 +40,16 @@ fn export_size(alloc: Global, catalogue: &Catalogue) -> Result<u128, Memory>
 
 /// Counts what the catalogue has.
 ///
-/// Answers `Memory` where memory ran out.
+/// Returns `Memory` if allocation fails.
 pub fn measured(alloc: Global, catalogue: &Catalogue) -> Result<Measures, Memory>
     ensures { IfOk result (λ m. AreMeasured catalogue.now m) }
 {
     let bytes = export_size(alloc, catalogue)?;
+    let works = catalogue.work_count(alloc)?;
     Ok(Measures {
         records: catalogue.record_count(),
         editions: catalogue.edition_count(),
-        works: catalogue.works().count(),
+        works,
         bytes,
     })
 }

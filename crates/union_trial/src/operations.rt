@@ -18,7 +18,7 @@ use union_base::memory::Memory;
 
 /// Writes the frame of the draws in place of what the buffer holds.
 ///
-/// Answers `Memory` where memory ran out.
+/// Returns `Memory` if allocation fails.
 pub(crate) fn write_frame(alloc: Global, draws: &Draws, frame: &mut Vec<u8>) -> Result<(), Memory>
     ensures { OnOk result (frame.new.items ≡ spelling (record_of draws.now)) }
 {
@@ -35,7 +35,7 @@ pub(crate) fn write_frame(alloc: Global, draws: &Draws, frame: &mut Vec<u8>) -> 
 /// The operation that the frame of the draws asks for, as a record of that library. The frame is written into the buffer,
 /// and checked as one that is read.
 ///
-/// Answers `Memory` where memory ran out. No frame of the generator is refused.
+/// Returns `Memory` if allocation fails. No frame of the generator is refused.
 pub fn operation(
     alloc: Global,
     library: &LibraryCode,

@@ -68,7 +68,7 @@ fn text_by<R: Threads + Sync, L: Ledger>(
     let mut steps: Steps<L> = Steps::open(blank);
     load_all(rt, alloc, seed, count, workers, &mut catalogue, &mut steps)?;
     let measures = measured(alloc, &catalogue)?;
-    // The program ends behind this, and the system takes all its memory back at once.
+    // The program ends after this, and the system takes all its memory back at once.
     forget(catalogue);
     let mut text = Vec::new(alloc);
     add_line(&mut text, count, &measures)?;
@@ -96,7 +96,7 @@ fn trial_text<R: Threads + Sync>(
 /// prepared by so many workers, and writes one line of what came of it: the numbers of generated frames, of current records, editions, works, and of the export's
 /// bytes.
 ///
-/// `Done` means that the line was written. `WriteFault` comes only where a write failed; a front of the line was written then.
+/// `Done` means that the line was written. `WriteFault` comes only where a write failed; a prefix of the line was written then.
 /// `Memory` comes where memory ran out; nothing was written then. No other status comes: no generated frame is refused.
 pub fn trial_run<R: Threads + Sync, O: Sink>(
     rt: &R,

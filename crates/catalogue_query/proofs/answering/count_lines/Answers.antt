@@ -8,9 +8,9 @@ use Rattle.catalogue_query.proofs.answering.count_lines.Goals as goal
 pub returns : goal.returns
 returns c =
     let counted = c.edition_count-editions.ensures in
-    let listing = c.works.ensures in
+    let listing = c.in_ok-works.ensures in
     let works =
-    c.count-works.ensures ∙ ap length listing.2 ∙ length-works listing.0
+    listing.2 ∙ length-works listing.0
     ∙ ap (λ all. length (work_keys all)) (same_editions_of c.args.catalogue.now listing.0 counted.0 listing.1 counted.1) in
     let records = c.record_count-records.ensures in (
       counted.0,

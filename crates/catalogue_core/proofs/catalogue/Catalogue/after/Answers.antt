@@ -1,5 +1,6 @@
 use Rattle.std.proofs.Common.{◌≡◌, List, ap, subst, ◌∙◌}
 use Rattle.std.specs.Option.{option_copied}
+use Rattle.catalogue_core.specs.Grouping.{kept_works}
 use Rattle.catalogue_core.specs.Histories.{MapOf, AreEditionsOf}
 use Rattle.catalogue_core.specs.Homes.{named_in}
 use Rattle.catalogue_core.specs.Walks.{first_of, first_behind}
@@ -16,7 +17,7 @@ returns c =
     let all = named_in x.blocks.blocks x.homes.entries in
     subst (λ turns. (all : List Edition) × AreEditionsOf turns all × (option_copied c.first_named.result ≡ first_behind all id)) c.self.view_is (
       all,
-      named-editions x.history.items x.homes.entries x.blocks.blocks x.works.works k,
+      named-editions x.history.items x.homes.entries x.blocks.blocks (kept_works x.works) k,
       c.first_named.ensures ∙ ap (λ (homes : MapOf Home). first_of (named_in x.blocks.blocks homes)) (c.range-behind.ensures.between tt)
           ∙ first-behind_named x.blocks.blocks x.homes.entries id,
     )

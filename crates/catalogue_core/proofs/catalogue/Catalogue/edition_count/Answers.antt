@@ -1,4 +1,5 @@
 use Rattle.std.proofs.Common.{◌≡◌, List, length, subst, ◌∙◌}
+use Rattle.catalogue_core.specs.Grouping.{kept_works}
 use Rattle.catalogue_core.specs.Histories.{AreEditionsOf}
 use Rattle.catalogue_core.specs.Homes.{named_in}
 use Rattle.catalogue_editions.specs.declared.edition.Edition.{Edition}
@@ -11,4 +12,4 @@ returns c =
     let k = c.self.invariant in
     let all = named_in x.blocks.blocks x.homes.entries in
     subst (λ turns. (all : List Edition) × AreEditionsOf turns all × (c.count.result ≡ length all)) c.self.view_is
-    (all, named-editions x.history.items x.homes.entries x.blocks.blocks x.works.works k, c.count.ensures ∙ named-count x.history.items x.homes.entries x.blocks.blocks x.works.works k)
+    (all, named-editions x.history.items x.homes.entries x.blocks.blocks (kept_works x.works) k, c.count.ensures ∙ named-count x.history.items x.homes.entries x.blocks.blocks (kept_works x.works) k)

@@ -1,6 +1,7 @@
 use Rattle.std.proofs.Common.{◌≡◌, List, sym, ap, subst, ◌∙◌}
 use Rattle.std.specs.Prelude.{Option, Some, None, is_none, is_some, not}
 use Rattle.std.specs.Option.{option_map, option_copied}
+use Rattle.catalogue_core.specs.Grouping.{kept_works}
 use Rattle.catalogue_core.specs.Histories.{at_id, is_current, current, AreEditionsOf}
 use Rattle.catalogue_core.specs.Homes.{Block, named_in}
 use Rattle.catalogue_core.specs.Walks.{holder_of}
@@ -19,8 +20,8 @@ returns-in-Some-clause-holder c =
     let (e, stands, bears) = k.housed.each id home at in
     subst (λ turns. (all : List Edition) × AreEditionsOf turns all × (option_copied c.block.result ≡ holder_of all id)) c.self.view_is (
       named_in x.blocks.blocks x.homes.entries,
-      named-editions x.history.items x.homes.entries x.blocks.blocks x.works.works k,
-      c.block.ensures ∙ ap (option_map (λ (b : Block). b.value)) stands ∙ holder-is x.history.items x.homes.entries x.blocks.blocks x.works.works k id home e at stands,
+      named-editions x.history.items x.homes.entries x.blocks.blocks (kept_works x.works) k,
+      c.block.ensures ∙ ap (option_map (λ (b : Block). b.value)) stands ∙ holder-is x.history.items x.homes.entries x.blocks.blocks (kept_works x.works) k id home e at stands,
     )
 
 pub returns-in-Some-clause-none : goal.returns-in-Some-clause-none
@@ -32,7 +33,7 @@ returns-in-Some-clause-none c =
     let at : at_id x.homes.entries id ≡ Some home = sym c.get.ensures.value ∙ ap option_copied c.in-Some.is in
     let (e, stands, bears) = k.housed.each id home at in
     sym (none-copied c.block.result) ∙ ap is_none (c.block.ensures ∙ ap (option_map (λ (b : Block). b.value)) stands)
-    ∙ ap not (ap is_some (sym at) ∙ home-current x.history.items x.homes.entries x.blocks.blocks x.works.works k id) ∙ ap (λ turns. not (is_current (current turns) id)) c.self.view_is
+    ∙ ap not (ap is_some (sym at) ∙ home-current x.history.items x.homes.entries x.blocks.blocks (kept_works x.works) k id) ∙ ap (λ turns. not (is_current (current turns) id)) c.self.view_is
 
 pub returns-in-None-clause-holder : goal.returns-in-None-clause-holder
 returns-in-None-clause-holder c =
@@ -42,8 +43,8 @@ returns-in-None-clause-holder c =
     let at : at_id x.homes.entries id ≡ None = sym c.get.ensures.value ∙ ap option_copied c.in-None.is in
     subst (λ turns. (all : List Edition) × AreEditionsOf turns all × (◌≡◌ {A = Option Edition} None (holder_of all id))) c.self.view_is (
       named_in x.blocks.blocks x.homes.entries,
-      named-editions x.history.items x.homes.entries x.blocks.blocks x.works.works k,
-      holder-none x.history.items x.homes.entries x.blocks.blocks x.works.works k id at,
+      named-editions x.history.items x.homes.entries x.blocks.blocks (kept_works x.works) k,
+      holder-none x.history.items x.homes.entries x.blocks.blocks (kept_works x.works) k id at,
     )
 
 pub returns-in-None-clause-none : goal.returns-in-None-clause-none
@@ -52,4 +53,4 @@ returns-in-None-clause-none c =
     let k = c.self.invariant in
     let id = c.args.id.now in
     let at : at_id x.homes.entries id ≡ None = sym c.get.ensures.value ∙ ap option_copied c.in-None.is in
-    ap not (ap is_some (sym at) ∙ home-current x.history.items x.homes.entries x.blocks.blocks x.works.works k id) ∙ ap (λ turns. not (is_current (current turns) id)) c.self.view_is
+    ap not (ap is_some (sym at) ∙ home-current x.history.items x.homes.entries x.blocks.blocks (kept_works x.works) k id) ∙ ap (λ turns. not (is_current (current turns) id)) c.self.view_is

@@ -1,5 +1,6 @@
 use Rattle.std.proofs.Common.{◌≡◌, Bor, List, map, filter, subst}
 use Rattle.std.proofs.lemmas.Result.{IfOk-weaker}
+use Rattle.catalogue_core.specs.Grouping.{kept_works}
 use Rattle.catalogue_core.specs.Histories.{bases, AreEditionsOf}
 use Rattle.catalogue_core.specs.Homes.{named_in}
 use Rattle.catalogue_editions.specs.IndexKeys.{has_key}
@@ -12,8 +13,8 @@ returns c =
     let x = c.self.inside in
     let k = c.self.invariant in
     let all = named_in x.blocks.blocks x.homes.entries in
-    let are = named-editions x.history.items x.homes.entries x.blocks.blocks x.works.works k in
-    let order = walk-order x.history.items x.homes.entries x.blocks.blocks x.works.works k in
+    let are = named-editions x.history.items x.homes.entries x.blocks.blocks (kept_works x.works) k in
+    let order = walk-order x.history.items x.homes.entries x.blocks.blocks (kept_works x.works) k in
     IfOk-weaker c.with_key.result _ _
     (λ found kept. subst (λ turns. (all : List Edition) × AreEditionsOf turns all × (map (λ (e : Bor Edition). e.now) found.items ≡ filter (has_key c.args.key.now) all)) c.self.view_is
     (all, are, kept (bases x.history.items) all are order))

@@ -5,8 +5,8 @@ use Rattle.std.proofs.lemmas.List.Sorted.{IsPermutation-map, answers_always}
 use Rattle.field_merge.specs.KeptLaws.{id_total}
 use Rattle.catalogue_editions.specs.Ids.{least, edition_cmp}
 use Rattle.catalogue_editions.specs.declared.edition.Edition.{Edition}
-use Rattle.catalogue_core.proofs.ByKey.{sorted-seen}
-use Rattle.catalogue_core.proofs.by_key.by_least.Goals as goal
+use Rattle.edition_blocks.proofs.LookingLaws.{sorted-seen}
+use Rattle.edition_blocks.proofs.looking.by_least.Goals as goal
 
 pub returns-clause-same : goal.returns-clause-same
 returns-clause-same c = IsPermutation-map (λ (e : Bor Edition). e.now) c.args.editions.items c.sort_by.new.self.items c.in_ok-sort_by.ensures.permutation

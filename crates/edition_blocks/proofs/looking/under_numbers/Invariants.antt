@@ -2,7 +2,7 @@ use Rattle.std.proofs.Common.{◌≡◌, take, map}
 use Rattle.std.specs.Prelude.{filter_map}
 use Rattle.std.specs.Option.{option_map}
 use Rattle.swoosh_resolver.specs.Tables.{block_at}
-use Rattle.catalogue_core.proofs.by_key.under_numbers.Given as goal
+use Rattle.edition_blocks.proofs.looking.under_numbers.Given as goal
 
 -- the blocks under the numbers before this place were found
 abbrev pub invariant-loop-number : goal.invariant-loop-number

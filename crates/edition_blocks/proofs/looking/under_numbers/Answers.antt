@@ -2,9 +2,9 @@ use Rattle.std.proofs.Common.{Bor, [], ◌∷◌, ◌++◌, Some, None, sym, ap,
 use Rattle.std.specs.Option.{option_copied}
 use Rattle.std.proofs.lemmas.List.{map-append}
 use Rattle.catalogue_editions.specs.declared.edition.Edition.{Edition}
-use Rattle.catalogue_core.proofs.ByKey.{value_at, found-more}
-use Rattle.catalogue_core.proofs.by_key.under_numbers.Goals as goal
-use Rattle.catalogue_core.proofs.by_key.under_numbers.Goals.{in-Some+in_ok-push, in_default}
+use Rattle.edition_blocks.proofs.LookingLaws.{value_at, found-more}
+use Rattle.edition_blocks.proofs.looking.under_numbers.Goals as goal
+use Rattle.edition_blocks.proofs.looking.under_numbers.Goals.{in-Some+in_ok-push, in_default}
 
 pub loop-number-preserved : goal.loop-number-preserved
 loop-number-preserved c =

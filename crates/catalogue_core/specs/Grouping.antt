@@ -1,0 +1,32 @@
+-- The works of a catalogue, where it keeps them.
+use Rattle.std.specs.Prelude.{ℕ, List, Option, Some, None}
+use Rattle.std.specs.Option.{option_map, ForSome}
+use Rattle.union_base.specs.declared.record_id.RecordId.{RecordId}
+use Rattle.work_clusters.specs.declared.change.WorkChange.{WorkChange}
+use Rattle.work_clusters.specs.Room.{WorkMap, HasRoom}
+use Rattle.work_clusters.specs.Works.{changed}
+use Rattle.catalogue_core.specs.declared.grouping.Grouping.{Grouping}
+use Rattle.catalogue_core.specs.declared.grouping.Grouping.TheVariants.{Kept, Made}
+
+-- works: each key with its ids
+abbrev pub WorkList : Type 0
+WorkList = List (List ℕ × List RecordId)
+
+-- the works that a catalogue answers
+abbrev pub works_in : Grouping → WorkList
+works_in (Kept works) = works.now.works
+works_in (Made works) = works.works
+
+-- the works that a catalogue keeps
+abbrev pub kept_works : Option WorkMap → Option WorkList
+kept_works works = option_map (λ w. w.works) works
+
+-- there is room for the change, where there is one, in the works, where they are kept
+abbrev pub HasRoomFor : Option WorkMap → Option WorkChange → Type 0
+HasRoomFor works change = ForSome works (λ w. ForSome change (λ c. HasRoom w.room c.come))
+
+-- the works that are kept after a change
+abbrev pub regrouped : Option WorkList → Option WorkChange → Option WorkList
+regrouped (Some works) (Some change) = Some (changed works change.gone change.come)
+regrouped (Some works) None = Some works
+regrouped None change = None

@@ -1,0 +1,14 @@
+//! Blocks of editions: what stands under some numbers, and what a change of the blocks closes and opens.
+//!
+//! A catalogue keeps its editions in blocks under numbers. [`telling::delta_of`] says what a planned change makes of them: the
+//! editions that leave and the editions that come, without those that only move from one number to another.
+//!
+//! Guarantee: a delta is the difference of the lists of editions before and after (specs/Deltas.antt).
+//! Cost: a delta takes time and memory by the size of the change, and not by how many editions there are. No edition is copied:
+//! the delta is one more owner of each.
+#![tactic(auto)]
+
+pub mod delta;
+pub mod looking;
+pub mod same;
+pub mod telling;

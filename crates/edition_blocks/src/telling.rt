@@ -1,0 +1,94 @@
+//! What a change of blocks closes and opens.
+ghost use Rattle.std.specs.Prelude.{◌≡◌, ◌↔◌, map, IfOk, IsTrue, Contains};
+ghost use Rattle.union_base.specs.SortedLists.{is_ascending};
+ghost use Rattle.merge_laws.specs.Resolution.{AreApart};
+ghost use Rattle.swoosh_resolver.specs.Changes.{Fits, view_of};
+ghost use Rattle.swoosh_resolver.specs.Tables.{blocks_in, values_of};
+ghost use Rattle.catalogue_editions.specs.Ids.{edition_cmp};
+ghost use Rattle.catalogue_editions.specs.Matching.{match as edition_match};
+ghost use Rattle.edition_blocks.specs.Deltas.{AreOnlyIn, IsDelta};
+
+use crate::delta::Delta;
+use crate::looking::{by_least, under_numbers};
+use crate::same::is_same;
+use catalogue_editions::edition::Edition;
+use std::alloc::Global;
+use std::cmp::Ordering;
+use swoosh_resolver::blocks::Blocks;
+use swoosh_resolver::change::Change;
+use swoosh_resolver::keyed::Keyed;
+use union_base::memory::Memory;
+
+/// The values of the opened blocks. Returns `Memory` if allocation fails.
+fn opened_editions<'a>(
+    alloc: Global,
+    opened: &'a [Keyed<Edition>],
+) -> Result<Vec<&'a Edition>, Memory>
+    ensures { IfOk result (λ found. map (λ e. e.now) found.items ≡ values_of opened.now) }
+{
+    let mut found = Vec::with_capacity(alloc, opened.len())?;
+    for keyed in opened {
+        found.push(&keyed.value)?;
+    }
+    Ok(found)
+}
+
+/// Whether an equal edition is among the editions, which are in order of their least contributors. It is looked up by its least
+/// contributor. Takes no memory.
+pub fn is_among(editions: &[&Edition], edition: &Edition) -> bool
+    requires { IsTrue (is_ascending edition_cmp (map (λ e. e.now) editions.now)) }
+    ensures { IsTrue result ↔ Contains (map (λ e. e.now) editions.now) edition.now }
+{
+    let found = editions.binary_search_by(
+        |other: &&Edition| -> Ordering
+            ensures { result ≡ edition_cmp other.now.now edition.entry.now }
+        { other.least().cmp(edition.least()) },
+    );
+    match found {
+        Ok(place) => is_same(editions[place], edition),
+        Err(_) => false,
+    }
+}
+
+/// The editions that are not among the others. Both are in order of their least contributors. Returns `Memory` if allocation
+/// fails.
+fn only_in(
+    alloc: Global,
+    editions: &[&Edition],
+    others: &[&Edition],
+) -> Result<Vec<Edition>, Memory>
+    requires own { IsTrue (is_ascending edition_cmp (map (λ e. e.now) editions.now)) }
+    requires others { IsTrue (is_ascending edition_cmp (map (λ e. e.now) others.now)) }
+    ensures { IfOk result (λ found. AreOnlyIn (map (λ e. e.now) editions.now) (map (λ e. e.now) others.now) found.items) }
+{
+    let mut found = Vec::new(alloc);
+    for edition in editions {
+        if !is_among(others, edition) {
+            found.push(edition.shared()?)?;
+        }
+    }
+    Ok(found)
+}
+
+/// The delta of the editions of the blocks, before and after the change: what the change closes and opens, without the editions
+/// that it closes under one number and opens under another.
+///
+/// Returns `Memory` if allocation fails.
+pub fn delta_of(
+    alloc: Global,
+    blocks: &Blocks<Edition>,
+    change: &Change<Edition>,
+) -> Result<Delta, Memory>
+    requires apart { AreApart edition_match (values_of (blocks_in blocks.now.blocks)) }
+    requires fits { Fits edition_match blocks.now.blocks change.now.closed.items change.now.opened.items }
+    ensures { IfOk result (λ delta. IsDelta (values_of (blocks_in blocks.now.blocks))
+        (view_of blocks.now.blocks change.now.closed.items change.now.opened.items) delta.closed.items delta.opened.items) }
+{
+    let closing = under_numbers(alloc, blocks, change.closed.as_slice())?;
+    let closing = by_least(closing)?;
+    let opening = opened_editions(alloc, change.opened.as_slice())?;
+    let opening = by_least(opening)?;
+    let closed = only_in(alloc, closing.as_slice(), opening.as_slice())?;
+    let opened = only_in(alloc, opening.as_slice(), closing.as_slice())?;
+    Ok(Delta { closed, opened })
+}
