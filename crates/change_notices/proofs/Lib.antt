@@ -1,0 +1,5 @@
+mod DecideLaws
+pub mod FollowerLaws
+mod MarkLaws
+mod DoubleLaws
+mod NoticeLaws

@@ -1,0 +1,4 @@
+pub mod Followers
+pub mod Notices
+pub mod Marks
+pub mod Naming

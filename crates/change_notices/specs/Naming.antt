@@ -1,0 +1,11 @@
+-- Names under contributors, as they are put into a map one edition after the other.
+use Rattle.std.specs.Prelude.{List, Option, Some, None, if◌then◌else◌, fold}
+use Rattle.union_base.specs.SortedLists.{has}
+use Rattle.union_base.specs.declared.record_id.RecordId.{RecordId}
+use Rattle.field_merge.specs.Kept.{id_cmp}
+use Rattle.catalogue_editions.specs.Ids.{least}
+use Rattle.catalogue_editions.specs.declared.edition.Edition.{Edition}
+
+-- the least contributor of the last edition that has the contributor
+abbrev pub last_name : List Edition → RecordId → Option RecordId
+last_name editions id = fold (λ found e. if has id_cmp e.content.contributors id then Some (least e) else found) None editions

@@ -1,0 +1,64 @@
+//! The opened editions that share a contributor with another.
+ghost use Rattle.std.specs.Prelude.{◌≡◌, ◌||◌, ℕ, List, IfOk, OnOk, IsTrue, MatchOption, Contains};
+ghost use Rattle.std.specs.BTreeSet.{contains};
+ghost use Rattle.std.specs.List.{list_any};
+ghost use Rattle.union_base.specs.SortedLists.{has};
+ghost use Rattle.union_base.specs.declared.record_id.RecordId.{RecordId as IdModel};
+ghost use Rattle.field_merge.specs.Kept.{id_cmp};
+ghost use Rattle.catalogue_editions.specs.declared.edition.Edition.{Edition as EditionModel};
+ghost use Rattle.edition_blocks.specs.Deltas.{AreOnlyIn};
+ghost use Rattle.change_notices.specs.Followers.{IsDouble, IsFirst, IsNowhere};
+
+use catalogue_editions::edition::Edition;
+use std::alloc::Global;
+use std::collections::BTreeSet;
+use union_base::copied::Copied;
+use union_base::memory::Memory;
+use union_base::record_id::RecordId;
+
+/// Adds the contributors of the edition. Returns `Memory` if allocation fails.
+fn add_contributors(
+    alloc: Global,
+    seen: &mut BTreeSet<RecordId>,
+    edition: &Edition,
+) -> Result<(), Memory>
+    ensures { OnOk result ((q : IdModel) → contains id_cmp seen.new q
+        ≡ (contains id_cmp seen.old q || has id_cmp edition.now.content.contributors q)) }
+{
+    let ids = edition.content().contributors.as_slice();
+    for id in ids {
+        seen.insert(id.copied(alloc)?)?;
+    }
+    Ok(())
+}
+
+/// Whether a contributor of the edition was seen. Takes no memory.
+fn has_seen(seen: &BTreeSet<RecordId>, edition: &Edition) -> bool
+    ensures { result ≡ list_any (λ id. contains id_cmp seen.now id) edition.now.content.contributors }
+{
+    let ids = edition.content().contributors.as_slice();
+    ids.iter().any(|id| seen.contains(id))
+}
+
+/// The least place of an opened edition that shares a contributor with one that stays, or with an opened one before it: None
+/// exactly where there is none. Returns `Memory` if allocation fails.
+pub fn first_double(
+    alloc: Global,
+    staying: &[Edition],
+    opened: &[Edition],
+) -> Result<Option<usize>, Memory>
+    ensures { IfOk result (λ found. (held closed : List EditionModel) → AreOnlyIn held closed staying.now → MatchOption found
+        (IsNowhere (IsDouble held closed opened.now)) (λ at. IsFirst (IsDouble held closed opened.now) at)) }
+{
+    let mut seen = BTreeSet::new(alloc);
+    for edition in staying {
+        add_contributors(alloc, &mut seen, edition)?;
+    }
+    for (at, edition) in opened.iter().enumerate() {
+        if has_seen(&seen, edition) {
+            return Ok(Some(at));
+        }
+        add_contributors(alloc, &mut seen, edition)?;
+    }
+    Ok(None)
+}

@@ -1,0 +1,89 @@
+//! The held editions that a delta closes.
+ghost use Rattle.std.specs.Prelude.{◌≡◌, ◌⊎◌, ◌<◌, ℕ, true, false, length, IfOk, IfSome, IfNone, IsTrue, MatchResult, Some, List, Contains, slice_get, slice_index_or};
+ghost use Rattle.union_base.specs.SortedLists.{is_ascending};
+ghost use Rattle.catalogue_editions.specs.Ids.{edition_cmp};
+ghost use Rattle.catalogue_editions.specs.declared.edition.Edition.{Edition as EditionModel};
+ghost use Rattle.edition_blocks.specs.Deltas.{AreOnlyIn};
+ghost use Rattle.change_notices.specs.Followers.{IsFirst, IsMissing, IsNowhere};
+ghost use Rattle.change_notices.specs.Marks.{AreMarked};
+
+use catalogue_editions::edition::Edition;
+use edition_blocks::same::is_same;
+use std::alloc::Global;
+use std::cmp::Ordering;
+use union_base::memory::Memory;
+
+/// The place of an equal edition among the held ones, which are in order of their least contributors: None exactly where none is
+/// equal. It is looked up by its least contributor. Takes no memory.
+fn place_of(held: &[Edition], edition: &Edition) -> Option<usize>
+    requires { IsTrue (is_ascending edition_cmp held.now) }
+    ensures found { IfSome result (λ place. slice_get held.now place ≡ Some edition.now) }
+    ensures none { IfNone result (Contains held.now edition.now → ⊥) }
+{
+    let found = held.binary_search_by(
+        |other: &Edition| -> Ordering
+            ensures { result ≡ edition_cmp other.now edition.entry.now }
+        { other.least().cmp(edition.least()) },
+    );
+    match found {
+        Ok(place) => {
+            if is_same(&held[place], edition) {
+                Some(place)
+            } else {
+                None
+            }
+        }
+        Err(_) => None,
+    }
+}
+
+/// A mark at the place of each held edition that is closed; or the least place at which a closed edition is not held, or is named a
+/// second time. Returns `Memory` if allocation fails.
+pub fn marked(
+    alloc: Global,
+    held: &[Edition],
+    closed: &[Edition],
+) -> Result<Result<Vec<bool>, usize>, Memory>
+    requires { IsTrue (is_ascending edition_cmp held.now) }
+    ensures { IfOk result (λ found. MatchResult found
+        (λ marks. IsNowhere (IsMissing held.now closed.now) × AreMarked held.now closed.now marks.items)
+        (λ at. IsFirst (IsMissing held.now closed.now) at)) }
+{
+    let mut marks = vec![in alloc; false; held.len()]?;
+    for (at, edition) in closed.iter().enumerate() {
+        match free_place(held, marks.as_slice(), edition) {
+            Some(place) => marks[place] = true,
+            None => return Ok(Err(at)),
+        }
+    }
+    Ok(Ok(marks))
+}
+
+/// The place of an equal edition among the held ones that is not marked: None exactly where there is none. Takes no memory.
+fn free_place(held: &[Edition], marks: &[bool], edition: &Edition) -> Option<usize>
+    requires ascending { IsTrue (is_ascending edition_cmp held.now) }
+    requires marks { length marks.now ≡ length held.now }
+    ensures found { IfSome result (λ place. (slice_get held.now place ≡ Some edition.now) × (place < length marks.now)
+        × (slice_index_or marks.now place false ≡ false)) }
+    ensures none { IfNone result ((Contains held.now edition.now → ⊥)
+        ⊎ ((place : ℕ) × (slice_get held.now place ≡ Some edition.now) × (slice_index_or marks.now place false ≡ true))) }
+{
+    let place = place_of(held, edition)?;
+    if marks[place] { None } else { Some(place) }
+}
+
+/// The held editions that are not marked, in their order. Returns `Memory` if allocation fails.
+pub fn unmarked(alloc: Global, held: &[Edition], marks: &[bool]) -> Result<Vec<Edition>, Memory>
+    requires ascending { IsTrue (is_ascending edition_cmp held.now) }
+    requires marks { length marks.now ≡ length held.now }
+    ensures { IfOk result (λ left. (closed : List EditionModel) → AreMarked held.now closed marks.now
+        → AreOnlyIn held.now closed left.items) }
+{
+    let mut left = Vec::new(alloc);
+    for (place, edition) in held.iter().enumerate() {
+        if !marks[place] {
+            left.push(edition.shared()?)?;
+        }
+    }
+    Ok(left)
+}
