@@ -1,0 +1,4 @@
+pub mod NameLaws
+pub mod SizeLaws
+pub mod TableLaws
+pub mod RecordLaws

@@ -1,0 +1,10 @@
+use Rattle.std.specs.Ordering.{nat_cmp}
+use Rattle.std.specs.Cmp.Lexicographic.{slice_cmp}
+use Rattle.std.specs.FinMap.{get-empty}
+use Rattle.std.proofs.Common.{◌∙◌, ap}
+use Rattle.std.specs.FinMap.{get}
+use Rattle.authority_names.specs.Places.{table_of}
+use Rattle.authority_names.proofs.name_table.NameTable.empty.Goals as goal
+
+pub returns-clause-means : goal.returns-clause-means
+returns-clause-means c = λ x. ap (λ es. get (table_of es) x) c.new.ensures.empty ∙ get-empty (slice_cmp nat_cmp) x

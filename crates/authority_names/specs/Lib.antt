@@ -1,0 +1,4 @@
+pub mod Leads
+pub mod Names
+pub mod Places
+pub mod Records

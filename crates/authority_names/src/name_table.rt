@@ -1,0 +1,114 @@
+//! A table of names.
+ghost use Rattle.std.specs.Prelude.{◌≡◌, ◌++◌, ⊤, List, [], ◌∷◌, OnOk, OnErr, unwrap_or};
+ghost use Rattle.std.specs.FinMap as finite;
+ghost use Rattle.authority_names.specs.Names.{Authority, authority, IsSize, name_at};
+ghost use Rattle.authority_names.specs.Leads.{IsTableOf, led_from, seen_from};
+ghost use Rattle.authority_names.specs.Records.{AnswersNames, refusal_of, taken_of};
+
+use crate::authority::names_of;
+use crate::leads::{Headings, establish, heading_from, how_many_lead, lead_all};
+use crate::refusal::NameRefusal;
+use indexmap::IndexMap;
+use marc_fields::marc_record::Record;
+use std::alloc::Global;
+use std::marker::Model;
+use union_base::bytes::Bytes;
+use union_base::memory::Memory;
+
+/// The status of a deleted record (MARC 21, leader/05).
+const DELETED: u8 = b'd';
+
+/// A table of names: which established heading is to be used for a see-from heading. It means the records that were added,
+/// in any order, and holds their headings alone.
+#[derive(Drop)]
+pub struct NameTable {
+    headings: Headings,
+}
+
+impl Model for NameTable {
+    ghost use Rattle.std.specs.Prelude.{List, ℕ, Option};
+    ghost use Rattle.std.specs.Ordering.{nat_cmp};
+    ghost use Rattle.std.specs.Cmp.Lexicographic.{slice_cmp};
+    ghost use Rattle.std.specs.FinMap.{FinMap, code};
+    ghost use Rattle.std.specs.Coded.{coded_ℕ, coded_list, coded_option};
+
+    ghost Value = { FinMap (slice_cmp nat_cmp) (Option (List ℕ)) };
+
+    ghost coded = { code (coded_list coded_ℕ) (coded_option (coded_list coded_ℕ)) };
+
+    ghost use Rattle.authority_names.specs.Places.{table_of, HasPlaces};
+
+    ghost view = { λ t. table_of t.headings.entries };
+
+    ghost invariant = { λ t. HasPlaces t.headings.entries };
+}
+
+impl NameTable {
+    /// The table of no records. Takes no memory.
+    pub fn empty(alloc: Global) -> NameTable
+        ensures value { result ≡ finite.empty }
+        ensures means { IsTableOf result [] }
+    {
+        NameTable {
+            headings: IndexMap::new(alloc),
+        }
+    }
+
+    /// Adds the record's names: its established heading, in the field 100, 110 or 111, and its see-from headings, in the fields
+    /// 400, 410 and 411 that have one (MARC 21 Format for Authority Data). The heading of a field is that of a work key. A
+    /// deleted record, of status `d`, that is not refused adds nothing.
+    ///
+    /// Refuses a record for the first reason of `NameRefusal` that it gives, and returns `Memory` if allocation fails. The
+    /// table is then as before.
+    pub fn add(&mut self, alloc: Global, rec: &Record) -> Result<(), NameRefusal>
+        ensures answer { AnswersNames result (refusal_of rec.now) (λ _. ⊤) }
+        ensures added { OnOk result ((records : List Authority) → IsTableOf self.old records
+            → IsTableOf self.new (records ++ taken_of rec.now)) }
+        ensures refused { OnErr result (self.new ≡ self.old) }
+    {
+        match names_of(alloc, rec) {
+            Ok(found) => {
+                if rec.leader.status == DELETED {
+                    Ok(())
+                } else {
+                    match self.take(found.established, found.variants) {
+                        Ok(()) => Ok(()),
+                        Err(_memory) => Err(NameRefusal::Memory),
+                    }
+                }
+            }
+            Err(refusal) => Err(refusal),
+        }
+    }
+
+    /// Takes in what a record gives. Returns `Memory` if allocation fails, and then the table is as before.
+    fn take(&mut self, established: Bytes, variants: Vec<Bytes>) -> Result<(), Memory>
+        ensures added { OnOk result ((records : List Authority) → IsTableOf self.old records
+            → IsTableOf self.new (records ++ authority established variants.items ∷ [])) }
+        ensures refused { OnErr result (self.new ≡ self.old) }
+    {
+        self.headings.reserve(variants.len() + 1)?;
+        let place = establish(&mut self.headings, established);
+        lead_all(&mut self.headings, variants, place);
+        Ok(())
+    }
+
+    /// The established heading to use for the name, or an empty one where the table has none and the name stands for itself.
+    /// A heading that is answered stands for itself. One look-up; takes no memory.
+    pub fn see(&self, name: &Bytes) -> &[u8]
+        ensures value { result.now ≡ seen_from self.now name.now }
+        ensures means { (records : List Authority) → IsTableOf self.now records
+            → result.now ≡ unwrap_or (name_at records name.now) [] }
+    {
+        heading_from(&self.headings, name)
+    }
+
+    /// How many see-from headings the table has. Goes through all headings; takes no memory.
+    pub fn pairs(&self) -> u64
+        ensures value { IsSize (led_from self.now) result }
+        ensures means { (records : List Authority) → IsTableOf self.now records
+            → IsSize (name_at records) result }
+    {
+        how_many_lead(&self.headings) as u64
+    }
+}
