@@ -1,6 +1,6 @@
 //! Lines of JSON from an independent program, with what is read of them, and the frames of the records that they stand for.
 
-/// A line that has not the form of a record, behind the place that is wrong.
+/// A line that has not the form of a record, after the place that is wrong.
 pub type Misshaped = (u64, &'static [u8]);
 
 /// A line, and the frame of the record that it stands for.
@@ -236,7 +236,7 @@ static STATED: [Stated; 26] = [
         b"{\"leader\":\"00000nam a2200000 a 4500\",\"fields\":[{\"001\":\"id\"},{\"008\":\"240101s1999    xx                  eng d\"},{\"245\":{\"subfields\":[{\"a\":\"Cat\"}],\"ind2\":\"0\",\"ind1\":\"0\"}}]}",
         b"00114nam a2200061 a 4500001000300000008004100003245000800044\x1Eid\x1E240101s1999    xx                  eng d\x1E00\x1FaCat\x1E\x1D",
     ),
-    // LF behind it.
+    // LF after it.
     (
         b"{\"fields\":[{\"001\":\"id\"},{\"008\":\"240101s1999    xx                  eng d\"},{\"245\":{\"ind1\":\"0\",\"ind2\":\"0\",\"subfields\":[{\"a\":\"Cat\"}]}}],\"leader\":\"00000nam a2200000 a 4500\"}\x0A",
         b"00114nam a2200061 a 4500001000300000008004100003245000800044\x1Eid\x1E240101s1999    xx                  eng d\x1E00\x1FaCat\x1E\x1D",

@@ -23,7 +23,7 @@ fn frame_of(alloc: Global, line: &[u8]) -> Result<Vec<u8>, Fail> {
     Ok(frame)
 }
 
-/// The line of the record that the frame spells, behind a byte that stood there.
+/// The line of the record that the frame spells, after a byte that stood there.
 fn line_of(alloc: Global, frame: &[u8]) -> Result<Vec<u8>, Fail> {
     if !is_frame(frame) {
         Err("no frame")?;

@@ -1,0 +1,15 @@
+use Rattle.catalogue_export.proofs.KeyUtf8.{edition-utf8}
+use Rattle.catalogue_export.specs.Editions.{fields_left}
+use Rattle.catalogue_json.specs.JsonExport.{edition_line}
+use Rattle.catalogue_json.proofs.json_export.append_line.Goals as goal
+
+pub to_json-requires : goal.to_json-requires
+to_json-requires c = rw (c.in_ok-rec.ensures.value, c.in_ok-key.ensures.value) (edition-utf8 c.args.edition.now)
+
+pub returns-clause-text : goal.returns-clause-text
+unfolding edition_line
+returns-clause-text c = rw (c.in_ok-to_json.ensures.ok, c.in_ok-rec.ensures.value, c.in_ok-key.ensures.value)
+
+pub returns-clause-left : goal.returns-clause-left
+unfolding fields_left
+returns-clause-left c = rw (c.in_ok-rec.ensures.left, c.in_ok-key.ensures.value)

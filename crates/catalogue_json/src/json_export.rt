@@ -1,0 +1,78 @@
+//! The export of a catalogue as lines of JSON.
+ghost use Rattle.std.specs.Prelude.{◌≡◌, ◌++◌, OnOk, IfOk, List};
+ghost use Rattle.catalogue_core.specs.Histories.{AreEditionsOf};
+ghost use Rattle.catalogue_editions.specs.declared.edition.Edition.{Edition as EditionModel};
+ghost use Rattle.catalogue_export.specs.Editions.{fields_left, left_of_one, left_of};
+ghost use Rattle.catalogue_export.specs.Writing.{HasMoved, HasWritten};
+ghost use Rattle.catalogue_json.specs.JsonExport.{edition_line, json_export_text};
+
+use catalogue_core::catalogue::Catalogue;
+use catalogue_core::edition::Edition;
+use catalogue_core::work_key::work_key_of;
+use catalogue_export::edition::edition_record;
+use catalogue_export::editions::note_left;
+use catalogue_export::export_fail::ExportFail;
+use catalogue_export::pending::{hand_on, hand_on_rest};
+use marc_json::writing::to_json;
+use std::alloc::Global;
+use union_base::memory::Memory;
+use union_base::record_id::RecordId;
+use union_io::sink::Sink;
+
+/// Writes the export of a catalogue as lines of JSON: the line of each edition's record, one after the other. Appends to `left`, for
+/// each edition of which fields were left out since a frame has no room for more, its least contributor and their number. The
+/// lines are handed on in pieces, so that memory does not grow with the export.
+///
+/// Returns `WriteFault` only where a write of `out` failed, and `Memory` if allocation fails. A prefix of the text was written
+/// then, and `left` may have gained the first of its lines.
+pub fn export_json<O: Sink>(
+    alloc: Global,
+    catalogue: &Catalogue,
+    out: &mut O,
+    left: &mut Vec<(RecordId, usize)>,
+) -> Result<(), ExportFail>
+    ensures { (all : List EditionModel) × AreEditionsOf catalogue.now all
+        × HasWritten (json_export_text all)
+        (record { old = O.written out.old; new = O.written out.new; before = O.faults out.old; after = O.faults out.new }) result
+        × OnOk result (left.new.items ≡ left.old.items ++ left_of all) }
+{
+    let mut pending = Vec::new(alloc);
+    let mut next = catalogue.first();
+    for _ in 0..catalogue.edition_count() {
+        if let Some(edition) = next {
+            match write_edition(alloc, edition, &mut pending, left, out) {
+                Ok(()) => next = catalogue.after(edition.least()),
+                Err(fail) => return Err(fail),
+            }
+        }
+    }
+    hand_on_rest(pending.as_slice(), out)
+}
+
+/// Writes the line of an edition's record after what is pending, and notes the edition where fields of it were left out.
+fn write_edition<O: Sink>(
+    alloc: Global,
+    edition: &Edition,
+    pending: &mut Vec<u8>,
+    left: &mut Vec<(RecordId, usize)>,
+    out: &mut O,
+) -> Result<(), ExportFail>
+    ensures text { HasMoved (pending.old.items ++ edition_line edition.now) pending.new.items
+        (record { old = O.written out.old; new = O.written out.new; before = O.faults out.old; after = O.faults out.new }) result }
+    ensures left { OnOk result (left.new.items ≡ left.old.items ++ left_of_one edition.now) }
+{
+    let count = append_line(alloc, edition, pending)?;
+    note_left(alloc, edition, count, left)?;
+    hand_on(pending, out)
+}
+
+/// Appends the line of an edition's record under its own work key; answers how many of its fields were left out.
+pub fn append_line(alloc: Global, edition: &Edition, into: &mut Vec<u8>) -> Result<usize, Memory>
+    ensures text { OnOk result (into.new.items ≡ into.old.items ++ edition_line edition.now) }
+    ensures left { IfOk result (λ n. n ≡ fields_left edition.now) }
+{
+    let key = work_key_of(alloc, edition)?;
+    let (rec, left) = edition_record(alloc, edition, &key)?;
+    to_json(&rec, into)?;
+    Ok(left)
+}

@@ -1,0 +1,4 @@
+pub mod PieceLaws
+pub mod LineLaws
+pub mod CountLaws
+pub mod HeldLaws

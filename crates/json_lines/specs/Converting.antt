@@ -1,0 +1,19 @@
+-- What a converter holds that has taken the front of a text.
+use Rattle.std.specs.Prelude.{◌≡◌, ℕ, false, List, ◌++◌}
+use Rattle.std.specs.List.{All, AllZip}
+use Rattle.json_lines.specs.Counts.{AreCounted}
+use Rattle.json_lines.specs.Kept.{Holds}
+use Rattle.json_lines.specs.Lines.{is_feed, raw_lines}
+use Rattle.json_lines.specs.Outcomes.{Ended, IsOutcome}
+use Rattle.json_lines.specs.declared.converter.Converter.{Converter}
+
+-- the lines that are ended were judged and counted, and the last one, which may go on, is held
+pub record HasTaken (text : List ℕ) (converter : Converter) : Type 0 where
+  pub done : List (List ℕ)
+  pub begun : List ℕ
+  pub lines : (more : List ℕ) → raw_lines (text ++ more) ≡ done ++ raw_lines (begun ++ more)
+  pub unended : All (λ b. is_feed b ≡ false) begun
+  pub held : Holds converter.begun.is_over converter.begun.bytes.items begun
+  pub all : List Ended
+  pub outcomes : AllZip IsOutcome done all
+  pub counted : AreCounted all converter.findings

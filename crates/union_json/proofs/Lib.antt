@@ -1,0 +1,3 @@
+pub mod AcceptedUtf8
+pub mod WrittenLaws
+pub mod RunLaws

@@ -1,0 +1,5 @@
+pub mod Laws
+pub mod Texts
+pub mod ToJson
+pub mod FromJson
+pub mod Runs

@@ -1,0 +1,39 @@
+-- What `tojson` makes of a library's file.
+use Rattle.std.specs.Prelude.{◌≡◌, ℕ, List, ◌++◌, length, codes}
+use Rattle.std.specs.List.{flat_map}
+use Rattle.iso2709_frame.specs.Frames.{frames}
+use Rattle.library_batches.specs.Refused.{refused}
+use Rattle.library_batches.specs.Streams.{Frame, accepted, AreSpelled}
+use Rattle.marc_fields.specs.declared.marc_record.Record.{Record}
+use Rattle.marc_json.specs.Values.{json_line}
+use Rattle.union_commands.specs.Runs.{end_with}
+use Rattle.union_reports.specs.Reports.{refused_lines}
+use Rattle.union_json.specs.Texts.{Making, count_line}
+use Rattle.union_json.specs.declared.written.Written.{Written}
+
+-- the lines of JSON, one after the other
+abbrev pub json_text : List Record → List ℕ
+json_text records = flat_map json_line records
+
+-- a line for each refused frame, and one of counts
+abbrev pub to_json_notes : List ℕ → List Frame → List ℕ
+to_json_notes library all =
+    refused_lines library (refused all)
+    ++ count_line library (codes "frames") (length all) (length (accepted all)) (length (refused all))
+
+-- the lines of the accepted frames' records, in their order, and the notes
+pub record IsToJson (library bytes : List ℕ) (made : Making) : Type 0 where
+  pub records : List Record
+  pub spelled : AreSpelled (accepted (frames bytes)) records
+  pub shown : made.shown ≡ json_text records
+  pub noted : made.noted ≡ to_json_notes library (frames bytes)
+  pub end : made.end ≡ end_with (refused (frames bytes))
+
+-- these frames were counted and written, and no others
+pub record AreWritten (all : List Frame) (done : Written) : Type 0 where
+  pub records : List Record
+  pub spelled : AreSpelled (accepted all) records
+  pub lines : done.lines ≡ json_text records
+  pub frames : done.frames ≡ length all
+  pub written : done.written ≡ length (accepted all)
+  pub refused : done.refused.items ≡ refused all
