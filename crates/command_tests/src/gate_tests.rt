@@ -12,7 +12,6 @@ use std::thread::Threads;
 use union_base::memory::Memory;
 use union_io::gate::{Gate, OpenGate};
 use union_sessions::sessions::load_by_sessions;
-use union_words::job::MOST_LIBRARIES;
 use union_words::libraries::Libraries;
 use union_words::status::Status;
 
@@ -177,7 +176,7 @@ fn sessions_of_turns<R: Threads + Wait + Sync, G: Gate>(
 ) -> Result<Vec<u32>, Fail> {
     let mut shelf = shelf_of(alloc, &files())?;
     let words = words_between(alloc, b"LIBA=a LIBB=b", b' ')?;
-    let libraries = Libraries::read(words.as_slice(), MOST_LIBRARIES).ok_or("libraries")?;
+    let libraries = Libraries::read(words.as_slice()).ok_or("libraries")?;
     let mut sessions = Vec::new(alloc);
     if let Ok(loaded) = load_by_sessions(rt, alloc, &libraries, 2, &mut shelf, gate) {
         for turn in 0..loaded.catalogue.turns() {

@@ -1,9 +1,11 @@
-//! The tests of the crates of the program's commands: union_words, union_script, union_trial, union_watch and union_program.
+//! The tests of the crates of the program's commands: union_words, union_script, union_trial, union_watch, union_commands and
+//! union_program.
 //!
 //! What a proof cannot see is tested here by the public calls of each crate: the forms of words, worked files and their texts, each
 //! fault in turn, and sessions that are held by gates. The tests stand in a crate of their own since a crate with tests is
-//! proved twice, with them and without, and so are these libraries only once. There is a module for each of them, and two
-//! more for the program: `union_tests`, on several libraries at once, and `gate_tests`, on the order of their turns.
+//! proved twice, with them and without, and so are these libraries only once. There is a module for each of them, and three
+//! more for the program: `union_json_tests`, on MARC in JSON, `union_tests`, on several libraries at once, and `gate_tests`, on the
+//! order of their turns.
 #![tactic(auto)]
 
 #[cfg(test)]
@@ -14,6 +16,8 @@ mod records;
 mod runs;
 #[cfg(test)]
 mod texts;
+#[cfg(test)]
+mod union_json_tests;
 #[cfg(test)]
 mod union_program_tests;
 #[cfg(test)]

@@ -3,7 +3,7 @@ use std::alloc::{AllocError, Global};
 use union_base::bytes::Bytes;
 use union_base::memory::Memory;
 
-/// The texts, one behind the other.
+/// The texts, one after the other.
 pub fn joined(alloc: Global, parts: &[&[u8]]) -> Result<Vec<u8>, AllocError> {
     let mut text = Vec::new(alloc);
     for part in parts {

@@ -5,11 +5,11 @@ use crate::texts::{joined, words_between};
 use std::test::Fail;
 use union_base::bytes::Bytes;
 use union_base::library_code::LibraryCode;
+use union_commands::check::check_run;
 use union_io::gate::OpenGate;
 use union_io::sure_shelf::SureShelf;
 use union_io::sure_sink::SureSink;
 use union_io::sure_source::SureSource;
-use union_program::check::check_run;
 use union_program::run::union_run;
 use union_words::status::Status;
 

@@ -8,7 +8,7 @@ use std::test::Fail;
 use union_io::gate::OpenGate;
 use union_words::status::Status;
 
-/// The leader and the directory of a record of 99,999 bytes, and its first three fields. Ten fields 500 stand behind them.
+/// The leader and the directory of a record of 99,999 bytes, and its first three fields. Ten fields 500 stand after them.
 const LARGEST_FRONT: &[u8; 233] =
     b"99999nam a2200181 a 4500001000300000008004100003245000800044500999900052500999910051500999920050500999930049500999940048500999950047500999960046500999970045500999980044500977490043\x1Eid\x1E240101s1999    xx                  eng d\x1E00\x1FaCat\x1E";
 
@@ -22,7 +22,7 @@ fn add_note(text: &mut Vec<u8>, byte: u8, count: u32) -> Result<(), AllocError> 
     Ok(())
 }
 
-/// A record of 99,999 bytes, or more where its last field has more than 9,769 bytes of text, with that text behind it.
+/// A record of 99,999 bytes, or more where its last field has more than 9,769 bytes of text, with that text after it.
 fn largest(alloc: Global, last: u32, tail: &[u8]) -> Result<Vec<u8>, AllocError> {
     let mut text = LARGEST_FRONT.to_vec(alloc)?;
     for byte in *b"abcdefghi" {

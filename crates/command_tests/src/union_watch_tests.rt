@@ -115,7 +115,7 @@ fn replies_beside_stand_before_late_ones(rt: HostRuntime) -> Result<(), Fail> {
     Ok(())
 }
 
-/// Numbers of workers and of questions, and how many of these are asked beside the load and how many behind it.
+/// Numbers of workers and of questions, and how many of these are asked beside the load and how many after it.
 const DIVIDED: [(u32, u8, usize, usize); 6] = [
     (1, 0, 0, 0),
     (1, 1, 0, 1),

@@ -5,6 +5,7 @@ use std::test::Fail;
 use union_base::bytes::Bytes;
 use union_base::library_code::LibraryCode;
 use union_base::memory::Memory;
+use union_words::form::Form;
 use union_words::input::Input;
 use union_words::job::Job;
 use union_words::libraries::Libraries;
@@ -52,8 +53,19 @@ fn told(alloc: Global, job: &Option<Job<'_>>) -> Result<Vec<u8>, AllocError> {
             text.extend_from_slice(b"check")?;
             tell_file(&mut text, file)?;
         }
-        Some(Job::Export(workers, libraries)) => {
+        Some(Job::ToJson(file)) => {
+            text.extend_from_slice(b"to json")?;
+            tell_file(&mut text, file)?;
+        }
+        Some(Job::FromJson(file)) => {
+            text.extend_from_slice(b"from json")?;
+            tell_file(&mut text, file)?;
+        }
+        Some(Job::Export(workers, form, libraries)) => {
             tell_command(&mut text, b"export ", workers)?;
+            if *form == Form::Json {
+                text.extend_from_slice(b" json")?;
+            }
             tell_libraries(&mut text, libraries)?;
         }
         Some(Job::Works(workers, libraries)) => {
@@ -83,15 +95,23 @@ fn told(alloc: Global, job: &Option<Job<'_>>) -> Result<Vec<u8>, AllocError> {
 }
 
 /// Whether the words of the line ask for this.
-fn asks(alloc: Global, line: &[u8], most: usize, want: &[u8]) -> Result<bool, Fail> {
+fn asks(alloc: Global, line: &[u8], want: &[u8]) -> Result<bool, Fail> {
     let words = words_between(alloc, line, b' ')?;
-    let text = told(alloc, &Job::read(words.as_slice(), most))?;
+    let text = told(alloc, &Job::read(words.as_slice()))?;
     Ok(text.as_slice() == want)
 }
 
-/// Lines of words, and what each asks for where up to 64 libraries may stand.
-const FORMS: [(&[u8], &[u8]); 16] = [
+/// Lines of words, and what each asks for.
+const FORMS: [(&[u8], &[u8]); 21] = [
     (b"check LIBA=a", b"check LIBA a"),
+    (b"tojson LIBA=a", b"to json LIBA a"),
+    (b"tojson LIBA=a=b", b"to json LIBA a=b"),
+    (b"fromjson LIBA=a", b"from json LIBA a"),
+    (
+        b"export --json LIBA=a LIBB=b",
+        b"export 4 json LIBA a LIBB b",
+    ),
+    (b"export --workers=1 --json LIBA=a", b"export 1 json LIBA a"),
     (b"export LIBA=a", b"export 4 LIBA a"),
     (b"export LIBA=a LIBB=a", b"export 4 LIBA a LIBB a"),
     (b"export B=x A=y C=x", b"export 4 B x A y C x"),
@@ -141,6 +161,29 @@ const NO_FORMS: [&[u8]; 25] = [
     b"export LIBA=a check",
 ];
 
+/// Lines of words of MARC in JSON that are in no form.
+const NO_JSON: [&[u8]; 19] = [
+    b"tojson",
+    b"tojson a.mrc",
+    b"tojson LIBA=",
+    b"tojson liba=a",
+    b"tojson LIBA=a LIBB=b",
+    b"tojson LIBA=\xFF",
+    b"tojson --json LIBA=a",
+    b"tojson --workers=1 LIBA=a",
+    b"fromjson",
+    b"fromjson LIBA=",
+    b"fromjson LIBA=a LIBB=b",
+    b"check --json LIBA=a",
+    b"export --json",
+    b"export --json --json LIBA=a",
+    b"export --json --workers=1 LIBA=a",
+    b"export --json=1 LIBA=a",
+    b"export LIBA=a --json",
+    b"works --json LIBA=a",
+    b"watch --ask=q --json LIBA=a",
+];
+
 /// Words in no form, each in a line of its own: of workers and of files of questions.
 const USAGE: [&[u8]; 24] = [
     b"export\n--ask=q.txt\nLIBA=a.mrc",
@@ -169,7 +212,7 @@ const USAGE: [&[u8]; 24] = [
     b"export\n--workers=0\nLIBA=a.mrc\nLIBB=b.mrc\nLIBC=c.mrc",
 ];
 
-/// The words behind `trial`, where they are in no form.
+/// The words after `trial`, where they are in no form.
 const NO_TRIALS: [&[u8]; 14] = [
     b"trial",
     b"trial\n0\n1",
@@ -191,11 +234,11 @@ const NO_TRIALS: [&[u8]; 14] = [
 fn words_in_the_wrong_place_are_in_no_form(rt: HostRuntime) -> Result<(), Fail> {
     for text in USAGE {
         let words = words_between(rt.alloc(), text, b'\n')?;
-        assert!(rt; Job::read(words.as_slice(), 64).is_none());
+        assert!(rt; Job::read(words.as_slice()).is_none());
     }
     for text in NO_TRIALS {
         let words = words_between(rt.alloc(), text, b'\n')?;
-        assert!(rt; Job::read(words.as_slice(), 64).is_none());
+        assert!(rt; Job::read(words.as_slice()).is_none());
     }
     Ok(())
 }
@@ -203,17 +246,18 @@ fn words_in_the_wrong_place_are_in_no_form(rt: HostRuntime) -> Result<(), Fail> 
 #[test]
 fn words_are_read(rt: HostRuntime) -> Result<(), Fail> {
     for (line, want) in FORMS {
-        assert!(rt; asks(rt.alloc(), line, 64, want)?);
+        assert!(rt; asks(rt.alloc(), line, want)?);
     }
     for line in NO_FORMS {
-        assert!(rt; asks(rt.alloc(), line, 64, b"none")?);
+        assert!(rt; asks(rt.alloc(), line, b"none")?);
     }
-    assert!(rt; asks(rt.alloc(), b"export LIBA=a", 1, b"export 4 LIBA a")?);
-    assert!(rt; asks(rt.alloc(), b"export LIBA=a LIBB=b", 1, b"none")?);
+    for line in NO_JSON {
+        assert!(rt; asks(rt.alloc(), line, b"none")?);
+    }
     Ok(())
 }
 
-/// `export` with the libraries A0 to A9, B0 to B9 and so on, so many as are wanted.
+/// `export` with the libraries A0 to A9, B0 to B9 and so on, as many as are wanted.
 fn many(alloc: Global, count: u8) -> Result<Vec<Bytes>, Memory> {
     let mut words = Vec::new(alloc);
     words.push(Bytes::of(alloc, b"export")?)?;
@@ -227,12 +271,11 @@ fn many(alloc: Global, count: u8) -> Result<Vec<Bytes>, Memory> {
 fn sixty_four_libraries_at_most(rt: HostRuntime) -> Result<(), Fail> {
     let full = many(rt.alloc(), 64)?;
     let over = many(rt.alloc(), 65)?;
-    match Job::read(full.as_slice(), 64) {
-        Some(Job::Export(_, libraries)) => assert_eq!(rt; libraries.len(), 64),
+    match Job::read(full.as_slice()) {
+        Some(Job::Export(_, _, libraries)) => assert_eq!(rt; libraries.len(), 64),
         _ => assert!(rt; false),
     }
-    assert!(rt; Job::read(over.as_slice(), 64).is_none());
-    assert!(rt; Job::read(over.as_slice(), 65).is_some());
+    assert!(rt; Job::read(over.as_slice()).is_none());
     Ok(())
 }
 
@@ -281,7 +324,7 @@ fn numbers_are_read(rt: HostRuntime) {
     assert_eq!(rt; workers_word(b"workers=4"), None);
 }
 
-/// The lines of a text that are not passed over, each with a `|` behind it.
+/// The lines of a text that are not passed over, each with a `|` after it.
 fn kept(alloc: Global, text: &[u8]) -> Result<Vec<u8>, AllocError> {
     let mut kept = Vec::new(alloc);
     let mut lines = Lines::of(text);

@@ -39,7 +39,7 @@ fn main(rt: HostRuntime) -> ExitCode {
     ExitCode::from(status.exit_number())
 }
 
-/// The words behind the program's name.
+/// The words after the program's name.
 fn words(rt: &HostRuntime, alloc: Global) -> Result<Vec<Bytes>, Memory> {
     let mut words = Vec::new(alloc);
     match env::args(rt) {

@@ -1,5 +1,1 @@
-pub mod StreamLaws
-pub mod TallyLaws
-pub mod NoteLaws
-pub mod RunLaws
-mod WatchLaws
+mod JsonLaws

@@ -2,7 +2,7 @@
 //!
 //! It does all that the program does, over whatever shelf of files and outputs it is handed. Each answer other than
 //! `Done` and `DoneWithRefusals` has its cause in a clause, and those two have the whole result.
-ghost use Rattle.std.specs.Prelude.{◌≡◌, ◌≢◌, ◌↔◌, ◌≤◌, ℕ, List, IsTrue, Some, None, false};
+ghost use Rattle.std.specs.Prelude.{◌≡◌, ◌≢◌, ◌↔◌, ◌⊎◌, ◌≤◌, ℕ, List, IsTrue, Some, None, false};
 ghost use Rattle.std.specs.Io.KnownBytes.{Keeps};
 ghost use Rattle.union_io.specs.Counts.{SameElsewhere};
 ghost use Rattle.union_io.specs.Files.{told_of};
@@ -11,21 +11,25 @@ ghost use Rattle.union_words.specs.Texts.{early_text};
 ghost use Rattle.union_words.specs.Words;
 ghost use Rattle.union_words.specs.Flows.{IsNoted};
 ghost use Rattle.union_words.specs.Statuses.{is_early};
+ghost use Rattle.union_words.specs.declared.form.Form.{Form as ExportForm};
 ghost use Rattle.union_script.specs.Runs.{IsScript};
 ghost use Rattle.union_trial.specs.Trials.{IsTrial};
 ghost use Rattle.union_watch.specs.Runs.{IsWatchRun};
-ghost use Rattle.union_program.specs.Runs.{exported, listed, showing_of, IsCheck, IsUnionRun, IsTold};
+ghost use Rattle.union_commands.specs.Runs.{exported_as, listed, showing_of, IsCheck, IsUnionRun, IsTold};
+ghost use Rattle.union_json.specs.Runs.{IsToJsonRun, IsFromJsonRun};
 
-use crate::notes::put_early;
-use crate::shelved::check_file;
-use crate::shown::Shown;
-use crate::watching::{read_asks, write_answered};
-use crate::writing::write_shown;
+use crate::answering::load_and_answer;
+use crate::json::{from_json_file, to_json_file};
 use std::alloc::Global;
 use std::sync::Wait;
 use std::thread::Threads;
 use union_base::bytes::Bytes;
 use union_base::memory::Memory;
+use union_commands::notes::put_early;
+use union_commands::shelved::check_file;
+use union_commands::shown::Shown;
+use union_commands::watching::{read_asks, write_answered};
+use union_commands::writing::write_shown;
 use union_io::failed::Failed;
 use union_io::gate::Gate;
 use union_io::shelf::Shelf;
@@ -33,8 +37,7 @@ use union_io::sink::{Sink, put_all};
 use union_script::run::script_run;
 use union_sessions::sessions::load_by_sessions;
 use union_trial::trial::trial_run;
-use union_watch::answering::load_and_answer;
-use union_words::job::{Job, MOST_LIBRARIES};
+use union_words::job::Job;
 use union_words::libraries::Libraries;
 use union_words::library_file::LibraryFile;
 use union_words::status::Status;
@@ -62,6 +65,7 @@ fn end<N: Sink>(notes: &mut N, status: Status) -> Status
         → IsNoted (record { old = N.written notes.old; new = N.written notes.new; before = N.faults notes.old; after = N.faults notes.new })
         (early_text status) }
     ensures quiet { is_early status ≡ false → Keeps (N.written notes.old) (N.written notes.new) }
+    ensures still { is_early status ≡ false → notes.new ≡ notes.old }
 {
     if is_early(&status) {
         put_early(notes, &status);
@@ -100,6 +104,56 @@ fn run_check<F: Shelf, O: Sink>(
         Ok(path) => check_file(alloc, &file.library, &path, shelf, out),
         Err(Memory) => Status::Memory,
     }
+}
+
+/// Writes the records of the file of a library as lines of JSON.
+fn run_to_json<F: Shelf, O: Sink, N: Sink>(
+    alloc: Global,
+    file: &LibraryFile<'_>,
+    shelf: &mut F,
+    out: &mut O,
+    notes: &mut N,
+) -> Status
+    ensures run { IsToJsonRun file.now.library (record {
+      told = told_of (F.files shelf.old) file.now.path.now;
+      before = F.faults shelf.old file.now.path.now;
+      after = F.faults shelf.new file.now.path.now;
+    })
+        (record { old = O.written out.old; new = O.written out.new; before = O.faults out.old; after = O.faults out.new })
+        (record { old = N.written notes.old; new = N.written notes.new; before = N.faults notes.old; after = N.faults notes.new })
+        result }
+    ensures others { SameElsewhere (F.faults shelf.old) (F.faults shelf.new) file.now.path.now }
+    ensures noted { IsTrue (is_early result)
+        → IsNoted (record { old = N.written notes.old; new = N.written notes.new; before = N.faults notes.old; after = N.faults notes.new })
+        (early_text result) }
+{
+    let status = to_json_file(alloc, file, shelf, out, notes);
+    end(notes, status)
+}
+
+/// Writes the records of a library's file of lines of JSON as ISO 2709.
+fn run_from_json<F: Shelf, O: Sink, N: Sink>(
+    alloc: Global,
+    file: &LibraryFile<'_>,
+    shelf: &mut F,
+    out: &mut O,
+    notes: &mut N,
+) -> Status
+    ensures run { IsFromJsonRun file.now.library (record {
+      told = told_of (F.files shelf.old) file.now.path.now;
+      before = F.faults shelf.old file.now.path.now;
+      after = F.faults shelf.new file.now.path.now;
+    })
+        (record { old = O.written out.old; new = O.written out.new; before = O.faults out.old; after = O.faults out.new })
+        (record { old = N.written notes.old; new = N.written notes.new; before = N.faults notes.old; after = N.faults notes.new })
+        result }
+    ensures others { SameElsewhere (F.faults shelf.old) (F.faults shelf.new) file.now.path.now }
+    ensures noted { IsTrue (is_early result)
+        → IsNoted (record { old = N.written notes.old; new = N.written notes.new; before = N.faults notes.old; after = N.faults notes.new })
+        (early_text result) }
+{
+    let status = from_json_file(alloc, file, shelf, out, notes);
+    end(notes, status)
 }
 
 /// Runs the script of that name.
@@ -194,18 +248,23 @@ fn run_watch<R: Threads + Wait + Sync, F: Shelf, O: Sink, N: Sink, G: Gate>(
     }
 }
 
-/// Does what the words behind the program's name say.
+/// Does what the words after the program's name say.
 ///
-/// `check LIB=PATH` tells which frames of a library's file are refused; `export LIB=PATH ..` exports the union catalogue of
-/// the libraries' current records on `out` and reports on `notes`, and `works LIB=PATH ..` lists its works in place of the
-/// export; `watch --ask=PATH LIB=PATH ..` shows the libraries' turns in the order in which they were made, and the answers to
-/// the questions of a file, on `out`, and reports on `notes`; `script PATH` runs the lines of a script and writes on `out`
-/// alone; `trial SEED COUNT WORKERS` generates records, loads them and writes the measures of the catalogue on `out`; `--help`
-/// and `--version` write a text of the program's own on `out`.
+/// | Words | `out` | `notes` |
+/// |---|---|---|
+/// | `check LIB=PATH` | which frames of the library's file are refused | |
+/// | `tojson LIB=PATH` | its records as lines of MARC in JSON | which frames are refused |
+/// | `fromjson LIB=PATH` | the records of lines of JSON, as ISO 2709 | which lines are refused |
+/// | `export LIB=PATH ..` | the union catalogue of the libraries' current records; with `--json` as lines of JSON | the reports |
+/// | `works LIB=PATH ..` | its works | the reports |
+/// | `watch --ask=PATH LIB=PATH ..` | the turns in the order in which they were made, and the answers to the file's questions | the reports |
+/// | `script PATH` | what the lines of the script write | |
+/// | `trial SEED COUNT WORKERS` | the measures of a catalogue of generated records | |
+/// | `--help`, `--version` | a text of the program's own | |
 ///
-/// Behind `export` and `works`, and behind the file of questions of `watch`, the option `--workers=N` says how many workers
-/// load the libraries, each by a session of its own; `gate` is told before and after each turn of a session. Waits for the
-/// workers.
+/// A run that ends early, for another cause than a failed write, has one line on `notes` that says why. After `export`, `works`
+/// and the file of questions of `watch` the option `--workers=N` says how many workers load the libraries, each by a session of
+/// its own; `gate` is told before and after each turn of a session. Waits for the workers.
 pub fn union_run<R: Threads + Wait + Sync, F: Shelf, O: Sink, N: Sink, G: Gate>(
     rt: &R,
     alloc: Global,
@@ -215,10 +274,10 @@ pub fn union_run<R: Threads + Wait + Sync, F: Shelf, O: Sink, N: Sink, G: Gate>(
     notes: &mut N,
     gate: &G,
 ) -> Status
-    ensures usage { (result ≡ Status.Usage) ↔ (Words.job_of MOST_LIBRARIES words.now ≡ None) }
+    ensures usage { (result ≡ Status.Usage) ↔ (Words.job_of words.now ≡ None) }
 
     // what each form of words does
-    ensures check { (file : Words.LibraryFile) → Words.job_of MOST_LIBRARIES words.now ≡ Some (Words.Check file)
+    ensures check { (file : Words.LibraryFile) → Words.job_of words.now ≡ Some (Words.Check file)
         → IsCheck file.library (record {
           told = told_of (F.files shelf.old) file.path;
           before = F.faults shelf.old file.path;
@@ -226,35 +285,54 @@ pub fn union_run<R: Threads + Wait + Sync, F: Shelf, O: Sink, N: Sink, G: Gate>(
         })
         (record { old = O.written out.old; new = O.written out.new; before = O.faults out.old; after = O.faults out.new })
         result }
-    ensures export { (workers : ℕ) (libraries : List Words.LibraryFile) → Words.job_of MOST_LIBRARIES words.now ≡ Some (Words.Export workers libraries)
-        → IsUnionRun exported libraries
+    ensures to_json { (file : Words.LibraryFile) → Words.job_of words.now ≡ Some (Words.ToJson file)
+        → IsToJsonRun file.library (record {
+          told = told_of (F.files shelf.old) file.path;
+          before = F.faults shelf.old file.path;
+          after = F.faults shelf.new file.path;
+        })
+        (record { old = O.written out.old; new = O.written out.new; before = O.faults out.old; after = O.faults out.new })
+        (record { old = N.written notes.old; new = N.written notes.new; before = N.faults notes.old; after = N.faults notes.new })
+        result }
+    ensures from_json { (file : Words.LibraryFile) → Words.job_of words.now ≡ Some (Words.FromJson file)
+        → IsFromJsonRun file.library (record {
+          told = told_of (F.files shelf.old) file.path;
+          before = F.faults shelf.old file.path;
+          after = F.faults shelf.new file.path;
+        })
+        (record { old = O.written out.old; new = O.written out.new; before = O.faults out.old; after = O.faults out.new })
+        (record { old = N.written notes.old; new = N.written notes.new; before = N.faults notes.old; after = N.faults notes.new })
+        result }
+    ensures export { (workers : ℕ) (form : ExportForm) (libraries : List Words.LibraryFile)
+        → Words.job_of words.now ≡ Some (Words.Export workers form libraries)
+        → IsUnionRun (exported_as form) libraries
         (record { files = F.files shelf.old; before = F.faults shelf.old; after = F.faults shelf.new })
         (record { old = O.written out.old; new = O.written out.new; before = O.faults out.old; after = O.faults out.new })
         (record { old = N.written notes.old; new = N.written notes.new; before = N.faults notes.old; after = N.faults notes.new })
         result }
-    ensures works { (workers : ℕ) (libraries : List Words.LibraryFile) → Words.job_of MOST_LIBRARIES words.now ≡ Some (Words.Works workers libraries)
+    ensures works { (workers : ℕ) (libraries : List Words.LibraryFile) → Words.job_of words.now ≡ Some (Words.Works workers libraries)
         → IsUnionRun listed libraries
         (record { files = F.files shelf.old; before = F.faults shelf.old; after = F.faults shelf.new })
         (record { old = O.written out.old; new = O.written out.new; before = O.faults out.old; after = O.faults out.new })
         (record { old = N.written notes.old; new = N.written notes.new; before = N.faults notes.old; after = N.faults notes.new })
         result }
     ensures watch { (asks : List ℕ) (workers : ℕ) (libraries : List Words.LibraryFile)
-        → Words.job_of MOST_LIBRARIES words.now ≡ Some (Words.Watch asks workers libraries)
+        → Words.job_of words.now ≡ Some (Words.Watch asks workers libraries)
         → IsWatchRun (record { workers = workers; asks = asks; libraries = libraries })
         (record { files = F.files shelf.old; before = F.faults shelf.old; after = F.faults shelf.new })
         (record { old = O.written out.old; new = O.written out.new; before = O.faults out.old; after = O.faults out.new })
         (record { old = N.written notes.old; new = N.written notes.new; before = N.faults notes.old; after = N.faults notes.new })
         result }
-    ensures script { (path : List ℕ) → Words.job_of MOST_LIBRARIES words.now ≡ Some (Words.Script path) → IsScript path
+    ensures script { (path : List ℕ) → Words.job_of words.now ≡ Some (Words.Script path) → IsScript path
         (record { files = F.files shelf.old; before = F.faults shelf.old; after = F.faults shelf.new })
         (record { old = O.written out.old; new = O.written out.new; before = O.faults out.old; after = O.faults out.new })
         result }
-    ensures trial { (seed count workers : ℕ) → Words.job_of MOST_LIBRARIES words.now ≡ Some (Words.Trial seed count workers) → IsTrial seed count
+    ensures trial { (seed count workers : ℕ) → Words.job_of words.now ≡ Some (Words.Trial seed count workers) → IsTrial seed count
         (record { old = O.written out.old; new = O.written out.new; before = O.faults out.old; after = O.faults out.new })
         result }
-    ensures help { Words.job_of MOST_LIBRARIES words.now ≡ Some Words.Help → IsTold HELP.now
+    ensures help { Words.job_of words.now ≡ Some Words.Help → IsTold HELP.now
         (record { old = O.written out.old; new = O.written out.new; before = O.faults out.old; after = O.faults out.new }) result }
-    ensures version { Words.job_of MOST_LIBRARIES words.now ≡ Some Words.Version → IsTold VERSION.now
+    ensures version { Words.job_of words.now ≡ Some Words.Version → IsTold VERSION.now
         (record { old = O.written out.old; new = O.written out.new; before = O.faults out.old; after = O.faults out.new }) result }
 
     // the second output, where that is no report
@@ -262,28 +340,41 @@ pub fn union_run<R: Threads + Wait + Sync, F: Shelf, O: Sink, N: Sink, G: Gate>(
         → IsNoted (record { old = N.written notes.old; new = N.written notes.new; before = N.faults notes.old; after = N.faults notes.new })
         (early_text result) }
     ensures quiet { is_early result ≡ false
-        → ((workers : ℕ) (libraries : List Words.LibraryFile) → Words.job_of MOST_LIBRARIES words.now ≢ Some (Words.Export workers libraries))
-        → ((workers : ℕ) (libraries : List Words.LibraryFile) → Words.job_of MOST_LIBRARIES words.now ≢ Some (Words.Works workers libraries))
+        → ((file : Words.LibraryFile) → Words.job_of words.now ≢ Some (Words.ToJson file))
+        → ((file : Words.LibraryFile) → Words.job_of words.now ≢ Some (Words.FromJson file))
+        → ((workers : ℕ) (form : ExportForm) (libraries : List Words.LibraryFile)
+        → Words.job_of words.now ≢ Some (Words.Export workers form libraries))
+        → ((workers : ℕ) (libraries : List Words.LibraryFile) → Words.job_of words.now ≢ Some (Words.Works workers libraries))
         → ((asks : List ℕ) (workers : ℕ) (libraries : List Words.LibraryFile)
-        → Words.job_of MOST_LIBRARIES words.now ≢ Some (Words.Watch asks workers libraries))
+        → Words.job_of words.now ≢ Some (Words.Watch asks workers libraries))
         → Keeps (N.written notes.old) (N.written notes.new) }
 
-    // A run of words in no form writes nothing else, and of files only one that the words name can be at fault: of an
-    // export, of works and of a script their own clauses say which.
-    ensures unused { Words.job_of MOST_LIBRARIES words.now ≡ None → Keeps (O.written out.old) (O.written out.new) }
-    ensures check_others { (file : Words.LibraryFile) → Words.job_of MOST_LIBRARIES words.now ≡ Some (Words.Check file)
+    // A run of words in no form writes nothing else. The shelf is left alone where the words name no file; and of files only one
+    // that the words name can be at fault: of an export, of works, of watch and of a script their own clauses say which.
+    ensures unused { Words.job_of words.now ≡ None → Keeps (O.written out.old) (O.written out.new) }
+    ensures unopened { (Words.job_of words.now ≡ None) ⊎ ((Words.job_of words.now ≡ Some Words.Help)
+        ⊎ (Words.job_of words.now ≡ Some Words.Version)) → shelf.new ≡ shelf.old }
+    ensures trial_unopened { (seed count workers : ℕ) → Words.job_of words.now ≡ Some (Words.Trial seed count workers)
+        → shelf.new ≡ shelf.old }
+    ensures check_others { (file : Words.LibraryFile) → Words.job_of words.now ≡ Some (Words.Check file)
+        → SameElsewhere (F.faults shelf.old) (F.faults shelf.new) file.path }
+    ensures to_json_others { (file : Words.LibraryFile) → Words.job_of words.now ≡ Some (Words.ToJson file)
+        → SameElsewhere (F.faults shelf.old) (F.faults shelf.new) file.path }
+    ensures from_json_others { (file : Words.LibraryFile) → Words.job_of words.now ≡ Some (Words.FromJson file)
         → SameElsewhere (F.faults shelf.old) (F.faults shelf.new) file.path }
 {
-    match Job::read(words, MOST_LIBRARIES) {
+    match Job::read(words) {
         None => end(notes, Status::Usage),
         Some(Job::Check(file)) => {
             let status = run_check(alloc, &file, shelf, out);
             end(notes, status)
         }
-        Some(Job::Export(workers, libraries)) => run_union(
+        Some(Job::ToJson(file)) => run_to_json(alloc, &file, shelf, out, notes),
+        Some(Job::FromJson(file)) => run_from_json(alloc, &file, shelf, out, notes),
+        Some(Job::Export(workers, form, libraries)) => run_union(
             rt,
             alloc,
-            Shown::Export,
+            Shown::Export(form),
             &libraries,
             workers.number(),
             shelf,

@@ -19,12 +19,12 @@ use Rattle.union_base.specs.Both.{both_true, true_both}
 use Rattle.union_reports.specs.Reports.{report_text}
 use Rattle.union_words.specs.Words.{LibraryFile}
 use Rattle.union_sessions.proofs.OwnLaws.{IsApart, found-apart}
-use Rattle.union_sessions.specs.Deliveries.{Delivery, delivery, codes_of, AreDistinct, has_refused, Stream, delivered, batches_of, report_of, reports_of}
-use Rattle.union_sessions.specs.Inputs.{deliveries}
-use Rattle.union_sessions.specs.Interleavings.{batches_under, IsInterleaving}
+use Rattle.union_files.specs.Deliveries.{Delivery, delivery, codes_of, AreDistinct, has_refused, Stream, delivered, batches_of, report_of, reports_of}
+use Rattle.union_files.specs.Inputs.{deliveries}
+use Rattle.union_files.specs.Interleavings.{batches_under, IsInterleaving}
 use Rattle.union_sessions.specs.Sessions.{Course, file_of_course, ended_of, AreNumbered, IsWhole, course_text}
-use Rattle.union_sessions.specs.Unions.{HasLoaded, HasUnited}
-use Rattle.union_sessions.specs.declared.loaded.Loaded.{Loaded}
+use Rattle.union_files.specs.Unions.{HasLoaded, HasUnited}
+use Rattle.union_files.specs.declared.loaded.Loaded.{Loaded}
 
 abbrev Contents : Type 0
 Contents = List ℕ → List ℕ

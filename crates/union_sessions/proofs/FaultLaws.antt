@@ -8,8 +8,8 @@ use Rattle.std.specs.Option.{option_map}
 use Rattle.std.proofs.lemmas.Option.{same_Some}
 use Rattle.union_io.specs.Causes.{Rose}
 use Rattle.union_io.specs.Counts.{SameCounts, SameElsewhere}
-use Rattle.union_sessions.proofs.InputLaws.{flow, drop_at}
-use Rattle.union_sessions.specs.Inputs.{Gathers, input_of, inputs_of, IsEarliest, IsElsewhere, StopsAt}
+use Rattle.union_files.proofs.InputLaws.{flow, drop_at}
+use Rattle.union_files.specs.Inputs.{Gathers, input_of, inputs_of, IsEarliest, IsElsewhere, StopsAt}
 use Rattle.load_sessions.specs.declared.session.Session.{Session}
 use Rattle.union_sessions.specs.Sessions.{Course, course_of, courses_of, file_of_course, Closes, fails_on, is_failed_in, first_failed, NoneFailed, RaisesFailed}
 use Rattle.union_words.specs.Flows.{ShelfFlow}

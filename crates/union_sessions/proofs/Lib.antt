@@ -1,6 +1,4 @@
-pub mod InputLaws
 pub mod OwnLaws
-pub mod DistinctLaws
 pub mod SessionLaws
 pub mod FaultLaws
 pub mod CourseLaws

@@ -87,7 +87,7 @@ behind_seen n [] rest place entry at behind all = each_at (λ entry. entry.0 ≢
 behind_seen n (first ∷ seen) rest zero entry at behind all = absurd (omega (arith, behind))
 behind_seen n (first ∷ seen) rest (suc place) entry at behind all = behind_seen n seen rest place entry at (omega (arith, behind)) all
 
--- nor did a pass behind what it has seen
+-- nor did a pass after what it has seen
 ended_behind : (history : Entries) (left : Ended Batch) (place : ℕ) (entry : ℕ × Batch) → EndedOk history left → length left.seen ≤ place
     → slice_get history place ≡ Some entry → entry.0 ≢ left.number
 ended_behind history left place entry ended behind at =

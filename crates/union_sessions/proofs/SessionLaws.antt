@@ -17,9 +17,9 @@ use Rattle.union_io.specs.Causes.{Rose}
 use Rattle.union_io.specs.Counts.{SameCounts}
 use Rattle.union_io.specs.Files.{told_of}
 use Rattle.union_io.specs.Names.{is_among}
-use Rattle.union_sessions.proofs.InputLaws.{flow, same_more}
-use Rattle.union_sessions.specs.Deliveries.{delivery, has_refused}
-use Rattle.union_sessions.specs.Inputs.{Gathers, inputs_of, is_overfull, first_overfull, AreWithin, IsTooLongAt, IsEarliest, StopsAt, IsFresh, AreFresh, files_of, deliveries}
+use Rattle.union_files.proofs.InputLaws.{flow, same_more}
+use Rattle.union_files.specs.Deliveries.{delivery, has_refused}
+use Rattle.union_files.specs.Inputs.{Gathers, inputs_of, is_overfull, first_overfull, AreWithin, IsTooLongAt, IsEarliest, StopsAt, IsFresh, AreFresh, files_of, deliveries}
 use Rattle.union_sessions.specs.Sessions.{is_fault, Course, file_of_course, AreNumbered, course_text, AreReported, StopsBehind, Closes, IsReadyAs, AreReady, courses_of, session_state, session_states, HasRun, HaveRun}
 use Rattle.union_sessions.specs.declared.reports.Reports.{Reports}
 use Rattle.union_words.specs.Flows.{InputFile}
@@ -57,7 +57,7 @@ on_both : {P Q R : Contents → Type 0} (files : Option Contents) → ((contents
 on_both None follows p q = tt
 on_both (Some contents) follows p q = follows contents p q
 
--- an end behind an input that was read
+-- an end after an input that was read
 pub closes_behind : {T : Type 0} (later : Result T Status) (file : LibraryFile) (rest : List LibraryFile) (files : Option Contents) (P Q R : Contents → Type 0)
     → ((contents : Contents) → P contents → Q contents → R contents) → IfSome files (λ contents. AreWithin contents (file ∷ []) × P contents)
     → Closes later rest files Q → Closes later (file ∷ rest) files R

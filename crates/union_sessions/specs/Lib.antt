@@ -1,6 +1,2 @@
-pub mod Deliveries
-pub mod Interleavings
-pub mod Unions
-pub mod Inputs
 pub mod Sessions
 pub mod Replies

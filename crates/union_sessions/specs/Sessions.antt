@@ -20,8 +20,8 @@ use Rattle.union_io.specs.Causes.{Rose}
 use Rattle.union_io.specs.Files.{told_of}
 use Rattle.union_io.specs.Names.{is_among}
 use Rattle.union_reports.specs.Reports.{report_text}
-use Rattle.union_sessions.specs.Deliveries.{has_refused}
-use Rattle.union_sessions.specs.Inputs.{AreWithin, IsTooLongAt, OpenedState, deliveries}
+use Rattle.union_files.specs.Deliveries.{has_refused}
+use Rattle.union_files.specs.Inputs.{AreWithin, IsTooLongAt, OpenedState, deliveries}
 use Rattle.union_sessions.specs.declared.reports.Reports.{Reports}
 use Rattle.union_words.specs.Words.{LibraryFile}
 use Rattle.union_words.specs.declared.status.Status.{Status}

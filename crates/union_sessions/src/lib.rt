@@ -1,4 +1,4 @@
-//! The union of libraries' files, loaded by sessions at one desk, with questions beside the load and behind it.
+//! The union of libraries' files, loaded by sessions at one desk, with questions beside the load and after it.
 //!
 //! `sessions::load_and_ask` opens each file, runs a session for each and an asker beside them, and answers the catalogue, the
 //! reports and the replies. Whatever the order of the turns, the history has the batches of each library in their order and no
@@ -11,9 +11,6 @@
 
 pub mod asking;
 pub mod faults;
-pub mod loaded;
-pub mod opened_file;
-pub mod opening;
 pub mod reports;
 pub mod session_ends;
 pub mod session_starts;

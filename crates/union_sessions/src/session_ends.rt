@@ -6,7 +6,7 @@
 ghost use Rattle.std.specs.Prelude.{◌≡◌, ◌∷◌, [], map};
 ghost use Rattle.catalogue_lock.specs.Tokens.{root_of, IsRootOf};
 ghost use Rattle.union_words.specs.Meanings.{libraries_meaning};
-ghost use Rattle.union_sessions.specs.Inputs.{Gathers};
+ghost use Rattle.union_files.specs.Inputs.{Gathers};
 ghost use Rattle.union_sessions.specs.Sessions.{AreReported, Closes, HasEnded, HasRun, HaveRun, NoneFailed, RaisesFailed, course_of, courses_of, ended_of, file_of_course};
 
 use crate::faults::first_failed;

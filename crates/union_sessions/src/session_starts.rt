@@ -3,11 +3,9 @@ ghost use Rattle.std.specs.Prelude.{◌≡◌, ◌+◌, ◌++◌, ◌∷◌, ◌
 ghost use Rattle.catalogue_lock.specs.Tokens.{root_of, IsRootOf};
 ghost use Rattle.union_io.specs.Counts.{SameCounts};
 ghost use Rattle.union_words.specs.Meanings.{libraries_meaning};
-ghost use Rattle.union_sessions.specs.Inputs.{AreFresh, StopsOpening, files_of, state_of, states_of};
+ghost use Rattle.union_files.specs.Inputs.{AreFresh, StopsOpening, files_of, state_of, states_of};
 ghost use Rattle.union_sessions.specs.Sessions.{AreReady, IsReadyAs, session_state, session_states};
 
-use crate::opened_file::OpenedFile;
-use crate::opening::open_rest;
 use catalogue_lock::desk::Desk;
 use catalogue_lock::root::Root;
 use library_stream::frame_reader::LARGEST_SOURCE;
@@ -15,9 +13,10 @@ use load_sessions::served::Served;
 use load_sessions::session::Session;
 use std::alloc::Global;
 use std::collections::VecDeque;
+use union_files::opened_file::OpenedFile;
+use union_files::opening::open_rest;
 use union_io::shelf::Shelf;
 use union_io::source::Source;
-use union_words::job::MOST_LIBRARIES;
 use union_words::libraries::Libraries;
 use union_words::status::Status;
 
@@ -119,10 +118,6 @@ pub fn start_sessions<F: Shelf>(
     ensures stops { IfErr result (λ status. StopsOpening status (libraries_meaning libraries.now)
         (record { files = F.files shelf.old; before = F.faults shelf.old; after = F.faults shelf.new })) }
 {
-    // No command has more.
-    if libraries.len() > MOST_LIBRARIES {
-        return Err(Status::Memory);
-    }
     let Ok(mut sessions) = Vec::with_capacity(alloc, libraries.len()) else {
         return Err(Status::Memory);
     };

@@ -1,11 +1,11 @@
-//! The loading of the files of a command's libraries by sessions at one desk, with questions beside the sessions and behind them.
+//! The loading of the files of a command's libraries by sessions at one desk, with questions beside the sessions and after them.
 //!
 //! The files are opened in the order of the command, before any of them is read. Then there is a session for each, which makes
 //! its turns under the library's place as its number, and so many workers run them; an asker stands beside them. When all of
 //! these have ended, one pass more asks the late questions. Whatever the order of the turns, the catalogue's history has the
 //! batches of each library in their order and no others, and the reports stand in the order of the command. Each source is
 //! given back to its shelf. Memory grows with what is loaded.
-ghost use Rattle.std.specs.Prelude.{◌≡◌, ◌<◌, ◌≤◌, ◌+◌, [], IfOk, All, length};
+ghost use Rattle.std.specs.Prelude.{◌≡◌, ◌<◌, ◌≤◌, ◌+◌, ◌==◌, ◌&&◌, [], IfOk, All, length, not};
 ghost use Rattle.std.specs.List.{AllByRecursion};
 ghost use Rattle.catalogue_lock.specs.Rule.{EndedOk};
 ghost use Rattle.catalogue_lock.specs.Tokens.{root_of, view, IsPassOf, IsRootOf};
@@ -13,12 +13,11 @@ ghost use Rattle.union_words.specs.Meanings.{libraries_meaning};
 ghost use Rattle.load_sessions.specs.Askers.{Asks, IsAsker};
 ghost use Rattle.load_sessions.specs.Entries.{entries_of};
 ghost use Rattle.load_sessions.specs.Sessions.{IsReady, RunsEach};
-ghost use Rattle.union_sessions.specs.Inputs.{Gathers, deliveries};
+ghost use Rattle.union_files.specs.Inputs.{Gathers, deliveries};
 ghost use Rattle.union_sessions.specs.Replies.{AreReplies, HasAsked, left_by};
-ghost use Rattle.union_sessions.specs.Unions.{HasUnited};
+ghost use Rattle.union_files.specs.Unions.{HasUnited};
 
 use crate::asking::{ask_late, end_asker, start_asker};
-use crate::loaded::Loaded;
 use crate::reports::Reports;
 use crate::session_ends::end_all;
 use crate::session_starts::start_sessions;
@@ -35,19 +34,38 @@ use std::alloc::Global;
 use std::sync::Wait;
 use std::thread::Threads;
 use union_base::memory::Memory;
+use union_files::loaded::Loaded;
 use union_io::gate::Gate;
 use union_io::shelf::Shelf;
 use union_io::source::Source;
 use union_words::libraries::Libraries;
 use union_words::status::Status;
 
+/// Whether there is a question at all.
+fn are_some(beside: &[Query], late: &[Query]) -> bool
+    ensures { result ≡ not (length beside.now == 0 && length late.now == 0) }
+{
+    !(beside.is_empty() && late.is_empty())
+}
+
+/// An empty catalogue, which keeps its works where questions will be asked.
+fn served(alloc: Global, is_asked: bool) -> Result<Served, Memory>
+    ensures { IfOk result (λ served. served.catalogue ≡ []) }
+{
+    if is_asked {
+        Served::keeping_works(alloc)
+    } else {
+        Served::empty(alloc)
+    }
+}
+
 /// A desk over an empty catalogue, with its root.
-fn open_desk(alloc: Global) -> Result<(Desk<Served>, Root<Served>), Memory>
+fn open_desk(alloc: Global, is_asked: bool) -> Result<(Desk<Served>, Root<Served>), Memory>
     ensures desk { IfOk result (λ opened. IsRootOf opened.1 opened.0) }
     ensures made { IfOk result (λ opened. (root_of opened.1).made ≡ 0) }
     ensures ended { IfOk result (λ opened. (root_of opened.1).ended ≡ []) }
 {
-    Desk::open(alloc, Served::empty(alloc)?)
+    Desk::open(alloc, served(alloc, is_asked)?)
 }
 
 /// Runs the sessions, by so many workers, and the asker beside them.
@@ -119,7 +137,7 @@ fn close_desk<R: Wait>(
 
 /// Opens the files of the libraries, loads them by a session each, run by so many workers, and asks.
 ///
-/// The questions `beside` are asked in their order beside the sessions, or behind them with one worker; those in `late` when all
+/// The questions `beside` are asked in their order beside the sessions, or after them with one worker; those in `late` when all
 /// sessions have ended. There is a reply to each: the replies `beside` are over beginnings of the catalogue's history that never
 /// get shorter, and the late ones over all of it.
 ///
@@ -147,7 +165,7 @@ pub fn load_and_ask<R: Threads + Wait + Sync, F: Shelf, G: Gate>(
     ensures beside { IfOk result (λ watched. AreReplies watched.loaded.catalogue 0 beside.items watched.beside.items) }
     ensures late { IfOk result (λ watched. AreReplies watched.loaded.catalogue (length watched.loaded.catalogue) late.items watched.late.items) }
 {
-    let Ok((desk, mut root)) = open_desk(alloc) else {
+    let Ok((desk, mut root)) = open_desk(alloc, are_some(&beside, &late)) else {
         return Err(Status::Memory);
     };
     let mut sessions = start_sessions(alloc, &desk, &mut root, libraries, shelf)?;

@@ -1,8 +1,8 @@
 //! What a load and its questions come to.
-use crate::loaded::Loaded;
 use catalogue_query::answer::Answer;
+use union_files::loaded::Loaded;
 
-/// What libraries loaded, and the replies to what was asked beside the sessions and behind them. A reply has the number of turns
+/// What libraries loaded, and the replies to what was asked beside the sessions and after them. A reply has the number of turns
 /// over which it is given.
 #[derive(Drop)]
 pub struct Watched {

@@ -1,4 +1,4 @@
--- The zeros in front of a number.
+-- The zeros before a number.
 use Rattle.std.proofs.Common.{◌≡◌, ◌≤◌, ◌<◌, ℕ, ◌-◌, min, List, [], length, take, drop, inl, inr, refl, sym, ap, ◌∙◌, arith, take_all}
 use Rattle.std.proofs.lemmas.Bool.{cases_lt}
 use Rattle.std.proofs.lemmas.List.{drop_all, length-drop}

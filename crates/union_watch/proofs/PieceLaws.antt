@@ -39,7 +39,7 @@ left-from xs place x at =
     drop-cons xs place x (slice_get_within xs place x at) ∙ ap (λ y. y ∷ drop (suc place) xs) (get_or_from_slice_get xs place x x at)
     ∙ ap (λ n. x ∷ drop n xs) (sym (add-one place))
 
--- one text is written, another behind it, and then the rest
+-- one text is written, another after it, and then the rest
 pub both-written : (old a b new : Known) (n₀ n₁ n₂ n₃ : ℕ) (first pending second rest : List ℕ) (result : Result (Unit {0}) ExportFail)
     → HasMoved first pending (record { old = old; new = a; before = n₀; after = n₁ }) (Ok tt)
     → HasMoved (pending ++ second) rest (record { old = a; new = b; before = n₁; after = n₂ }) (Ok tt)

@@ -23,7 +23,7 @@ use Rattle.union_script.proofs.FileLaws.{Counts, flow, same_more}
 use Rattle.union_script.proofs.LineLaws.{not_over}
 use Rattle.union_script.proofs.ScriptLaws.{none_fails, told, within_none}
 use Rattle.union_script.proofs.TextLaws.{on_files, on_both}
-use Rattle.union_sessions.specs.Inputs.{input_of, inputs_of, is_overfull, first_overfull, AreWithin, IsTooLongAt, IsElsewhere, IsEarliest, FailsEarliest, StopsAt}
+use Rattle.union_files.specs.Inputs.{input_of, inputs_of, is_overfull, first_overfull, AreWithin, IsTooLongAt, IsElsewhere, IsEarliest, FailsEarliest, StopsAt}
 use Rattle.union_watch.specs.Runs.{Watch, asks_file, inputs_of_watch, IsWatchRun}
 
 -- ---- which input is too long

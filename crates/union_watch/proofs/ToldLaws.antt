@@ -92,7 +92,7 @@ replied-lower history low known [] (reply ∷ replies) under replied = absurd re
 replied-lower history low known (question ∷ questions) (reply ∷ replies) under replied =
     (omega (arith, replied.0), replied.1, replied.2, replied.3)
 
--- late replies behind others
+-- late replies after others
 replied-behind : (history : List (ℕ × Batch)) (known : ℕ) (first later : List Query) (replies more : List (ℕ × Answer)) → known ≤ length history
     → Replied history known first replies → length replies ≡ length first → Replied history (length history) later more
     → Replied history known (first ++ later) (replies ++ more)
@@ -102,7 +102,7 @@ replied-behind history known (question ∷ first) later [] more within replied l
 replied-behind history known (question ∷ first) later (reply ∷ replies) more within replied long behind =
     (replied.0, replied.1, replied.2, replied-behind history reply.0 first later replies more replied.1 replied.3 (omega (arith, long)) behind)
 
--- what is beside, and behind it what is late, is all
+-- what is beside, and after it what is late, is all
 pub beside-late : {X : Type 0} (workers : ℕ) (all : List X) → beside workers all ++ late workers all ≡ all
 beside-late workers all =
     elim (workers == 1) as (λ one. cond one [] (take (length all - 1) all) ++ cond one all (drop (length all - 1) all) ≡ all)

@@ -13,8 +13,8 @@ use Rattle.catalogue_editions.specs.declared.batch.Batch.{Batch}
 use Rattle.catalogue_core.specs.declared.history_entry.HistoryEntry.{HistoryEntry}
 use Rattle.library_batches.specs.Batches.{IsBatchOf, AreBatches}
 use Rattle.union_words.specs.Alike.{is_text}
-use Rattle.union_sessions.specs.Deliveries.{Stream, AreDistinct, batches_of}
-use Rattle.union_sessions.specs.Interleavings.{batches_under, IsInterleaving}
+use Rattle.union_files.specs.Deliveries.{Stream, AreDistinct, batches_of}
+use Rattle.union_files.specs.Interleavings.{batches_under, IsInterleaving}
 use Rattle.union_watch.specs.TurnLines.{TurnLine, turns_from, first_entry, without_first, dealt, place_of, written}
 
 -- a number is itself
@@ -109,7 +109,7 @@ places-are libraries turn (entry ∷ history) all =
     ap (λ n. n ∷ map (λ (line : TurnLine). place_of libraries line.library) (turns_from (turn + 1) history)) all.0
     ∙ ap (λ (places : List ℕ). entry.pass ∷ places) (places-are libraries (turn + 1) history all.1)
 
--- the streams by their places: nothing behind the last
+-- the streams by their places: nothing after the last
 abbrev pub stream_at : List (List Batch) → ℕ → List Batch
 stream_at streams place = slice_index_or streams place []
 

@@ -1,8 +1,8 @@
 -- What the turn lines of `watch` tell.
 use Rattle.std.specs.Prelude.{◌≡◌, ℕ, List, map}
 use Rattle.catalogue_core.specs.declared.history_entry.HistoryEntry.{HistoryEntry}
-use Rattle.union_sessions.specs.Deliveries.{Stream, AreDistinct, batches_of}
-use Rattle.union_sessions.specs.Interleavings.{IsInterleaving}
+use Rattle.union_files.specs.Deliveries.{Stream, AreDistinct, batches_of}
+use Rattle.union_files.specs.Interleavings.{IsInterleaving}
 use Rattle.union_watch.specs.TurnLines.{turns_from, written}
 
 -- the codes of the libraries whose streams these are

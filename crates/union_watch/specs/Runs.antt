@@ -6,16 +6,16 @@ use Rattle.catalogue_core.specs.declared.history_entry.HistoryEntry.{HistoryEntr
 use Rattle.union_io.specs.Writing.{AppendsFront}
 use Rattle.union_script.specs.Inputs.{AreWithin, IsTooLongAt}
 use Rattle.union_script.specs.Texts.{Contents}
-use Rattle.union_words.specs.Flows.{ShelfFlow, IsCalm, InputFile, FailsAt, NoneFails, Outflow, HasFailedAt}
+use Rattle.union_words.specs.Flows.{ShelfFlow, IsCalm, InputFile, FailsAt, NoneFails, Outflow, HasFailedAt, IsCutOff}
 use Rattle.union_words.specs.Statuses.{is_done, is_early, is_input_fault, end_by}
 use Rattle.union_words.specs.Words.{LibraryFile}
 use Rattle.union_words.specs.declared.input.Input.{Input}
 use Rattle.union_words.specs.declared.input.Input.TheVariants.{Asks}
 use Rattle.union_words.specs.declared.status.Status.{Status}
 use Rattle.union_words.specs.declared.status.Status.TheVariants.{Done, DoneWithRefusals, Usage, OpenFault, ReadFault, WriteFault, TooLong, Memory}
-use Rattle.union_sessions.specs.Deliveries.{Delivery, Stream, delivered, batches_of, reports_of, has_refused}
-use Rattle.union_sessions.specs.Inputs.{inputs_of, FailsEarliest, deliveries}
-use Rattle.union_sessions.specs.Interleavings.{IsInterleaving}
+use Rattle.union_files.specs.Deliveries.{Delivery, Stream, delivered, batches_of, reports_of, has_refused}
+use Rattle.union_files.specs.Inputs.{inputs_of, FailsEarliest, deliveries}
+use Rattle.union_files.specs.Interleavings.{IsInterleaving}
 use Rattle.union_watch.specs.AskLines.{asked_lines, has_refused_line}
 use Rattle.union_watch.specs.Lateness.{AreTimely}
 use Rattle.union_watch.specs.Told.{Told, AreTold, numbers_of}
@@ -43,7 +43,7 @@ pub record IsWatched (workers : ℕ) (asks : List ℕ) (all : List Delivery) (st
   pub told_is : AreTold history (asked_lines asks) told
   pub timely : AreTimely workers (length history) (numbers_of told)
 
--- all was written, or a front of each text, or a front of the first
+-- all was written; a write of one of the two texts failed; or a prefix of the first was written
 abbrev pub IsShown : ℕ → List ℕ → List Delivery → Outflow → Outflow → Type 0
 IsShown workers asks all out notes =
     (streams : List Stream) × (history : List HistoryEntry) × (told : List Told) × IsWatched workers asks all streams history told
@@ -52,7 +52,7 @@ IsShown workers asks all out notes =
 abbrev pub IsShownInPart : ℕ → List ℕ → List Delivery → Outflow → Outflow → Type 0
 IsShownInPart workers asks all out notes =
     (streams : List Stream) × (history : List HistoryEntry) × (told : List Told) × IsWatched workers asks all streams history told
-    × AppendsFront out.old out.new (watch_text history told) × AppendsFront notes.old notes.new (reports_of streams)
+    × IsCutOff out notes (watch_text history told) (reports_of streams)
 
 abbrev pub IsBegun : ℕ → List ℕ → List Delivery → Outflow → Type 0
 IsBegun workers asks all out =
@@ -69,11 +69,11 @@ pub record IsWatchRun (watch : Watch) (shelf : ShelfFlow) (out notes : Outflow) 
   pub open_fault : (i : Input) → status ≡ OpenFault i → FailsAt (inputs_of_watch watch) shelf i
   pub read_fault : (i : Input) → status ≡ ReadFault i → FailsAt (asks_file watch ∷ []) shelf i ⊎ FailsEarliest (inputs_of watch.libraries) shelf i
   pub calm : is_input_fault status ≡ false → IsCalm shelf
-  pub write_fault : status ≡ WriteFault → HasFailedAt out ⊎ HasFailedAt notes
+  pub write_fault : status ≡ WriteFault → (HasFailedAt out × Keeps notes.old notes.new) ⊎ HasFailedAt notes
   pub other : status ≢ Usage
   -- which file is too long
   pub too_long : (i : Input) → status ≡ TooLong i → IfSome shelf.files (λ contents. IsTooLongAt contents (inputs_of_watch watch) i)
-  -- all of both texts, none of them, or a front of each
+  -- all of both texts; none of the first; or a prefix of one, where the second is begun only when the first is written whole
   pub done : IsTrue (is_done status) → IfSome shelf.files (λ contents. AreWithin contents (inputs_of_watch watch)
       × (status ≡ end_by (has_refusals contents watch))
       × IsShown watch.workers (contents watch.asks) (deliveries contents watch.libraries) out notes)

@@ -67,7 +67,7 @@ told_first (Ok line) [] = []
 told_first (Ok line) (reply ∷ replies) = Reply reply.0 line (ended_lines reply.1.lines) ∷ []
 told_first (Err refusal) replies = Refused refusal ∷ []
 
--- the replies that are left for the lines behind it
+-- the replies that are left for the lines after it
 abbrev pub left_behind : AskLine → List (ℕ × Answer) → List (ℕ × Answer)
 left_behind (Ok line) replies = drop 1 replies
 left_behind (Err refusal) replies = replies

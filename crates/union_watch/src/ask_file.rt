@@ -18,7 +18,7 @@ pub struct AskFile<'a> {
 }
 
 impl<'a> AskFile<'a> {
-    /// Reads the lines of the text. Answers `Memory` where memory ran out.
+    /// Reads the lines of the text. Returns `Memory` if allocation fails.
     pub fn read(alloc: Global, text: &'a [u8]) -> Result<AskFile<'a>, Memory>
         ensures lines { IfOk result (λ file. map line_meaning file.lines.items ≡ lines_in text.now) }
         ensures questions { IfOk result (λ file. file.questions.items ≡ questions_in text.now) }

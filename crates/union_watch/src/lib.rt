@@ -1,15 +1,15 @@
 //! The command `watch`: what it writes of a loaded catalogue's history and of a file of questions.
 //!
 //! `ask_file::AskFile::read` reads the lines of a file of questions, `questions::Questions::divide` says which of the questions
-//! are asked beside the load and which behind it, `answering::load_and_answer` does both, loads the libraries and asks, and
-//! `writing::write_watch` writes a line for each turn of the history and then what is told of each line of the file. The text
-//! is `watch_text` of specs/WatchTexts.antt; what a whole run of `watch` owes is `IsWatchRun` of specs/Runs.antt.
+//! are asked beside the load and which after it, and `writing::write_watch` writes a line for each turn of the history and then
+//! what is told of each line of the file. The text is `watch_text` of specs/WatchTexts.antt; what a whole run of `watch` owes is
+//! `IsWatchRun` of specs/Runs.antt.
 //!
 //! Guarantee: the turn lines alone determine the history that is told, by the law of `laws`. Cost: each line of the file is
 //! looked at once and borrowed; the text is handed on in pieces, so that memory grows with the longest answer alone.
 #![tactic(auto)]
 
-pub mod answering;
+pub mod answered;
 pub mod ask_file;
 pub mod ask_line;
 pub mod laws;

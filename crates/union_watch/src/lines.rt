@@ -1,6 +1,6 @@
 //! The lines of the text.
 //!
-//! Each function adds its text behind what stands in a buffer.
+//! Each function adds its text after what stands in a buffer.
 ghost use Rattle.std.specs.Prelude.{◌≡◌, ◌++◌, OnOk};
 ghost use Rattle.union_watch.specs.AskLines.{line_meaning};
 ghost use Rattle.union_watch.specs.Told.{shown_byte, shown, reply_line, told_first, left_behind, told_text_of};
@@ -14,7 +14,7 @@ use std::alloc::AllocError;
 use union_reports::lines::add_counted;
 use union_script::line_texts::{REFUSED_UNKNOWN, REFUSED_WORD, add_lines};
 
-/// The zeros in front of a number that has no digit.
+/// The zeros before a number that has no digit.
 const ZEROS: &[u8] = b"000000";
 
 /// Adds a number in at least six digits.

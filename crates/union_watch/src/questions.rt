@@ -1,4 +1,4 @@
-//! Which questions are asked beside the load, and which behind it.
+//! Which questions are asked beside the load, and which after it.
 ghost use Rattle.std.specs.Prelude.{◌≡◌, IfOk};
 ghost use Rattle.union_watch.specs.Lateness.{beside, late};
 

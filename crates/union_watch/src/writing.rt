@@ -16,7 +16,7 @@ use catalogue_query::answer::Answer;
 use std::alloc::{AllocError, Global};
 use union_io::sink::Sink;
 
-/// Writes the line on a turn behind what is pending.
+/// Writes the line on a turn after what is pending.
 fn write_turn<O: Sink>(
     turn: u64,
     entry: &HistoryEntry,
@@ -30,7 +30,7 @@ fn write_turn<O: Sink>(
     hand_on(pending, out)
 }
 
-/// Writes a line for each turn of a catalogue's history behind what is pending.
+/// Writes a line for each turn of a catalogue's history after what is pending.
 fn write_turns<O: Sink>(
     catalogue: &Catalogue,
     pending: &mut Vec<u8>,
@@ -48,7 +48,7 @@ fn write_turns<O: Sink>(
     Ok(())
 }
 
-/// Writes what is told of a line behind what is pending.
+/// Writes what is told of a line after what is pending.
 fn write_line<O: Sink>(
     line: &AskLine<'_>,
     replies: &mut Replies<'_>,
@@ -63,7 +63,7 @@ fn write_line<O: Sink>(
     hand_on(pending, out)
 }
 
-/// Writes what is told of the lines of a file behind what is pending.
+/// Writes what is told of the lines of a file after what is pending.
 fn write_lines<O: Sink>(
     lines: &[AskLine<'_>],
     replies: &[(u64, Answer)],
@@ -83,7 +83,7 @@ fn write_lines<O: Sink>(
     Ok(())
 }
 
-/// The replies to the questions that were asked beside the load, and behind them those to the late ones.
+/// The replies to the questions that were asked beside the load, and after them those to the late ones.
 fn joined(
     beside: Vec<(u64, Answer)>,
     late: Vec<(u64, Answer)>,
@@ -96,11 +96,11 @@ fn joined(
     Ok(replies)
 }
 
-/// Writes what `watch` shows: a line for each turn of the catalogue's history, and behind them what is told of each line of the
+/// Writes what `watch` shows: a line for each turn of the catalogue's history, and after them what is told of each line of the
 /// file of questions, where these are the replies to those that ask something: first to the questions that were asked beside the
 /// load, and then to the late ones. The text is handed on in pieces.
 ///
-/// Answers `WriteFault` only where a write of `out` failed, and `Memory` where memory ran out. A front of the text was written
+/// Answers `WriteFault` only where a write of `out` failed, and `Memory` where memory ran out. A prefix of the text was written
 /// then.
 pub fn write_watch<O: Sink>(
     alloc: Global,

@@ -2,7 +2,7 @@
 use Rattle.std.specs.Prelude.{◌≡◌, ℕ, ◌⊎◌, List, [], ◌∷◌}
 use Rattle.std.specs.List.{AllByRecursion}
 use Rattle.std.specs.declared.option.Option.{Option}
-use Rattle.std.specs.Io.KnownBytes.{Appends}
+use Rattle.std.specs.Io.KnownBytes.{Appends, Keeps}
 use Rattle.union_io.specs.Causes.{Rose}
 use Rattle.union_io.specs.Counts.{SameCounts, SameElsewhere}
 use Rattle.union_io.specs.Writing.{AppendsFront}
@@ -61,6 +61,12 @@ pub record Outflow : Type 0 where
 abbrev pub HasFailedAt : Outflow → Type 0
 HasFailedAt output = Rose output.before output.after
 
--- the text was written, or a front of it and then a write failed
+-- the text was written, or a prefix of it and then a write failed
 abbrev pub IsNoted : Outflow → List ℕ → Type 0
 IsNoted output text = Appends output.old output.new text ⊎ (AppendsFront output.old output.new text × HasFailedAt output)
+
+-- a write failed: of the first output's text, and the second output is as it was; or of the second's, and the first has all of its own
+abbrev pub IsCutOff : Outflow → Outflow → List ℕ → List ℕ → Type 0
+IsCutOff out notes shown noted =
+    (AppendsFront out.old out.new shown × HasFailedAt out × Keeps notes.old notes.new)
+    ⊎ (Appends out.old out.new shown × AppendsFront notes.old notes.new noted × HasFailedAt notes)

@@ -7,7 +7,7 @@ use Rattle.union_words.specs.Words.{is_text}
 abbrev pub without_return : List ℕ → List ℕ
 without_return line = (if is_text (drop (length line - 1) line) (0x0D ∷ []) then take (length line - 1) line else line)
 
--- the lines of a text: each ends at a line feed or at the end of the text, so nothing behind the last line feed is an
+-- the lines of a text: each ends at a line feed or at the end of the text, so nothing after the last line feed is an
 -- empty line
 abbrev pub lines_of : List ℕ → List (List ℕ)
 lines_of text = map without_return (slice_split (λ b. b == 0x0A) text)

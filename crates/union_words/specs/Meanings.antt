@@ -3,13 +3,13 @@ use Rattle.std.specs.Prelude.{List}
 use Rattle.union_words.specs.declared.library_file.LibraryFile.{LibraryFile as FileInPlace}
 use Rattle.union_words.specs.declared.libraries.Libraries.{Libraries}
 use Rattle.union_words.specs.declared.job.Job.{Job as JobInPlace}
-use Rattle.union_words.specs.declared.job.Job.TheVariants.{Check as CheckInPlace, Export as ExportInPlace, Works as WorksInPlace, Watch as WatchInPlace, Script as ScriptInPlace, Trial as TrialInPlace, Help as HelpInPlace, Version as VersionInPlace}
+use Rattle.union_words.specs.declared.job.Job.TheVariants.{Check as CheckInPlace, ToJson as ToJsonInPlace, FromJson as FromJsonInPlace, Export as ExportInPlace, Works as WorksInPlace, Watch as WatchInPlace, Script as ScriptInPlace, Trial as TrialInPlace, Help as HelpInPlace, Version as VersionInPlace}
 use Rattle.union_words.specs.declared.trial.Trial.{Trial as TrialOfNumbers}
 use Rattle.union_words.specs.declared.script_line.ScriptLine.{ScriptLine as LineInPlace}
 use Rattle.union_words.specs.declared.script_line.ScriptLine.TheVariants.{Load as LoadInPlace, Export as ExportLineInPlace, Works as WorksLineInPlace, Ask as AskInPlace, Word as WordInPlace}
 use Rattle.union_words.specs.ScriptLines.{ScriptLine, Load, Ask, Word}
 use Rattle.union_words.specs.ScriptLines as lines
-use Rattle.union_words.specs.Words.{LibraryFile, Job, Check, Export, Works, Watch, Script, Trial, Help, Version, libraries_of}
+use Rattle.union_words.specs.Words.{LibraryFile, Job, Check, ToJson, FromJson, Export, Works, Watch, Script, Trial, Help, Version, libraries_of}
 
 -- the library and the path that the code borrows
 abbrev pub file_meaning : FileInPlace → LibraryFile
@@ -25,7 +25,9 @@ trial_meaning trial = Trial trial.seed trial.count trial.workers.number
 
 abbrev pub job_meaning : JobInPlace → Job
 job_meaning (CheckInPlace file) = Check (file_meaning file)
-job_meaning (ExportInPlace workers libraries) = Export workers.number (libraries_meaning libraries)
+job_meaning (ToJsonInPlace file) = ToJson (file_meaning file)
+job_meaning (FromJsonInPlace file) = FromJson (file_meaning file)
+job_meaning (ExportInPlace workers form libraries) = Export workers.number form (libraries_meaning libraries)
 job_meaning (WorksInPlace workers libraries) = Works workers.number (libraries_meaning libraries)
 job_meaning (WatchInPlace asks workers libraries) = Watch asks.now workers.number (libraries_meaning libraries)
 job_meaning (ScriptInPlace path) = Script path.now

@@ -45,7 +45,7 @@ count_of text = number_within 1 most_generated text
 abbrev pub seed_of : List ℕ → Option ℕ
 seed_of text = number_within 0 (2 ^ 64 - 1) text
 
--- what stands behind the name of an option, where the word begins with it
+-- what stands after the name of an option, where the word begins with it
 abbrev pub option_text : List ℕ → List ℕ → Option (List ℕ)
 option_text name word = (if is_text (take (length name) word) name then Some (drop (length name) word) else None)
 

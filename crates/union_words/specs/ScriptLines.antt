@@ -20,17 +20,17 @@ is_blank b = b == 0x20
 abbrev pub first_word : List ℕ → List ℕ
 first_word line = before_first is_blank line
 
--- behind the first blank: nothing where there is none
+-- after the first blank: nothing where there is none
 abbrev pub rest_of : List ℕ → List ℕ
 rest_of line = after_first is_blank line
 
--- behind `load` a library code, one blank, and a path, which is all the rest
+-- after `load` a library code, one blank, and a path, which is all the rest
 abbrev pub load_line : List ℕ → ScriptLine
 load_line rest =
     (if is_library_code (first_word rest) && is_path (rest_of rest)
     then Load (record { library = first_word rest; path = rest_of rest }) else Word)
 
--- behind `export` and `works` nothing
+-- after `export` and `works` nothing
 abbrev pub lone_line : ScriptLine → List ℕ → ScriptLine
 lone_line wanted [] = wanted
 lone_line wanted (b ∷ rest) = Word

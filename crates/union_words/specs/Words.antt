@@ -5,6 +5,8 @@ use Rattle.std.specs.Option.{option_and_then}
 use Rattle.std.specs.Str.{is_utf8}
 use Rattle.union_base.specs.LibraryCodes.{is_library_code}
 use Rattle.union_words.specs.Numbers.{option_text, workers_word, seed_of, count_of, workers_of}
+use Rattle.union_words.specs.declared.form.Form.{Form}
+use Rattle.union_words.specs.declared.form.Form.TheVariants.{Iso2709, Json}
 pub use Rattle.union_words.specs.Alike.{is_text}
 
 -- a library and the path of its file
@@ -15,7 +17,9 @@ pub record LibraryFile : Type 0 where
 -- what the words ask for
 pub data Job : Type 0 where
   Check : (file : LibraryFile) → Job
-  Export : (workers : ℕ) (libraries : List LibraryFile) → Job
+  ToJson : (file : LibraryFile) → Job
+  FromJson : (file : LibraryFile) → Job
+  Export : (workers : ℕ) (form : Form) (libraries : List LibraryFile) → Job
   Works : (workers : ℕ) (libraries : List LibraryFile) → Job
   Watch : (asks : List ℕ) (workers : ℕ) (libraries : List LibraryFile) → Job
   Script : (path : List ℕ) → Job
@@ -31,7 +35,7 @@ is_path text = nat_le 1 (length text) && is_utf8 text
 abbrev pub code_text : List ℕ → List ℕ
 code_text word = before_first (λ b. b == 0x3D) word
 
--- what stands behind the first `=`: nothing where there is none
+-- what stands after the first `=`: nothing where there is none
 abbrev pub path_text : List ℕ → List ℕ
 path_text word = after_first (λ b. b == 0x3D) word
 
@@ -52,45 +56,75 @@ abbrev pub have_distinct_codes : List (List ℕ) → Bool
 have_distinct_codes [] = true
 have_distinct_codes (word ∷ rest) = not (list_any (name_one_library word) rest) && have_distinct_codes rest
 
--- the words are one or more words `LIB=PATH`, and no library is named twice
+-- the most libraries that a command takes
+abbrev pub most_libraries : ℕ
+most_libraries = 64
+
+-- the words are one to 64 words `LIB=PATH`, and no library is named twice
 abbrev pub are_libraries : List (List ℕ) → Bool
-are_libraries words = nat_le 1 (length words) && (list_all is_library_word words && have_distinct_codes words)
+are_libraries words =
+    (nat_le 1 (length words) && nat_le (length words) most_libraries) && (list_all is_library_word words && have_distinct_codes words)
 
 -- the libraries that the words name, in their order
 abbrev pub libraries_of : List (List ℕ) → List LibraryFile
 libraries_of words = map library_of words
 
--- `LIB=PATH` behind `check`
+-- one word `LIB=PATH`
+abbrev pub file_job : (LibraryFile → Job) → List (List ℕ) → Option Job
+file_job job (word ∷ []) = (if is_library_word word then Some (job (library_of word)) else None)
+file_job job [] = None
+file_job job (word ∷ more ∷ rest) = None
+
+-- after `check`
 abbrev pub check_job : List (List ℕ) → Option Job
-check_job (word ∷ []) = (if is_library_word word then Some (Check (library_of word)) else None)
-check_job [] = None
-check_job (word ∷ more ∷ rest) = None
+check_job words = file_job Check words
+
+-- after `tojson`
+abbrev pub to_json_job : List (List ℕ) → Option Job
+to_json_job words = file_job ToJson words
+
+-- after `fromjson`
+abbrev pub from_json_job : List (List ℕ) → Option Job
+from_json_job words = file_job FromJson words
 
 -- how many workers there are where the words do not say
 abbrev pub usual_workers : ℕ
 usual_workers = 4
 
--- so many workers, and the words behind the option that says so; or the usual ones, and all of the words
+-- so many workers, and the words after the option that says so; or the usual ones, and all of the words
 abbrev pub workers_or : Option ℕ → List (List ℕ) → List (List ℕ) → ℕ × List (List ℕ)
 workers_or None rest words = (usual_workers, words)
 workers_or (Some workers) rest words = (workers, rest)
 
--- the workers, by a first word `--workers=N` where there is one, and the words behind it
+-- the workers, by a first word `--workers=N` where there is one, and the words after it
 abbrev pub workers_in : List (List ℕ) → ℕ × List (List ℕ)
 workers_in [] = (usual_workers, [])
 workers_in (word ∷ rest) = workers_or (workers_word word) rest (word ∷ rest)
 
--- one to `most` words `LIB=PATH`
-abbrev pub libraries_job : (List LibraryFile → Job) → ℕ → List (List ℕ) → Option Job
-libraries_job job most words = (if nat_le (length words) most && are_libraries words then Some (job (libraries_of words)) else None)
+-- the word that asks for MARC in JSON
+abbrev pub is_json_word : List ℕ → Bool
+is_json_word word = is_text word (codes "--json")
 
--- behind `export`
-abbrev pub export_job : ℕ → List (List ℕ) → Option Job
-export_job most words = libraries_job (Export (workers_in words).0) most (workers_in words).1
+-- the form of an export, by a first word `--json` where there is one, and the words after it
+abbrev pub form_in : List (List ℕ) → Form × List (List ℕ)
+form_in [] = (Iso2709, [])
+form_in (word ∷ rest) = (if is_json_word word then (Json, rest) else (Iso2709, word ∷ rest))
 
--- and behind `works`
-abbrev pub works_job : ℕ → List (List ℕ) → Option Job
-works_job most words = libraries_job (Works (workers_in words).0) most (workers_in words).1
+-- one to 64 words `LIB=PATH`
+abbrev pub libraries_job : (List LibraryFile → Job) → List (List ℕ) → Option Job
+libraries_job job words = (if are_libraries words then Some (job (libraries_of words)) else None)
+
+-- after `export` and the option that says how many workers
+abbrev pub export_form_job : ℕ → List (List ℕ) → Option Job
+export_form_job workers words = libraries_job (Export workers (form_in words).0) (form_in words).1
+
+-- after `export`
+abbrev pub export_job : List (List ℕ) → Option Job
+export_job words = export_form_job (workers_in words).0 (workers_in words).1
+
+-- and after `works`
+abbrev pub works_job : List (List ℕ) → Option Job
+works_job words = libraries_job (Works (workers_in words).0) (workers_in words).1
 
 -- the text, where it is a path
 abbrev pub path_of : List ℕ → Option (List ℕ)
@@ -100,17 +134,17 @@ path_of text = (if is_path text then Some text else None)
 abbrev pub ask_word : List ℕ → Option (List ℕ)
 ask_word word = option_and_then path_of (option_text (codes "--ask=") word)
 
--- behind the word that names the file of questions
-abbrev pub asking_job : Option (List ℕ) → ℕ → List (List ℕ) → Option Job
-asking_job None most words = None
-asking_job (Some asks) most words = libraries_job (Watch asks (workers_in words).0) most (workers_in words).1
+-- after the word that names the file of questions
+abbrev pub asking_job : Option (List ℕ) → List (List ℕ) → Option Job
+asking_job None words = None
+asking_job (Some asks) words = libraries_job (Watch asks (workers_in words).0) (workers_in words).1
 
--- and behind `watch`
-abbrev pub watch_job : ℕ → List (List ℕ) → Option Job
-watch_job most [] = None
-watch_job most (word ∷ rest) = asking_job (ask_word word) most rest
+-- and after `watch`
+abbrev pub watch_job : List (List ℕ) → Option Job
+watch_job [] = None
+watch_job (word ∷ rest) = asking_job (ask_word word) rest
 
--- a path behind `script`
+-- a path after `script`
 abbrev pub script_job : List (List ℕ) → Option Job
 script_job (word ∷ []) = (if is_path word then Some (Script word) else None)
 script_job [] = None
@@ -123,7 +157,7 @@ numbers_job (Some seed) None workers = None
 numbers_job (Some seed) (Some count) None = None
 numbers_job (Some seed) (Some count) (Some workers) = Some (Trial seed count workers)
 
--- the number with which the generator begins, how many records are generated, and how many workers load them, behind `trial`
+-- the number with which the generator begins, how many records are generated, and how many workers load them, after `trial`
 abbrev pub trial_job : List (List ℕ) → Option Job
 trial_job [] = None
 trial_job (seed ∷ []) = None
@@ -137,18 +171,20 @@ lone_job word =
     (if is_text word (codes "--help") then Some Help
     else (if is_text word (codes "--version") then Some Version else None))
 
--- what a command with words behind it asks for
-abbrev pub command_job : ℕ → List ℕ → List (List ℕ) → Option Job
-command_job most command words =
+-- what a command with words after it asks for
+abbrev pub command_job : List ℕ → List (List ℕ) → Option Job
+command_job command words =
     (if is_text command (codes "check") then check_job words
-    else (if is_text command (codes "export") then export_job most words
-    else (if is_text command (codes "works") then works_job most words
-    else (if is_text command (codes "watch") then watch_job most words
+    else (if is_text command (codes "tojson") then to_json_job words
+    else (if is_text command (codes "fromjson") then from_json_job words
+    else (if is_text command (codes "export") then export_job words
+    else (if is_text command (codes "works") then works_job words
+    else (if is_text command (codes "watch") then watch_job words
     else (if is_text command (codes "script") then script_job words
-    else (if is_text command (codes "trial") then trial_job words else None))))))
+    else (if is_text command (codes "trial") then trial_job words else None))))))))
 
--- what the words behind the program's name ask for: None where they are in no form that the program has
-abbrev pub job_of : ℕ → List (List ℕ) → Option Job
-job_of most [] = None
-job_of most (word ∷ []) = lone_job word
-job_of most (command ∷ word ∷ rest) = command_job most command (word ∷ rest)
+-- what the words after the program's name ask for: None where they are in no form that the program has
+abbrev pub job_of : List (List ℕ) → Option Job
+job_of [] = None
+job_of (word ∷ []) = lone_job word
+job_of (command ∷ word ∷ rest) = command_job command (word ∷ rest)

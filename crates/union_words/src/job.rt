@@ -4,6 +4,7 @@ ghost use Rattle.std.specs.Option.{option_copied, option_map};
 ghost use Rattle.union_words.specs.Meanings.{job_meaning};
 ghost use Rattle.union_words.specs.Words;
 
+use crate::form::{Form, form_in};
 use crate::libraries::Libraries;
 use crate::library_file::{LibraryFile, is_path};
 use crate::number::option_text;
@@ -11,16 +12,17 @@ use crate::trial::Trial;
 use crate::workers::{Workers, workers_in};
 use union_base::bytes::Bytes;
 
-/// The most libraries that a command takes.
-pub const MOST_LIBRARIES: usize = 64;
-
 /// What the program is asked to do. A job borrows the words.
 #[derive(Clone, Copy)]
 pub enum Job<'a> {
     /// `check LIB=PATH`: check one file.
     Check(LibraryFile<'a>),
-    /// `export [--workers=N] LIB=PATH ..`: load and export.
-    Export(Workers, Libraries<'a>),
+    /// `tojson LIB=PATH`: write the records of one file as MARC in JSON.
+    ToJson(LibraryFile<'a>),
+    /// `fromjson LIB=PATH`: write the records of one file of MARC in JSON as ISO 2709.
+    FromJson(LibraryFile<'a>),
+    /// `export [--workers=N] [--json] LIB=PATH ..`: load and export.
+    Export(Workers, Form, Libraries<'a>),
     /// `works [--workers=N] LIB=PATH ..`: load and list the works.
     Works(Workers, Libraries<'a>),
     /// `watch --ask=PATH [--workers=N] LIB=PATH ..`: load, and answer the questions of that file beside.
@@ -36,15 +38,15 @@ pub enum Job<'a> {
 }
 
 impl<'a> Job<'a> {
-    /// What the words behind the program's name ask for, where a command takes up to `most` libraries: None exactly
-    /// where the words are in no form that the program has. Takes no memory.
-    pub fn read(words: &'a [Bytes], most: usize) -> Option<Job<'a>>
-        ensures { option_map job_meaning result ≡ Words.job_of most words.now }
+    /// What the words after the program's name ask for: None exactly where they are in no form that the program has. Takes no
+    /// memory.
+    pub fn read(words: &'a [Bytes]) -> Option<Job<'a>>
+        ensures { option_map job_meaning result ≡ Words.job_of words.now }
     {
         match words {
             [] => None,
             [word] => lone_job(word.bytes()),
-            [command, words @ ..] => command_job(command.bytes(), words, most),
+            [command, words @ ..] => command_job(command.bytes(), words),
         }
     }
 }
@@ -62,18 +64,22 @@ fn lone_job<'a>(word: &[u8]) -> Option<Job<'a>>
     }
 }
 
-/// What a command with words behind it asks for.
-fn command_job<'a>(command: &[u8], words: &'a [Bytes], most: usize) -> Option<Job<'a>>
-    ensures { option_map job_meaning result ≡ Words.command_job most command.now words.now }
+/// What a command with words after it asks for.
+fn command_job<'a>(command: &[u8], words: &'a [Bytes]) -> Option<Job<'a>>
+    ensures { option_map job_meaning result ≡ Words.command_job command.now words.now }
 {
     if command == b"check".as_slice() {
         check_job(words)
+    } else if command == b"tojson".as_slice() {
+        to_json_job(words)
+    } else if command == b"fromjson".as_slice() {
+        from_json_job(words)
     } else if command == b"export".as_slice() {
-        export_job(words, most)
+        export_job(words)
     } else if command == b"works".as_slice() {
-        works_job(words, most)
+        works_job(words)
     } else if command == b"watch".as_slice() {
-        watch_job(words, most)
+        watch_job(words)
     } else if command == b"script".as_slice() {
         script_job(words)
     } else if command == b"trial".as_slice() {
@@ -95,41 +101,66 @@ fn check_job(words: &[Bytes]) -> Option<Job<'_>>
     }
 }
 
-fn export_job(words: &[Bytes], most: usize) -> Option<Job<'_>>
-    ensures { option_map job_meaning result ≡ Words.export_job most words.now }
+fn to_json_job(words: &[Bytes]) -> Option<Job<'_>>
+    ensures { option_map job_meaning result ≡ Words.to_json_job words.now }
+{
+    match words {
+        [word] => match LibraryFile::read(word.bytes()) {
+            Some(file) => Some(Job::ToJson(file)),
+            None => None,
+        },
+        _ => None,
+    }
+}
+
+fn from_json_job(words: &[Bytes]) -> Option<Job<'_>>
+    ensures { option_map job_meaning result ≡ Words.from_json_job words.now }
+{
+    match words {
+        [word] => match LibraryFile::read(word.bytes()) {
+            Some(file) => Some(Job::FromJson(file)),
+            None => None,
+        },
+        _ => None,
+    }
+}
+
+fn export_job(words: &[Bytes]) -> Option<Job<'_>>
+    ensures { option_map job_meaning result ≡ Words.export_job words.now }
 {
     let (workers, words) = workers_in(words);
-    match Libraries::read(words, most) {
-        Some(libraries) => Some(Job::Export(workers, libraries)),
+    let (form, words) = form_in(words);
+    match Libraries::read(words) {
+        Some(libraries) => Some(Job::Export(workers, form, libraries)),
         None => None,
     }
 }
 
-fn works_job(words: &[Bytes], most: usize) -> Option<Job<'_>>
-    ensures { option_map job_meaning result ≡ Words.works_job most words.now }
+fn works_job(words: &[Bytes]) -> Option<Job<'_>>
+    ensures { option_map job_meaning result ≡ Words.works_job words.now }
 {
     let (workers, words) = workers_in(words);
-    match Libraries::read(words, most) {
+    match Libraries::read(words) {
         Some(libraries) => Some(Job::Works(workers, libraries)),
         None => None,
     }
 }
 
-fn watch_job(words: &[Bytes], most: usize) -> Option<Job<'_>>
-    ensures { option_map job_meaning result ≡ Words.watch_job most words.now }
+fn watch_job(words: &[Bytes]) -> Option<Job<'_>>
+    ensures { option_map job_meaning result ≡ Words.watch_job words.now }
 {
     match words {
-        [word, words @ ..] => asking_job(ask_word(word.bytes())?, words, most),
+        [word, words @ ..] => asking_job(ask_word(word.bytes())?, words),
         [] => None,
     }
 }
 
 /// What `watch` asks for with the file of questions of that path.
-fn asking_job<'a>(asks: &'a [u8], words: &'a [Bytes], most: usize) -> Option<Job<'a>>
-    ensures { option_map job_meaning result ≡ Words.asking_job (Some asks.now) most words.now }
+fn asking_job<'a>(asks: &'a [u8], words: &'a [Bytes]) -> Option<Job<'a>>
+    ensures { option_map job_meaning result ≡ Words.asking_job (Some asks.now) words.now }
 {
     let (workers, words) = workers_in(words);
-    match Libraries::read(words, most) {
+    match Libraries::read(words) {
         Some(libraries) => Some(Job::Watch(asks, workers, libraries)),
         None => None,
     }

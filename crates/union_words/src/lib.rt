@@ -7,6 +7,7 @@
 //! comparison of the codes of one command, each with each.
 #![tactic(auto)]
 
+pub mod form;
 pub mod input;
 pub mod job;
 pub mod libraries;

@@ -7,7 +7,10 @@ ghost use Rattle.union_words.specs.Words;
 use crate::library_file::{LibraryFile, code_text, read_library};
 use union_base::bytes::Bytes;
 
-/// One or more libraries with distinct codes, in the order of the command. Each is read from its word when it is asked
+/// The most libraries that a command takes.
+pub const MOST_LIBRARIES: usize = 64;
+
+/// One to 64 libraries with distinct codes, in the order of the command. Each is read from its word when it is asked
 /// for, so a value of this type is no more than a borrow of the words.
 #[derive(Clone, Copy)]
 pub struct Libraries<'a> {
@@ -18,23 +21,24 @@ pub struct Libraries<'a> {
 impl<'a> Libraries<'a> {
     ghost use Rattle.union_words.specs.Meanings.{libraries_meaning, file_meaning};
 
-    /// The libraries of the words: None exactly where these are not one to `most` words `LIB=PATH` with distinct codes.
-    /// Takes no memory. Looks at each pair of words, so `most` should be small.
-    pub fn read(words: &'a [Bytes], most: usize) -> Option<Libraries<'a>>
+    /// The libraries of the words: None exactly where these are not one to 64 words `LIB=PATH` with distinct codes. Takes no
+    /// memory. Compares each pair of words.
+    pub fn read(words: &'a [Bytes]) -> Option<Libraries<'a>>
         ensures { option_map libraries_meaning result
-            ≡ (if nat_le (length words.now) most && Words.are_libraries words.now then Some (Words.libraries_of words.now) else None) }
+            ≡ (if Words.are_libraries words.now then Some (Words.libraries_of words.now) else None) }
     {
-        if words.len() <= most && are_libraries(words) {
+        if are_libraries(words) {
             Some(Libraries { words })
         } else {
             None
         }
     }
 
-    /// How many libraries there are: one or more. Takes no memory.
+    /// How many libraries there are: 1 to 64. Takes no memory.
     pub fn len(&self) -> usize
         ensures value { result ≡ length (libraries_meaning self.now) }
         ensures some { 1 ≤ result }
+        ensures most { result ≤ 64 }
     {
         self.words.len()
     }
@@ -51,7 +55,13 @@ impl<'a> Libraries<'a> {
 fn are_libraries(words: &[Bytes]) -> bool
     ensures { result ≡ Words.are_libraries words.now }
 {
-    1 <= words.len() && are_library_words(words) && have_distinct_codes(words)
+    is_few(words.len()) && are_library_words(words) && have_distinct_codes(words)
+}
+
+fn is_few(count: usize) -> bool
+    ensures { result ≡ (nat_le 1 count && nat_le count Words.most_libraries) }
+{
+    1 <= count && count <= MOST_LIBRARIES
 }
 
 fn are_library_words(words: &[Bytes]) -> bool

@@ -17,7 +17,7 @@ pub struct LibraryFile<'a> {
 
 impl<'a> LibraryFile<'a> {
     /// The library and the path of a word `LIB=PATH`: None exactly where what stands before the word's first `=` is no
-    /// library code, or what stands behind it is no path. Takes no memory.
+    /// library code, or what stands after it is no path. Takes no memory.
     pub fn read(word: &'a [u8]) -> Option<LibraryFile<'a>>
         ensures { option_map file_meaning result
             ≡ (if Words.is_library_word word.now then Some (Words.library_of word.now) else None) }
@@ -50,7 +50,7 @@ pub fn code_text(word: &[u8]) -> &[u8]
     &word[..equals_place(word)]
 }
 
-/// What stands behind the first `=` of a word, and nothing where it has none.
+/// What stands after the first `=` of a word, and nothing where it has none.
 fn path_text(word: &[u8]) -> &[u8]
     ensures { result.now ≡ Words.path_text word.now }
 {

@@ -41,7 +41,7 @@ impl<'a> Lines<'a> {
     }
 }
 
-/// The first line, and the text behind its line feed: None where the line ends at the end of the text.
+/// The first line, and the text after its line feed: None where the line ends at the end of the text.
 fn first_line(text: &[u8]) -> (&[u8], Option<&[u8]>)
     ensures { MatchOption result.1 (lines_of text.now ≡ result.0.now ∷ []) (λ rest. lines_of text.now ≡ result.0.now ∷ lines_of rest.now) }
 {

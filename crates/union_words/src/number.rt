@@ -44,7 +44,7 @@ pub fn workers_word(word: &[u8]) -> Option<u64>
     workers_of(option_text(b"--workers=", word)?)
 }
 
-/// What stands behind the name of an option, where the word begins with it. Takes no memory.
+/// What stands after the name of an option, where the word begins with it. Takes no memory.
 pub fn option_text<'a>(name: &[u8], word: &'a [u8]) -> Option<&'a [u8]>
     ensures { option_copied result ≡ Numbers.option_text name.now word.now }
 {

@@ -82,7 +82,7 @@ fn works_line(rest: &[u8]) -> ScriptLine<'_>
     }
 }
 
-/// What stands before the first blank of the text and what stands behind it: all of it and nothing where there is no blank.
+/// What stands before the first blank of the text and what stands after it: all of it and nothing where there is no blank.
 fn cut_at_blank(text: &[u8]) -> (&[u8], &[u8])
     ensures before { result.0.now ≡ before_first is_blank text.now }
     ensures behind { result.1.now ≡ after_first is_blank text.now }

@@ -44,7 +44,7 @@ impl Status {
     }
 
     /// The one line that tells how the run ended, in three parts: what stands before an input's name, the name, and
-    /// what stands behind it. All three are empty for a run that was done or could not write. Takes no memory.
+    /// what stands after it. All three are empty for a run that was done or could not write. Takes no memory.
     pub fn early_parts(&self) -> (&[u8], &[u8], &[u8])
         ensures { result.0.now ++ (result.1.now ++ result.2.now) ≡ early_text self.now }
     {

@@ -11,11 +11,13 @@ union - a union catalogue of MARC 21 records
 
 Checks a library's file of bibliographic records (ISO 2709), or loads the files
 of up to 64 libraries and writes their union catalogue, its works, or answers
-to questions.
+to questions. Writes records as MARC in JSON, and reads them back.
 
 USAGE
     union check LIB=PATH         say which records of the file break a rule
-    union export [--workers=N] LIB=PATH ..
+    union tojson LIB=PATH        write the file's records as MARC in JSON
+    union fromjson LIB=PATH      write a file of MARC in JSON as ISO 2709
+    union export [--workers=N] [--json] LIB=PATH ..
                                  load the files and export the union catalogue
     union works [--workers=N] LIB=PATH ..
                                  load the files and list the works
@@ -30,9 +32,10 @@ USAGE
     union --version              show the program's name and version
 
     LIB is the library's code, 1 to 16 of A-Z and 0-9. PATH is the path of its
-    file, at least one byte and UTF-8: all that stands behind the first '='.
+    file, at least one byte and UTF-8: everything after the first '='.
     export, works and watch take 1 to 64 libraries, each under a code of its
     own. N workers load them at once, 1 to 64: without the option there are 4.
+    With --json the export is MARC in JSON. Options stand in the order above.
     A record of status d withdraws the library's record with its control
     number; any other is loaded, in place of an earlier one.
     SEED is 0 to 18446744073709551615, COUNT 1 to 200000 and WORKERS 1 to 64,
@@ -63,8 +66,19 @@ WHAT GOES WHERE
               record that breaks a rule, then one line
               'LIB frames F load L withdraw W refused N'.
               Standard error has nothing.
-    export    Standard output has the catalogue's records, as ISO 2709. Records
-              that match are merged into one.
+    tojson    Standard output has each record that breaks no rule, as a line of
+              MARC in JSON.
+              Standard error has the refused records as check tells them, then
+              'LIB frames F written W refused N'.
+    fromjson  Standard output has the record of each line, as ISO 2709.
+              Standard error has a line 'LIB refused LINE NAME PLACE' for each
+              line that has no such record, then one line
+              'LIB lines F written W refused N'. NAME is Json, Shape,
+              LineTooLong, FieldTooLong, RecordTooLong or the name of a rule.
+              Empty lines are passed over, and F does not count them.
+    export    Standard output has the catalogue's records, as ISO 2709, or with
+              --json as lines of MARC in JSON. Records that match are merged
+              into one.
               Standard error has, for each library in the order of the command,
               the refused records as check tells them, then
               'LIB frames F added A replaced R removed D absent X refused N'.
@@ -75,7 +89,7 @@ WHAT GOES WHERE
               export, without the 'left' lines.
     watch     Standard output has for each batch of records, in the order in
               which they were loaded, a line 'turn T LIB N': the turn's number,
-              the library, and how many records it loads or withdraws. Behind
+              the library, and how many records it loads or withdraws. After
               these it has for each question, in the order of the file, a line
               'reply T LINE' and the answer over the first T turns. The last
               question is asked when all is loaded, and with one worker so is
@@ -110,6 +124,9 @@ EXAMPLES
         union check LIBA=liba.mrc
     The union catalogue of two libraries, and their reports, in two files:
         union export LIBA=liba.mrc LIBB=libb.mrc > union.mrc 2> report.txt
+    The records of a file as lines of JSON, and back:
+        union tojson LIBA=liba.mrc > liba.jsonl
+        union fromjson LIBA=liba.jsonl > again.mrc
     Questions that are answered while two libraries are loaded:
         union watch --ask=questions.txt LIBA=liba.mrc LIBB=libb.mrc
     What a night's script comes to:

@@ -39,7 +39,7 @@ impl Workers {
     }
 }
 
-/// The workers, by a first word `--workers=N` where there is one, and the words behind it. Takes no memory.
+/// The workers, by a first word `--workers=N` where there is one, and the words after it. Takes no memory.
 pub(crate) fn workers_in(words: &[Bytes]) -> (Workers, &[Bytes])
     ensures workers { result.0.number ≡ (Words.workers_in words.now).0 }
     ensures rest { result.1.now ≡ (Words.workers_in words.now).1 }

@@ -1,7 +1,7 @@
 use Rattle.union_words.specs.Meanings.{libraries_meaning}
-use Rattle.union_program.specs.Runs.{showing_of}
-use Rattle.union_sessions.proofs.InputLaws.{flow}
-use Rattle.union_program.proofs.RunLaws.{stopped_run, loaded_run, loaded_noted, keeps_all}
+use Rattle.union_commands.specs.Runs.{showing_of}
+use Rattle.union_files.proofs.InputLaws.{flow}
+use Rattle.union_commands.proofs.RunLaws.{stopped_run, loaded_run, loaded_noted, keeps_all}
 use Rattle.union_program.proofs.run.run_union.Goals as goal
 
 pub returns-in-Err-clause-run : goal.returns-in-Err-clause-run

@@ -3,13 +3,13 @@ use Rattle.std.specs.Prelude.{IfSome}
 use Rattle.union_words.specs.Meanings.{libraries_meaning}
 use Rattle.union_script.specs.declared.text_file.TheConstants.{LARGEST_TEXT}
 use Rattle.union_script.proofs.FileLaws.{flow}
-use Rattle.union_sessions.specs.Inputs.{AreWithin, StopsAt, deliveries}
-use Rattle.union_sessions.specs.Unions.{HasUnited}
+use Rattle.union_files.specs.Inputs.{AreWithin, StopsAt, deliveries}
+use Rattle.union_files.specs.Unions.{HasUnited}
 use Rattle.union_watch.specs.AskLines.{lines_in}
 use Rattle.union_watch.specs.Told.{told_of}
 use Rattle.union_watch.proofs.RunLaws.{stopped_at_libraries}
-use Rattle.union_program.proofs.RunLaws.{keeps_all, on_told}
-use Rattle.union_program.proofs.WatchLaws.{watched_run}
+use Rattle.union_commands.proofs.RunLaws.{keeps_all, on_told}
+use Rattle.union_commands.proofs.WatchLaws.{watched_run}
 use Rattle.union_program.proofs.run.run_watch.Goals as goal
 
 pub returns-in-Ok-load_and_answer-clause-run : goal.returns-in-Ok-load_and_answer-clause-run

@@ -9,16 +9,16 @@ use Rattle.load_sessions.specs.Askers.{Replied}
 use Rattle.load_sessions.specs.Entries.{entries_of}
 use Rattle.union_base.specs.Both.{both_true}
 use Rattle.union_sessions.proofs.CourseLaws.{united}
-use Rattle.union_sessions.proofs.DistinctLaws.{distinct_deliveries}
-use Rattle.union_sessions.proofs.InputLaws.{same_more}
+use Rattle.union_files.proofs.DistinctLaws.{distinct_deliveries}
+use Rattle.union_files.proofs.InputLaws.{same_more}
 use Rattle.union_sessions.proofs.ReplyLaws.{each_weaker, numbered_below, replied_over}
 use Rattle.union_sessions.proofs.SessionLaws.{HaveEnded, have_run, ready_all}
-use Rattle.union_sessions.specs.Deliveries.{codes_of, AreDistinct, has_refused}
-use Rattle.union_sessions.specs.Inputs.{AreWithin, deliveries}
+use Rattle.union_files.specs.Deliveries.{codes_of, AreDistinct, has_refused}
+use Rattle.union_files.specs.Inputs.{AreWithin, deliveries}
 use Rattle.union_sessions.specs.Sessions.{AreReported, course_text, courses_of, ended_of, file_of_course}
-use Rattle.union_sessions.specs.Unions.{HasUnited}
+use Rattle.union_files.specs.Unions.{HasUnited}
 use Rattle.union_words.specs.Meanings.{libraries_meaning}
-use Rattle.union_words.specs.Words.{LibraryFile, is_library_word, have_distinct_codes}
+use Rattle.union_words.specs.Words.{LibraryFile, is_library_word, have_distinct_codes, most_libraries}
 use Rattle.union_sessions.proofs.sessions.load_and_ask.Goals as goal
 
 pub run_all-requires-clause-ready : goal.run_all-requires-clause-ready
@@ -84,7 +84,7 @@ returns-in-Ok-close_desk-clause-gathers g c =
     each_weaker (λ (e : ℕ × Batch). e.0 + 1 < (root_of c.end_all.new.root).made) (λ e. e.0 < length courses) entries (λ e low. omega (arith, low, made)) closed.numbers in
     let distinct : have_distinct_codes words ≡ true =
     (both_true (list_all is_library_word words) (have_distinct_codes words)
-    (both_true (nat_le 1 (length words)) (list_all is_library_word words && have_distinct_codes words) c.args.libraries.now.words_are_libraries).1).1 in (
+    (both_true (nat_le 1 (length words) && nat_le (length words) most_libraries) (list_all is_library_word words && have_distinct_codes words) c.args.libraries.now.words_are_libraries).1).1 in (
       same_more (g.F.Shelf.faults c.args.shelf.now) (g.F.Shelf.faults c.start_sessions.new.shelf) (g.F.Shelf.faults c.end_all.new.shelf)
           c.in_ok-sessions.ensures.calm c.in_ok-end_all.ensures.gathers.0,
       subst (λ files. IfSome files (λ contents. AreWithin contents libraries × HasUnited (deliveries contents libraries) loaded)) c.in_ok-sessions.ensures.files

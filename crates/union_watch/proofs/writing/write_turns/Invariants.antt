@@ -4,7 +4,7 @@ use Rattle.catalogue_export.specs.Writing.{IsWrittenTo}
 use Rattle.union_watch.specs.TurnLines.{turn_text, turns_from, turns_text}
 use Rattle.union_watch.proofs.writing.write_turns.Given as goal
 
--- the lines on the turns before this one were written, or are pending, and those behind them make up the whole
+-- the lines on the turns before this one were written, or are pending, and those after them make up the whole
 abbrev pub invariant-loop-turn : goal.invariant-loop-turn
 invariant-loop-turn g l = record {
   text : List ℕ;

@@ -6,10 +6,10 @@ use Rattle.union_words.proofs.job.asking_job.Goals as goal
 
 pub returns-in-Some : goal.returns-in-Some
 returns-in-Some c =
-    job_behind (Watch c.args.asks.now) c.args.most c.workers_in.result.0.number c.args.words.now c.workers_in.result.1.now (Some (libraries_meaning c.in-Some.libraries))
+    job_behind (Watch c.args.asks.now) c.workers_in.result.0.number c.args.words.now c.workers_in.result.1.now (Some (libraries_meaning c.in-Some.libraries))
     c.workers_in.ensures.workers c.workers_in.ensures.rest c.in-Some.ensures
 
 pub returns-in-None : goal.returns-in-None
 returns-in-None c =
-    job_behind (Watch c.args.asks.now) c.args.most c.workers_in.result.0.number c.args.words.now c.workers_in.result.1.now None
+    job_behind (Watch c.args.asks.now) c.workers_in.result.0.number c.args.words.now c.workers_in.result.1.now None
     c.workers_in.ensures.workers c.workers_in.ensures.rest c.in-None.ensures

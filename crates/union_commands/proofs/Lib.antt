@@ -1,0 +1,5 @@
+pub mod StreamLaws
+pub mod TallyLaws
+pub mod NoteLaws
+pub mod RunLaws
+pub mod WatchLaws

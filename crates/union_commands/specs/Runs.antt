@@ -1,0 +1,161 @@
+-- What a run does, by the form of its words.
+use Rattle.std.specs.Prelude.{◌≡◌, ◌≢◌, ℕ, ◌⊎◌, ◌<◌, ◌≤◌, false, IsTrue, List, [], ◌∷◌, ◌++◌, length, Some, IfSome}
+use Rattle.std.specs.List.{list_any}
+use Rattle.std.specs.Io.KnownBytes.{Appends, Keeps}
+use Rattle.catalogue_core.specs.Histories.{AreEditionsOf}
+use Rattle.catalogue_editions.specs.declared.edition.Edition.{Edition}
+use Rattle.catalogue_export.specs.Editions.{export_text}
+use Rattle.catalogue_export.specs.WorkLists.{works_text_of}
+use Rattle.catalogue_json.specs.JsonExport.{json_export_text}
+use Rattle.iso2709_frame.specs.Frames.{frames}
+use Rattle.union_io.specs.Writing.{AppendsFront}
+use Rattle.library_batches.specs.Refused.{refused}
+use Rattle.library_batches.specs.declared.refused.RefusedFrame.{RefusedFrame}
+use Rattle.library_stream.specs.declared.frame_reader.TheConstants.{LARGEST_SOURCE}
+use Rattle.union_reports.specs.Reports.{check_text, left_lines}
+use Rattle.union_files.specs.Deliveries.{Delivery, Stream, reports_of, has_refused}
+use Rattle.union_files.specs.Inputs.{inputs_of, FailsEarliest, AreWithin, IsTooLongAt, deliveries}
+use Rattle.union_files.specs.Unions.{IsUnion}
+use Rattle.union_files.specs.declared.loaded.Loaded.{Loaded}
+use Rattle.union_words.specs.Flows.{ShelfFlow, IsCalm, FailsAt, NoneFails, Inflow, HasFailed, Outflow, HasFailedAt, IsNoted, IsCutOff}
+use Rattle.union_words.specs.Statuses.{is_done, is_early, is_input_fault, end_by}
+use Rattle.union_words.specs.Texts.{early_text}
+use Rattle.union_words.specs.Words.{LibraryFile}
+use Rattle.union_words.specs.declared.form.Form.{Form}
+use Rattle.union_words.specs.declared.form.Form.TheVariants.{Iso2709, Json}
+use Rattle.union_words.specs.declared.input.Input.{Input}
+use Rattle.union_words.specs.declared.input.Input.TheVariants.{Library}
+use Rattle.union_words.specs.declared.status.Status.{Status}
+use Rattle.union_words.specs.declared.status.Status.TheVariants.{Done, DoneWithRefusals, Usage, OpenFault, ReadFault, WriteFault, TooLong, Memory}
+use Rattle.union_commands.specs.Readings.{IsOverfull}
+use Rattle.union_commands.specs.declared.shown.Shown.{Shown}
+use Rattle.union_commands.specs.declared.shown.Shown.TheVariants.{Export, Works}
+
+-- how a run ends that came to its end
+abbrev pub end_with : List RefusedFrame → Status
+end_with [] = Done
+end_with (frame ∷ rest) = DoneWithRefusals
+
+abbrev pub end_of_all : List Delivery → Status
+end_of_all all = end_by (list_any has_refused all)
+
+abbrev pub end_of : List ℕ → Status
+end_of stream = end_with (refused (frames stream))
+
+-- the statuses that come of an input which cannot be read to its end
+pub record EndsAtInput (input : Input) (flow : Inflow) (status : Status) : Type 0 where
+  pub open_fault : (i : Input) → status ≡ OpenFault i → (i ≡ input) × HasFailed flow
+  pub read_fault : (i : Input) → status ≡ ReadFault i → (i ≡ input) × HasFailed flow
+  pub too_long : (i : Input) → status ≡ TooLong i → (i ≡ input) × IsOverfull flow
+  pub too_long_where : (bytes : List ℕ) → flow.told ≡ Some bytes → LARGEST_SOURCE < length bytes → ¬ HasFailed flow
+      → (status ≡ TooLong input) ⊎ (status ≡ Memory)
+
+-- `check` of a library's file
+pub record IsCheck (library : List ℕ) (file : Inflow) (out : Outflow) (status : Status) : Type 0 where
+  pub input : EndsAtInput (Library library) file status
+  pub calm : is_input_fault status ≡ false → file.after ≡ file.before
+  pub write_fault : status ≡ WriteFault → HasFailedAt out
+  pub other : status ≢ Usage
+  -- all of the text, none of it, or a prefix of it
+  pub done : IsTrue (is_done status)
+      → IfSome file.told (λ bytes. (status ≡ end_of bytes) × Appends out.old out.new (check_text library (frames bytes)))
+  pub untouched : IsTrue (is_early status) → Keeps out.old out.new
+  pub part : status ≡ WriteFault → IfSome file.told (λ bytes. AppendsFront out.old out.new (check_text library (frames bytes)))
+  -- where nothing fails it is done, or memory ran out
+  pub complete : (bytes : List ℕ) → file.told ≡ Some bytes → length bytes ≤ LARGEST_SOURCE → ¬ HasFailed file → ¬ HasFailedAt out
+      → (status ≡ end_of bytes) ⊎ (status ≡ Memory)
+
+-- what is shown of the editions of a catalogue on the output, and what is noted of them after the reports
+pub record Showing : Type 0 where
+  pub shown : List Edition → List ℕ
+  pub noted : List Edition → List ℕ
+
+-- the export, and lines on what was left out of it
+abbrev pub exported : Showing
+exported = record { shown = export_text; noted = left_lines }
+
+-- the export as lines of JSON, and the same lines on what was left out
+abbrev pub exported_in_json : Showing
+exported_in_json = record { shown = json_export_text; noted = left_lines }
+
+-- the export in its form
+abbrev pub exported_as : Form → Showing
+exported_as Iso2709 = exported
+exported_as Json = exported_in_json
+
+-- the list of the works
+abbrev pub listed : Showing
+listed = record { shown = works_text_of; noted = λ editions. [] }
+
+abbrev pub showing_of : Shown → Showing
+showing_of (Export form) = exported_as form
+showing_of Works = listed
+
+-- all was written: what is shown of the union of these deliveries, their reports, and what is noted
+abbrev pub IsShown : Showing → List Delivery → Outflow → Outflow → Type 0
+IsShown showing all out notes =
+    (streams : List Stream) × (editions : List Edition) × IsUnion all streams editions
+    × Appends out.old out.new (showing.shown editions) × Appends notes.old notes.new (reports_of streams ++ showing.noted editions)
+
+-- a write of one of the two texts failed
+abbrev pub IsShownInPart : Showing → List Delivery → Outflow → Outflow → Type 0
+IsShownInPart showing all out notes =
+    (streams : List Stream) × (editions : List Edition) × IsUnion all streams editions
+    × IsCutOff out notes (showing.shown editions) (reports_of streams ++ showing.noted editions)
+
+-- a prefix of what is shown was written
+abbrev pub IsBegun : Showing → List Delivery → Outflow → Type 0
+IsBegun showing all out =
+    (streams : List Stream) × (editions : List Edition) × IsUnion all streams editions × AppendsFront out.old out.new (showing.shown editions)
+
+-- what is shown of the union of these libraries' files, and their reports
+pub record IsUnionRun (showing : Showing) (libraries : List LibraryFile) (shelf : ShelfFlow) (out notes : Outflow) (status : Status) : Type 0 where
+  -- what failed, where something did
+  pub open_fault : (i : Input) → status ≡ OpenFault i → FailsAt (inputs_of libraries) shelf i
+  pub read_fault : (i : Input) → status ≡ ReadFault i → FailsEarliest (inputs_of libraries) shelf i
+  pub calm : is_input_fault status ≡ false → IsCalm shelf
+  pub write_fault : status ≡ WriteFault → (HasFailedAt out × Keeps notes.old notes.new) ⊎ HasFailedAt notes
+  pub other : status ≢ Usage
+  -- which file is too long
+  pub too_long : (i : Input) → status ≡ TooLong i → IfSome shelf.files (λ contents. IsTooLongAt contents libraries i)
+  -- all of both texts; none of the first; or a prefix of one, where the second is begun only when the first is written whole
+  pub done : IsTrue (is_done status) → IfSome shelf.files (λ contents. AreWithin contents libraries
+      × (status ≡ end_of_all (deliveries contents libraries)) × IsShown showing (deliveries contents libraries) out notes)
+  pub untouched : IsTrue (is_early status) → status ≢ Memory → Keeps out.old out.new
+  pub memory : status ≡ Memory → Keeps out.old out.new
+      ⊎ IfSome shelf.files (λ contents. AreWithin contents libraries × IsBegun showing (deliveries contents libraries) out)
+  pub part : status ≡ WriteFault → IfSome shelf.files (λ contents. AreWithin contents libraries
+      × IsShownInPart showing (deliveries contents libraries) out notes)
+  -- where nothing fails it is so, or memory ran out
+  pub too_long_where : (contents : List ℕ → List ℕ) (i : Input) → shelf.files ≡ Some contents → IsTooLongAt contents libraries i
+      → NoneFails (inputs_of libraries) shelf → (status ≡ TooLong i) ⊎ (status ≡ Memory)
+  pub complete : (contents : List ℕ → List ℕ) → shelf.files ≡ Some contents → AreWithin contents libraries
+      → NoneFails (inputs_of libraries) shelf → ¬ HasFailedAt out → ¬ HasFailedAt notes
+      → (status ≡ end_of_all (deliveries contents libraries)) ⊎ (status ≡ Memory)
+
+-- a text of the program's own
+pub record IsTold (text : List ℕ) (out : Outflow) (status : Status) : Type 0 where
+  pub kinds : (status ≡ Done) ⊎ (status ≡ WriteFault)
+  pub done : status ≡ Done → Appends out.old out.new text
+  pub part : status ≡ WriteFault → AppendsFront out.old out.new text
+  pub write_fault : status ≡ WriteFault → HasFailedAt out
+
+-- a text on the second output: all of it, or a prefix of it and then a write failed, or none of it since memory ran out
+pub record IsReported (noted : List ℕ) (end : Status) (notes : Outflow) (status : Status) : Type 0 where
+  pub kinds : (status ≡ end) ⊎ ((status ≡ WriteFault) ⊎ (status ≡ Memory))
+  pub done : IsTrue (is_done status) → Appends notes.old notes.new noted
+  pub part : status ≡ WriteFault → AppendsFront notes.old notes.new noted × HasFailedAt notes
+  pub memory : status ≡ Memory → IsNoted notes (early_text Memory)
+
+-- two texts, one on each output and the second after the first: all of both, or a write failed, or memory ran out before the second
+pub record Written (shown noted : List ℕ) (end : Status) (out notes : Outflow) (status : Status) : Type 0 where
+  pub kinds : (status ≡ end) ⊎ ((status ≡ WriteFault) ⊎ (status ≡ Memory))
+  pub done : IsTrue (is_done status) → Appends out.old out.new shown × Appends notes.old notes.new noted
+  pub part : status ≡ WriteFault → IsCutOff out notes shown noted
+  pub memory : status ≡ Memory → AppendsFront out.old out.new shown × IsNoted notes (early_text Memory)
+
+-- what is shown of a loaded catalogue, and its reports
+abbrev pub Shows : Showing → Loaded → Outflow → Outflow → Status → Type 0
+Shows showing loaded out notes status =
+    (editions : List Edition) × AreEditionsOf loaded.catalogue editions
+    × Written (showing.shown editions) (loaded.reports.items ++ showing.noted editions) (end_by loaded.refused) out notes status

@@ -1,0 +1,69 @@
+-- What comes of inputs one after the other.
+use Rattle.std.proofs.Common.{◌≡◌, ℕ, ◌+◌, ◌≤◌, Bool, true, false, cond, List, [], ◌∷◌, length, inl, inr, refl, sym, ap, subst, ◌∙◌, arith}
+use Rattle.std.specs.Prelude.{◌<◌, Option, Some, None, IfSome, nat_eq, nat_lt, drop, slice_get}
+use Rattle.std.specs.Option.{option_map}
+use Rattle.std.specs.Cmp.Lexicographic.{pointwise, bytes_decides}
+use Rattle.std.proofs.lemmas.Option.{slice_get_within, get_or_from_slice_get}
+use Rattle.std.proofs.lemmas.List.{drop_more}
+use Rattle.std.proofs.lemmas.Bool.Decides.{nat_tests}
+use Rattle.library_stream.specs.declared.frame_reader.TheConstants.{LARGEST_SOURCE}
+use Rattle.union_io.specs.Files.{told_of}
+use Rattle.union_io.specs.Causes.{Rose}
+use Rattle.union_io.specs.Counts.{SameCounts, SameElsewhere}
+use Rattle.union_words.specs.Words.{LibraryFile}
+use Rattle.union_words.specs.declared.input.Input.{Input}
+use Rattle.union_words.specs.declared.input.Input.TheVariants.{Library}
+use Rattle.union_words.specs.declared.status.Status.{Status}
+use Rattle.union_words.specs.declared.status.Status.TheVariants.{Done, DoneWithRefusals, Usage, OpenFault, ReadFault, WriteFault, TooLong, Memory}
+use Rattle.union_words.specs.Flows.{ShelfFlow, FailsAt}
+use Rattle.union_files.specs.Inputs.{input_of, inputs_of, IsTooLongAt, StopsAt, StopsOpening}
+
+-- the counts of a shelf
+abbrev Counts : Type 0
+Counts = List ℕ → ℕ
+
+abbrev Contents : Type 0
+Contents = List ℕ → List ℕ
+
+abbrev pub flow : Option Contents → Counts → Counts → ShelfFlow
+flow files before after = record { files = files; before = before; after = after }
+
+pub same_more : (a b c : Counts) → SameCounts a b → SameCounts b c → SameCounts a c
+same_more a b c p q = λ name. q name ∙ p name
+
+fails_later : (input : Input) (libraries : List LibraryFile) (files : Option Contents) (a b c : Counts) → FailsAt (inputs_of libraries) (flow files a b) input
+    → SameCounts b c → FailsAt (inputs_of libraries) (flow files a c) input
+fails_later input libraries files a b c fails same = record {
+  file = fails.file;
+  one = fails.one;
+  named = fails.named;
+  failed = subst (Rose (a fails.file.path)) (sym (same fails.file.path)) fails.failed;
+  others = λ name differs. same name ∙ fails.others name differs;
+}
+
+fails_behind : (input : Input) (file : LibraryFile) (rest : List LibraryFile) (files : Option Contents) (a b c : Counts)
+    → SameCounts a b → FailsAt (inputs_of rest) (flow files b c) input → FailsAt (inputs_of (file ∷ rest)) (flow files a c) input
+fails_behind input file rest files a b c same fails = record {
+  file = fails.file;
+  one = inr fails.one;
+  named = fails.named;
+  failed = subst (λ count. Rose count (c fails.file.path)) (same fails.file.path) fails.failed;
+  others = λ name differs. fails.others name differs ∙ same name;
+}
+
+-- a run that stops where it opens an input after one that was opened
+pub opens_behind : (status : Status) (file : LibraryFile) (rest : List LibraryFile) (files : Option Contents) (a b c d : Counts) → SameCounts a b
+    → SameCounts c d → StopsOpening status rest (flow files b c) → StopsOpening status (file ∷ rest) (flow files a d)
+opens_behind (OpenFault input) file rest files a b c d before after stops = fails_later input (file ∷ rest) files a c d (fails_behind input file rest files a b c before stops) after
+opens_behind Memory file rest files a b c d before after stops = same_more a c d (same_more a b c before stops) after
+opens_behind (ReadFault input) file rest files a b c d before after stops = absurd stops
+opens_behind (TooLong input) file rest files a b c d before after stops = absurd stops
+opens_behind Done file rest files a b c d before after stops = absurd stops
+opens_behind DoneWithRefusals file rest files a b c d before after stops = absurd stops
+opens_behind Usage file rest files a b c d before after stops = absurd stops
+opens_behind WriteFault file rest files a b c d before after stops = absurd stops
+
+-- the list from a place on
+pub drop_at : {X : Type 0} (xs : List X) (place : ℕ) (x : X) → slice_get xs place ≡ Some x → drop place xs ≡ x ∷ drop (place + 1) xs
+drop_at xs place x found =
+    drop_more xs place x (slice_get_within xs place x found) ∙ ap (λ y. y ∷ drop (place + 1) xs) (get_or_from_slice_get xs place x x found)

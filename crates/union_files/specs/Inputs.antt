@@ -1,0 +1,125 @@
+-- The inputs of a run: the files of libraries in the order of the command, as a shelf has them.
+use Rattle.std.specs.Prelude.{◌≡◌, ◌≢◌, ◌⊎◌, ℕ, Bool, nat_lt, List, [], ◌∷◌, length, map, Ok, Err, Some, None, IfSome, IsTrue}
+use Rattle.std.specs.List.{find, AllByRecursion}
+use Rattle.std.specs.Option.{option_map}
+use Rattle.std.specs.declared.option.Option.{Option}
+use Rattle.std.specs.declared.result.Result.{Result}
+use Rattle.iso2709_frame.specs.Frames.{frames}
+use Rattle.library_stream.specs.declared.frame_reader.TheConstants.{LARGEST_SOURCE}
+use Rattle.union_io.specs.Causes.{Rose}
+use Rattle.union_io.specs.Files.{told_of}
+use Rattle.union_io.specs.Names.{is_among}
+use Rattle.union_words.specs.Flows.{ShelfFlow, IsCalm, InputFile, FailsAt}
+use Rattle.union_words.specs.Words.{LibraryFile}
+use Rattle.union_words.specs.declared.input.Input.{Input}
+use Rattle.union_words.specs.declared.input.Input.TheVariants.{Library}
+use Rattle.union_words.specs.declared.status.Status.{Status}
+use Rattle.union_words.specs.declared.status.Status.TheVariants.{Done, DoneWithRefusals, Usage, OpenFault, ReadFault, WriteFault, TooLong, Memory}
+use Rattle.union_files.specs.Deliveries.{Delivery, delivery}
+use Rattle.union_files.specs.declared.opened_file.OpenedFile.{OpenedFile}
+
+-- the input that is a library's file
+abbrev pub input_of : LibraryFile → InputFile
+input_of file = record { input = Library file.library; path = file.path }
+
+abbrev pub inputs_of : List LibraryFile → List InputFile
+inputs_of libraries = map input_of libraries
+
+-- the file has more bytes than are read
+abbrev pub is_overfull : (List ℕ → List ℕ) → LibraryFile → Bool
+is_overfull contents file = nat_lt LARGEST_SOURCE (length (contents file.path))
+
+-- the first of the files that has
+abbrev pub first_overfull : (List ℕ → List ℕ) → List LibraryFile → Option LibraryFile
+first_overfull contents libraries = find (is_overfull contents) libraries
+
+-- none of the files has
+abbrev pub AreWithin : (List ℕ → List ℕ) → List LibraryFile → Type 0
+AreWithin contents libraries = first_overfull contents libraries ≡ None
+
+-- the input is the first of the libraries whose file has
+abbrev pub IsTooLongAt : (List ℕ → List ℕ) → List LibraryFile → Input → Type 0
+IsTooLongAt contents libraries input = option_map (λ file. Library file.library) (first_overfull contents libraries) ≡ Some input
+
+-- what the files deliver
+abbrev pub deliveries : (List ℕ → List ℕ) → List LibraryFile → List Delivery
+deliveries contents libraries = map (λ file. delivery file.library (frames (contents file.path))) libraries
+
+-- no file of these has that name
+abbrev pub IsElsewhere : List ℕ → List InputFile → Type 0
+IsElsewhere name files = AllByRecursion (λ file. file.path ≢ name) files
+
+-- the file is one of these, and nothing failed under the names of those before it
+abbrev pub IsEarliest : ShelfFlow → InputFile → List InputFile → Type 0
+IsEarliest shelf file [] = ⊥
+IsEarliest shelf file (first ∷ rest) =
+    (file ≡ first) ⊎ ((shelf.after first.path ≡ shelf.before first.path) × IsEarliest shelf file rest)
+
+-- the input is the first of these under the name of whose file something failed, and nothing failed under a name that is none of
+-- theirs. Something may have failed under the names of later ones
+pub record FailsEarliest (inputs : List InputFile) (shelf : ShelfFlow) (input : Input) : Type 0 where
+  pub file : InputFile
+  pub one : IsEarliest shelf file inputs
+  pub named : input ≡ file.input
+  pub failed : Rose (shelf.before file.path) (shelf.after file.path)
+  pub others : (name : List ℕ) → IsElsewhere name inputs → shelf.after name ≡ shelf.before name
+
+-- the run stops at its inputs with this status
+abbrev pub StopsAt : Status → List LibraryFile → ShelfFlow → Type 0
+StopsAt (OpenFault input) libraries shelf = FailsAt (inputs_of libraries) shelf input
+StopsAt (ReadFault input) libraries shelf = FailsEarliest (inputs_of libraries) shelf input
+StopsAt (TooLong input) libraries shelf = IsCalm shelf × IfSome shelf.files (λ contents. IsTooLongAt contents libraries input)
+StopsAt Memory libraries shelf = IsCalm shelf
+StopsAt Done libraries shelf = ⊥
+StopsAt DoneWithRefusals libraries shelf = ⊥
+StopsAt Usage libraries shelf = ⊥
+StopsAt WriteFault libraries shelf = ⊥
+
+-- the run stops with this status where it opens its inputs
+abbrev pub StopsOpening : Status → List LibraryFile → ShelfFlow → Type 0
+StopsOpening (OpenFault input) libraries shelf = FailsAt (inputs_of libraries) shelf input
+StopsOpening Memory libraries shelf = IsCalm shelf
+StopsOpening (ReadFault input) libraries shelf = ⊥
+StopsOpening (TooLong input) libraries shelf = ⊥
+StopsOpening Done libraries shelf = ⊥
+StopsOpening DoneWithRefusals libraries shelf = ⊥
+StopsOpening Usage libraries shelf = ⊥
+StopsOpening WriteFault libraries shelf = ⊥
+
+-- each of the files was read to its end, or the run stops there. What was found is so of all their contents
+abbrev pub Gathers : {T : Type 0} → Result T Status → List LibraryFile → ShelfFlow → (T → (List ℕ → List ℕ) → Type 0) → Type 0
+Gathers (Ok found) libraries shelf IsOf =
+    IsCalm shelf × IfSome shelf.files (λ contents. AreWithin contents libraries × IsOf found contents)
+Gathers (Err status) libraries shelf IsOf = StopsAt status libraries shelf
+
+-- an opened file: its library, the name under which it was opened, the bytes that are left, where they are told, and how
+-- often a read of it failed
+pub record OpenedState : Type 0 where
+  pub library : List ℕ
+  pub name : List ℕ
+  pub left : Option (List ℕ)
+  pub faults : ℕ
+
+abbrev pub state_of : {S : Type 0} → (S → List ℕ) → (S → Option (List ℕ)) → (S → ℕ) → OpenedFile S → OpenedState
+state_of name left faults opened =
+    record { library = opened.library; name = name opened.source; left = left opened.source; faults = faults opened.source }
+
+-- the states of opened files
+abbrev pub states_of : {S : Type 0} → (S → List ℕ) → (S → Option (List ℕ)) → (S → ℕ) → List (OpenedFile S) → List OpenedState
+states_of name left faults all = map (state_of name left faults) all
+
+-- the library and the name under which its file was opened
+abbrev pub file_of : OpenedState → LibraryFile
+file_of opened = record { library = opened.library; path = opened.name }
+
+abbrev pub files_of : List OpenedState → List LibraryFile
+files_of all = map file_of all
+
+-- it was opened at a shelf with these files, and nothing was read of it yet
+pub record IsFresh (files : Option (List ℕ → List ℕ)) (names : List (List ℕ)) (opened : OpenedState) : Type 0 where
+  pub listed : IsTrue (is_among opened.name names)
+  pub left : opened.left ≡ told_of files opened.name
+  pub faults : opened.faults ≡ 0
+
+abbrev pub AreFresh : Option (List ℕ → List ℕ) → List (List ℕ) → List OpenedState → Type 0
+AreFresh files names all = AllByRecursion (IsFresh files names) all

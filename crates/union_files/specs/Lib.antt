@@ -1,0 +1,4 @@
+pub mod Deliveries
+pub mod Interleavings
+pub mod Unions
+pub mod Inputs

@@ -1,6 +1,0 @@
-use Rattle.std.specs.Prelude.{◌-◌, length}
-use Rattle.union_words.specs.Meanings.{libraries_meaning}
-use Rattle.union_sessions.proofs.opening.+open_rest.Given as goal
-
-abbrev pub decreases-open_rest : goal.decreases-open_rest
-decreases-open_rest g l = length (libraries_meaning l.libraries.now) - l.place
