@@ -1,0 +1,17 @@
+use Rattle.std.proofs.Common.{◌≡◌, ◌-◌, ◌≤◌, ◌^◌}
+use Rattle.union_explain.specs.Readings.{ahead}
+use Rattle.union_explain.proofs.LocateLaws.{Gathers}
+use Rattle.union_explain.proofs.locator.Locator.next.Given as goal
+
+-- the bytes that were read since the call are those of the frame
+abbrev pub invariant-loop-self : goal.invariant-loop-self
+invariant-loop-self g l = record {
+  name : g.S.Source.name l.source ≡ g.S.Source.name l.fn.source;
+  faults : g.S.Source.faults l.source ≡ g.S.Source.faults l.fn.source;
+  gathers : Gathers (ahead l.fn.self.unread (g.S.Source.left l.fn.source)) (ahead l.self-inside.reader.unread (g.S.Source.left l.source))
+      l.fn.self.at l.self-inside.reader.at l.self-inside.frame;
+  within : l.self-inside.reader.at ≤ 2 ^ 40;
+}
+
+abbrev pub decreases-loop-self : goal.decreases-loop-self
+decreases-loop-self g l = 2 ^ 40 - l.self-inside.reader.at

@@ -1,0 +1,30 @@
+use Rattle.std.proofs.Common.{◌≡◌, ◌++◌, ◌+◌, ◌∙◌, ap}
+use Rattle.union_words.specs.Meanings.{libraries_meaning, file_meaning}
+use Rattle.union_explain.specs.Located.{located}
+use Rattle.union_explain.specs.Rows.{rows_of, row_count}
+use Rattle.union_explain.specs.Runs.{refused_in}
+use Rattle.union_explain.proofs.RunLaws.{text-next, rows-next}
+use Rattle.union_explain.proofs.run.table_of.Goals as goal
+
+pub loop-place-preserved : goal.loop-place-preserved
+loop-place-preserved g c =
+    let all = libraries_meaning c.args.libraries.now in
+    let file = file_meaning c.at-file.result in
+    let refused : c.as_slice.result.now ≡ refused_in c.args.report.now file.library =
+    c.as_slice.ensures.value ∙ (c.in-Ok-refused_of.ensures.value ∙ ap (refused_in c.args.report.now) c.bytes.ensures.value) in
+    record {
+      files = c.read_file.ensures.files ∙ c.loop-place.invariant.files;
+      calm = λ name. c.in_ok-read_file-in-Ok-refused_of.ensures.calm name ∙ c.loop-place.invariant.calm name;
+      text = λ contents is.
+          text-next c.args.form c.args.report.now contents all c.loop-place.place file c.loop-place.table.text c.read_file.new.table.text _
+          c.at-file.ensures
+          (c.in_ok-read_file-in-Ok-refused_of.ensures.text contents (c.loop-place.invariant.files ∙ is)
+          ∙ ap (λ xs. c.loop-place.table.text ++ rows_of c.args.form file.library (located (contents file.path)) xs) refused)
+          (c.loop-place.invariant.text contents is);
+      rows = λ contents is.
+          rows-next c.args.report.now contents all c.loop-place.place file c.loop-place.table.rows c.read_file.new.table.rows _
+          c.at-file.ensures
+          (c.in_ok-read_file-in-Ok-refused_of.ensures.rows contents (c.loop-place.invariant.files ∙ is)
+          ∙ ap (λ xs. c.loop-place.table.rows + row_count (located (contents file.path)) xs) refused)
+          (c.loop-place.invariant.rows contents is);
+    }

@@ -1,0 +1,18 @@
+use Rattle.std.proofs.Common.{◌≡◌, ◌+◌, ◌++◌, ℕ, List, Some, drop}
+use Rattle.union_io.specs.Counts.{SameCounts}
+use Rattle.union_words.specs.Meanings.{libraries_meaning}
+use Rattle.union_explain.specs.Runs.{all_rows, table_text, table_rows}
+use Rattle.union_explain.proofs.run.table_of.Given as goal
+
+-- the rows so far and those of the libraries that are left are all of them
+abbrev pub invariant-loop-place : goal.invariant-loop-place
+invariant-loop-place g l = record {
+  files : g.F.Shelf.files l.shelf ≡ g.F.Shelf.files l.fn.shelf;
+  calm : SameCounts (g.F.Shelf.faults l.fn.shelf) (g.F.Shelf.faults l.shelf);
+  text : (contents : List ℕ → List ℕ) → g.F.Shelf.files l.fn.shelf ≡ Some contents
+      → l.table.text ++ all_rows l.form l.report contents (drop l.place (libraries_meaning l.libraries))
+      ≡ table_text l.form l.report contents (libraries_meaning l.libraries);
+  rows : (contents : List ℕ → List ℕ) → g.F.Shelf.files l.fn.shelf ≡ Some contents
+      → l.table.rows + table_rows l.report contents (drop l.place (libraries_meaning l.libraries))
+      ≡ table_rows l.report contents (libraries_meaning l.libraries);
+}

@@ -1,0 +1,6 @@
+-- What the fields of a frame mean.
+use Rattle.union_explain.specs.Located.{Located}
+use Rattle.union_explain.specs.declared.frame.Frame.TheInside.{Inside}
+
+abbrev pub gathered_of : Inside → Located
+gathered_of frame = record { first = frame.first; size = frame.size; bytes = frame.bytes.items }

@@ -1,0 +1,13 @@
+-- What the contracts of the explanations cite.
+pub mod Readings
+pub mod Pieces
+pub mod Located
+pub mod Gathered
+pub mod Locating
+pub mod Rules
+pub mod Reports
+pub mod Glances
+pub mod Rows
+pub mod Tables
+pub mod Runs
+pub mod Requests

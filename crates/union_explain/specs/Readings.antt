@@ -1,0 +1,43 @@
+-- What is ahead of a reader, and what it gives of that.
+use Rattle.std.specs.Prelude.{◌≡◌, ℕ, suc, ⊤, Bool, true, false, List, [], ◌∷◌, ◌++◌, drop, Option, Some, None}
+use Rattle.std.specs.Option.{option_map}
+use Rattle.std.specs.List.{slice_get}
+use Rattle.union_io.specs.Causes.{Rose}
+use Rattle.union_explain.specs.declared.stop.Stop.{Stop}
+use Rattle.union_explain.specs.declared.stop.Stop.TheVariants.{Failed, TooLong, Memory}
+
+-- a reader of bytes: those that were read and not yet given, and how many were given
+pub record Reading : Type 0 where
+  pub unread : List ℕ
+  pub at : ℕ
+
+-- the bytes that are still to be given, where the source tells what it has left
+abbrev pub ahead : List ℕ → Option (List ℕ) → Option (List ℕ)
+ahead unread left = option_map (λ bytes. unread ++ bytes) left
+
+-- the answer is the first of what was ahead, and the rest is ahead now; None is the end
+abbrev pub Gives : {T : Type 0} → Option (List T) → Option (List T) → Option T → Type 0
+Gives None after answer = ⊤
+Gives (Some all) None answer = ⊥
+Gives (Some all) (Some rest) None = (all ≡ []) × (rest ≡ [])
+Gives (Some all) (Some rest) (Some first) = all ≡ first ∷ rest
+
+-- the answer is that of what was ahead with so many before it, and what is behind that is ahead now; None where there are no
+-- more than so many
+abbrev pub Finds : {T : Type 0} → ℕ → Option (List T) → Option (List T) → Option T → Type 0
+Finds count None after answer = ⊤
+Finds count (Some all) None answer = ⊥
+Finds count (Some all) (Some rest) answer = (slice_get all count ≡ answer) × (rest ≡ drop (suc count) all)
+
+-- the same is ahead, and nothing where no byte is there
+abbrev pub Fills : Option (List ℕ) → Option (List ℕ) → Bool → Type 0
+Fills None after some = ⊤
+Fills (Some all) None some = ⊥
+Fills (Some all) (Some rest) true = all ≡ rest
+Fills (Some all) (Some rest) false = (all ≡ []) × (rest ≡ [])
+
+-- a failure raises the count of faults, and nothing else changes it
+abbrev pub CountsStop : Stop → ℕ → ℕ → Type 0
+CountsStop Failed before now = Rose before now
+CountsStop TooLong before now = now ≡ before
+CountsStop Memory before now = now ≡ before

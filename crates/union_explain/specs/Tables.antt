@@ -1,0 +1,15 @@
+-- What the fields of a table mean.
+use Rattle.std.specs.Prelude.{ℕ, ◌≤◌, List, vec_len}
+use Rattle.union_explain.specs.declared.table.Table.TheInside.{Inside}
+
+-- the text of the rows, and how many there are
+pub record Written : Type 0 where
+  pub text : List ℕ
+  pub rows : ℕ
+
+abbrev pub written_of : Inside → Written
+written_of table = record { text = table.text.items; rows = table.rows }
+
+-- each row has a byte at least
+abbrev pub IsCounted : Inside → Type 0
+IsCounted table = table.rows ≤ vec_len table.text

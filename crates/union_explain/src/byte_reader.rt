@@ -1,0 +1,106 @@
+//! The bytes of a source, one after the other, counted.
+ghost use Rattle.std.specs.Prelude.{⊤, ◌≡◌, ◌≤◌, ◌<◌, ◌+◌, ◌^◌, [], ◌∷◌, length, IfOk, MatchResult, MatchOption, OnOk, IsTrue, OnErr};
+ghost use Rattle.std.specs.declared.option.Option.{Option};
+ghost use Rattle.std.specs.Option.{option_to_list};
+ghost use Rattle.union_io.specs.Causes.{HasCause};
+ghost use Rattle.union_explain.specs.Readings.{Gives, ahead, CountsStop, Fills};
+
+use crate::stop::Stop;
+use std::alloc::Global;
+use std::marker::Model;
+use union_base::memory::Memory;
+use union_io::failed::Failed;
+use union_io::source::Source;
+
+/// How many bytes are asked for at once.
+pub const PIECE: usize = 65_536;
+
+/// The most bytes that a source may give, 2^40.
+pub const LARGEST_SOURCE: u64 = 1_099_511_627_776;
+
+/// Reads a source byte by byte, and counts the bytes. Contracts see the bytes that were read and not yet given, and how many
+/// were given.
+#[derive(Drop)]
+pub struct ByteReader {
+    piece: Vec<u8>,
+    from: usize,
+    to: usize,
+    at: u64,
+}
+
+impl Model for ByteReader {
+    ghost use Rattle.union_io.specs.Causes.{HasCause};
+    ghost use Rattle.union_explain.specs.Readings.{Reading};
+    ghost use Rattle.union_explain.specs.Pieces.{reading_of, IsInPlace};
+
+    ghost Value = { Reading };
+
+    ghost view = { reading_of };
+
+    ghost invariant = { IsInPlace };
+}
+
+impl ByteReader {
+    /// A reader of which nothing was asked. It takes the room of `PIECE` bytes.
+    pub fn open(alloc: Global) -> Result<ByteReader, Memory>
+        ensures { IfOk result (λ reader. reader ≡ record { unread = []; at = 0 }) }
+    {
+        Ok(ByteReader {
+            piece: vec![in alloc; 0u8; PIECE]?,
+            from: 0,
+            to: 0,
+            at: 0,
+        })
+    }
+
+    /// How many bytes were given: the offset of the next one. Takes no memory.
+    pub fn at(&self) -> u64
+        ensures value { result ≡ self.now.at }
+        ensures within { result ≤ 2 ^ 40 }
+    {
+        self.at
+    }
+
+    /// Whether a byte is there to be given; reads the source where none is unread.
+    fn fill<S: Source>(&mut self, source: &mut S) -> Result<bool, Failed>
+        ensures name { S.name source.new ≡ S.name source.old }
+        ensures at { self.new.at ≡ self.old.at }
+        ensures within { self.new.at ≤ 2 ^ 40 }
+        ensures fills { IfOk result (λ some. Fills (ahead self.old.unread (S.left source.old)) (ahead self.new.unread (S.left source.new)) some) }
+        ensures some { IfOk result (λ some. IsTrue some → 0 < length self.new.unread) }
+        ensures cause { HasCause (S.faults source.old) (S.faults source.new) result }
+    {
+        if self.from < self.to {
+            return Ok(true);
+        }
+        self.from = 0;
+        self.to = 0;
+        let count = source.read(self.piece.as_mut_slice())?;
+        self.to = count;
+        Ok(count > 0)
+    }
+
+    /// The next byte, and None at the end of the source. `Failed` comes only where a read of the source failed, and `TooLong`
+    /// only where the source gave `LARGEST_SOURCE` bytes and one more. Takes no memory.
+    pub fn next<S: Source>(&mut self, source: &mut S) -> Result<Option<u8>, Stop>
+        ensures name { S.name source.new ≡ S.name source.old }
+        ensures gives { IfOk result (λ byte.
+            Gives (ahead self.old.unread (S.left source.old)) (ahead self.new.unread (S.left source.new)) byte) }
+        ensures at { IfOk result (λ byte. self.new.at ≡ self.old.at + length (option_to_list byte)) }
+        ensures within { IfOk result (λ _. self.new.at ≤ 2 ^ 40) }
+        ensures too_long { result ≡ Err Stop.TooLong → self.old.at ≡ 2 ^ 40 }
+        ensures faults { MatchResult result (λ _. S.faults source.new ≡ S.faults source.old)
+            (λ stop. CountsStop stop (S.faults source.old) (S.faults source.new)) }
+    {
+        if !self.fill(source)? {
+            return Ok(None);
+        }
+        if self.at == LARGEST_SOURCE {
+            return Err(Stop::TooLong);
+        }
+        let byte = self.piece[self.from];
+        self.from += 1;
+        self.at += 1;
+        Ok(Some(byte))
+    }
+}

@@ -1,0 +1,90 @@
+//! A frame that is gathered byte by byte.
+ghost use Rattle.std.specs.Prelude.{◌≡◌, ◌+◌, ◌<◌, ◌≤◌, ◌^◌, ◌∷◌, ◌++◌, [], ℕ, List, OnOk, IsTrue, ◌||◌, ◌==◌};
+ghost use Rattle.iso2709_frame.specs.Frames.{is_break};
+ghost use Rattle.union_explain.specs.Located.{frame_at};
+
+use iso2709_frame::cut::{CARRIAGE_RETURN, LARGEST_FRAME, LINE_FEED};
+use std::alloc::Global;
+use std::marker::Model;
+use union_base::memory::Memory;
+
+/// A frame and where it stands. Contracts see the offset of its first byte, its length, and its first 99,999 bytes.
+#[derive(Drop)]
+pub struct Frame {
+    first: u64,
+    size: u64,
+    bytes: Vec<u8>,
+}
+
+impl Model for Frame {
+    ghost use Rattle.union_explain.specs.Located.{Located};
+    ghost use Rattle.union_explain.specs.Gathered.{gathered_of};
+
+    ghost Value = { Located };
+
+    ghost view = { gathered_of };
+}
+
+/// Whether the byte is CR or LF.
+fn is_break(byte: u8) -> bool
+    ensures { result ≡ is_break byte }
+{
+    byte == CARRIAGE_RETURN || byte == LINE_FEED
+}
+
+impl Frame {
+    /// A frame of no bytes. Takes no memory.
+    pub fn new(alloc: Global) -> Frame {
+        Frame {
+            first: 0,
+            size: 0,
+            bytes: Vec::new(alloc),
+        }
+    }
+
+    /// The offset of its first byte in the stream, from 0. Takes no memory.
+    pub fn first(&self) -> u64
+        ensures { result ≡ self.now.first }
+    {
+        self.first
+    }
+
+    /// How many bytes it has. Takes no memory.
+    pub fn size(&self) -> u64
+        ensures { result ≡ self.now.size }
+    {
+        self.size
+    }
+
+    /// Its bytes, of a longer one the first 99,999. Takes no memory.
+    pub fn bytes(&self) -> &[u8]
+        ensures { result.now ≡ self.now.bytes }
+    {
+        self.bytes.as_slice()
+    }
+
+    /// Begins a piece of the stream at this offset. Takes no memory.
+    pub fn begin(&mut self, at: u64)
+        ensures { self.new ≡ frame_at at [] }
+    {
+        self.first = at;
+        self.size = 0;
+        self.bytes.clear();
+    }
+
+    /// Adds the next byte of the piece.
+    pub fn add(&mut self, byte: u8) -> Result<(), Memory>
+        requires { self.old.first + self.old.size ≤ 2 ^ 40 }
+        ensures { OnOk result ((at : ℕ) (front : List ℕ) → self.old ≡ frame_at at front → self.new ≡ frame_at at (front ++ byte ∷ [])) }
+    {
+        if self.size == 0 && is_break(byte) {
+            self.first += 1;
+            return Ok(());
+        }
+        self.size += 1;
+        if self.bytes.len() < LARGEST_FRAME {
+            self.bytes.push(byte)?;
+        }
+        Ok(())
+    }
+}

@@ -1,0 +1,92 @@
+//! The frames of a source, one after the other, each with where it stands.
+ghost use Rattle.std.specs.Prelude.{◌≡◌, ◌≤◌, ◌<◌, ◌^◌, ℕ, [], IfOk, MatchResult, Some, None, if◌then◌else◌};
+ghost use Rattle.std.specs.declared.option.Option.{Option};
+ghost use Rattle.union_explain.specs.Readings.{Gives, Finds, ahead, CountsStop};
+ghost use Rattle.union_explain.specs.Located.{located_ahead};
+
+use crate::byte_reader::ByteReader;
+use crate::frame::Frame;
+use crate::stop::Stop;
+use iso2709_frame::cut::RECORD_TERMINATOR;
+use std::alloc::Global;
+use std::marker::Model;
+use union_base::memory::Memory;
+use union_io::source::Source;
+
+/// Hands out the frames of a source. Contracts see the bytes that were read and not yet looked at, how many were looked at,
+/// and the frame that was handed out last.
+#[derive(Drop)]
+pub struct Locator {
+    reader: ByteReader,
+    frame: Frame,
+}
+
+impl Model for Locator {
+    ghost use Rattle.union_explain.specs.Locating.{Locating, locating_of};
+
+    ghost Value = { Locating };
+
+    ghost view = { locating_of };
+}
+
+impl Locator {
+    /// A locator of which nothing was asked. It takes the room of a piece; a frame takes its own when it is handed out.
+    pub fn open(alloc: Global) -> Result<Locator, Memory>
+        ensures unread { IfOk result (λ locator. locator.unread ≡ []) }
+        ensures at { IfOk result (λ locator. locator.at ≡ 0) }
+    {
+        Ok(Locator {
+            reader: ByteReader::open(alloc)?,
+            frame: Frame::new(alloc),
+        })
+    }
+
+    /// The frame that was handed out last. Takes no memory.
+    pub fn frame(&self) -> &Frame
+        ensures { result.now ≡ self.now.frame }
+    {
+        &self.frame
+    }
+
+    /// Whether there is a next frame, which is handed out then.
+    pub fn next<S: Source>(&mut self, source: &mut S) -> Result<bool, Stop>
+        ensures name { S.name source.new ≡ S.name source.old }
+        ensures gives { IfOk result (λ some. Gives (located_ahead self.old.at (ahead self.old.unread (S.left source.old)))
+            (located_ahead self.new.at (ahead self.new.unread (S.left source.new)))
+            (if some then Some self.new.frame else None)) }
+        ensures faults { MatchResult result (λ _. S.faults source.new ≡ S.faults source.old)
+            (λ stop. CountsStop stop (S.faults source.old) (S.faults source.new)) }
+    {
+        self.frame.begin(self.reader.at());
+        loop {
+            match self.reader.next(source)? {
+                None => return Ok(self.frame.size() > 0),
+                Some(byte) => {
+                    self.frame.add(byte)?;
+                    if byte == RECORD_TERMINATOR {
+                        return Ok(true);
+                    }
+                }
+            }
+        }
+    }
+
+    /// Whether there is a frame behind so many, which is handed out then.
+    pub fn nth<S: Source>(&mut self, count: u64, source: &mut S) -> Result<bool, Stop>
+        ensures name { S.name source.new ≡ S.name source.old }
+        ensures finds { IfOk result (λ some. Finds count (located_ahead self.old.at (ahead self.old.unread (S.left source.old)))
+            (located_ahead self.new.at (ahead self.new.unread (S.left source.new)))
+            (if some then Some self.new.frame else None)) }
+        ensures faults { MatchResult result (λ _. S.faults source.new ≡ S.faults source.old)
+            (λ stop. CountsStop stop (S.faults source.old) (S.faults source.new)) }
+    {
+        let mut left = count;
+        while left > 0 {
+            if !self.next(source)? {
+                return Ok(false);
+            }
+            left -= 1;
+        }
+        self.next(source)
+    }
+}
