@@ -1,10 +1,38 @@
-# What bench/*.sh that measure the built program share; each reads it in. PROGRAM is the first argument of the script.
-
-[ -x "$1" ] || { echo "not a program: $1" >&2; exit 2; }
-[ -x /usr/bin/time ] || { echo "no /usr/bin/time" >&2; exit 2; }
-program=$1
+# What the scripts bench/*.sh share; each reads it in as its first command.
+#
+# It names the folders `here` (bench/) and `top`, makes a folder `work` that is removed at the end, and lets the scripts' Python find
+# bench/measure.py. MAKER is the script that makes a consortium's files: bench/make_consortium.py, if the environment names no other.
+set -eu
+here=$(cd "$(dirname "$0")" && pwd)
+top=$(dirname "$here")
+maker=${MAKER:-$here/make_consortium.py}
 work=$(mktemp -d)
 trap 'rm -rf "$work"' EXIT INT TERM
+export PYTHONPATH=$here PYTHONDONTWRITEBYTECODE=1
+
+# Prints how the script is used, and ends.
+usage() {
+    sed -n 's/^# usage: /usage: /p' "$0" >&2
+    exit 2
+}
+
+# Ends unless this is a program.
+need_program() {
+    [ -x "$1" ] || { echo "not a program: $1" >&2; exit 2; }
+}
+
+# The built program, which ./union leaves here: `program`, if the environment names no other as PROGRAM.
+need_union() {
+    program=${PROGRAM:-$top/crates/union_main/out/union_main}
+    need_program "$program"
+    need_program /usr/bin/time
+}
+
+# A program for measuring, which `rt run` builds in its crate: `program`, if the environment names no other as PROGRAM.
+need_bench() {
+    program=${PROGRAM:-$top/crates/$1/out/$1}
+    [ -x "$program" ] || { echo "not a program: $program; 'rt run' in crates/$1 builds it" >&2; exit 2; }
+}
 
 # The number of records of the input.
 records() { tr -cd '\035' | wc -c; }

@@ -1,16 +1,17 @@
 #!/bin/sh
-# Turns per second at a desk beside std's Mutex round the same machine, in one run: bench/desk.sh [TURNS]
+# Turns per second at a desk beside std's Mutex round the same machine, in one run.
+#
+# usage: bench/desk.sh [TURNS]
+#
 # The desk's program is proved and built by 'rt run', std's by rustc. Each line has the threads, the turns a second of the desk
 # and of the Mutex, and their ratio: the median of seven runs of each, taken in turn, with the start of the process.
-set -eu
-top=$(cd "$(dirname "$0")/.." && pwd)
+. "$(dirname "$0")/common.sh"
+[ $# -le 1 ] || usage
 turns=${1:-2000000}
-work=$(mktemp -d)
-trap 'rm -rf "$work"' EXIT
-rustc -O -o "$work/mutex" "$top/bench/desk_mutex.rs"
+rustc -O -o "$work/mutex" "$here/desk_mutex.rs"
 (cd "$top/crates/bench_desk" && rt run >/dev/null 2>&1)
-desk="$top/crates/bench_desk/out/bench_desk"
-python3 - "$desk" "$work/mutex" "$turns" <<'P'
+need_bench bench_desk
+python3 - "$program" "$work/mutex" "$turns" <<'P'
 import statistics, subprocess, sys, time
 desk, mutex, turns = sys.argv[1], sys.argv[2], int(sys.argv[3])
 for threads in (1, 2, 4):

@@ -2,7 +2,7 @@
 """Extracts the headings and titles of MARC 21 records (ISO 2709, UTF-8): headings.py FILE.. >TEXTS
 
 Takes each field 1XX, 240, 245 and 7XX, as one text: the values of its subfields with a letter for a code, joined by a
-blank. Writes a line for each, behind a mark: '1' for a name (X00, X10, X11), of which the first comma is kept, and '2'
+blank. Writes a line for each, after a mark: '1' for a name (X00, X10, X11), of which the first comma is kept, and '2'
 for a title.
 """
 import sys

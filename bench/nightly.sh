@@ -1,22 +1,16 @@
 #!/bin/sh
 # What the deliveries of a night cost a catalogue that has all libraries' records, beside loading everything again.
 #
-# usage: bench/nightly.sh PROGRAM MAKER [SIZE..]
+# usage: bench/nightly.sh [SIZE..]
 #
-# PROGRAM is the built program, crates/union_main/out/union_main after ./union ran once. MAKER is a script in Python that is
-# not part of this repository: `MAKER SEED LIBRARIES RECORDS FOLDER` makes the files of a consortium, for each library its
-# first load, with a name that ends in .mrc, and a later delivery of corrections and withdrawals, in .upd.mrc. For each SIZE
-# (10,000, 20,000, 40,000 and 80,000 if none is given) eight libraries have that many records in all files. Two scripts run:
-# one loads the first loads alone, the other then loads the later deliveries too, which is what a catalogue costs that is
-# made from nothing each night; the difference is what a catalogue costs that follows. What is printed is how many records
-# the deliveries have, the processor time in seconds of either, and its largest memory in megabytes, as GNU time tells them,
-# with the answer to `count`. All is one run: compare ratios alone.
-set -eu
-
-[ $# -ge 2 ] || { sed -n '4p' "$0" >&2; exit 2; }
+# For each SIZE (10,000, 20,000, 40,000 and 80,000 if none is given) eight libraries have that many records in all files: for
+# each library its first load, and a later delivery of corrections and withdrawals. Two scripts run: one loads the first loads
+# alone, the other then loads the later deliveries too, which is what a catalogue costs that is made from nothing each night; the
+# difference is what a catalogue costs that follows. What is printed is how many records the deliveries have, the processor time
+# in seconds of either, and its largest memory in megabytes, as GNU time tells them, with the answer to `count`. All is one run:
+# compare ratios alone.
 . "$(dirname "$0")/common.sh"
-maker=$2
-shift 2
+need_union
 [ $# -ge 1 ] || set -- 10000 20000 40000 80000
 
 for size in "$@"; do

@@ -12,7 +12,7 @@ lines they were answered by, and the questions a second.
 import itertools, os, random, subprocess, sys, tempfile, time
 
 QUESTIONS = 4000
-# A script may have so many bytes.
+# The most bytes that a script may have.
 LARGEST_SCRIPT = 1_048_576
 KINDS = ("id", "holdings", "isbn", "issn", "control", "title", "work")
 MARK = b"editions "
@@ -53,7 +53,7 @@ def askable(record):
 
 
 def drawn(export):
-    """So many questions of each kind as the script has room for, drawn from all that the export gives."""
+    """As many questions of each kind as the script has room for, drawn from all that the export gives."""
     asked = {kind: [] for kind in KINDS}
     with open(export, "rb") as file:
         for record in file.read().split(b"\x1d")[:-1]:
@@ -64,7 +64,7 @@ def drawn(export):
 
 
 def within(lines):
-    """The longest front of the lines that has room in a kind's part of the script."""
+    """The longest prefix of the lines that has room in a kind's part of the script."""
     room = LARGEST_SCRIPT // len(KINDS) - 4096
     sizes = itertools.accumulate(len(line) + 1 for line in lines)
     return [line for line, size in zip(lines, sizes) if size <= room]

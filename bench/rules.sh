@@ -1,11 +1,10 @@
 #!/bin/sh
 # How fast frames are checked against the nineteen rules, beside yaz-marcdump (Debian's package yaz) in the same run.
 #
-# usage: bench/rules.sh PROGRAM FILE..
+# usage: bench/rules.sh [FILE..]
 #
-# PROGRAM is what `rt run` builds in crates/bench_rules, crates/bench_rules/out/bench_rules. The FILEs are files of MARC 21
-# records (ISO 2709), which are taken together. Three inputs are made in a folder that is removed afterwards, each repeated
-# until it has 100 MB at least:
+# The program is the one that `rt run` builds in crates/bench_rules. The FILEs are files of MARC 21 records (ISO 2709), which are
+# taken together; without one, a file of 2,000 records is made. Three inputs are made, each repeated until it has 100 MB at least:
 # - 'records': the records of the files,
 # - 'crowded': a frame of 8,330 entries with 13 bytes of data among them,
 # - 'reversed': a frame of 7,690 entries, each with a field of its own, in the reverse order of the directory.
@@ -13,17 +12,17 @@
 # `yaz-marcdump -n` read each three times, in turn. What is printed is the best processor time of each, start and reading
 # counted, as frames and bytes a second, and yaz-marcdump's time over the program's: above 1 the program is the faster.
 # Compare ratios alone: the rates mean nothing on another machine.
-set -eu
-
-[ $# -ge 2 ] || { sed -n '2,4p' "$0" >&2; exit 2; }
-[ -x "$1" ] || { echo "not a program: $1" >&2; exit 2; }
+. "$(dirname "$0")/common.sh"
+need_bench bench_rules
 command -v yaz-marcdump >/dev/null || { echo "yaz-marcdump is not installed (Debian's package yaz)" >&2; exit 2; }
+if [ $# -eq 0 ]; then
+    python3 "$maker" 1 1 2000 "$work/made" --no-updates >"$work/notes"
+    set -- "$work"/made/*.mrc
+fi
 
-folder=$(mktemp -d)
-trap 'rm -rf "$folder"' EXIT INT TERM
-
-python3 - "$folder" "$@" <<'P'
-import os, subprocess, sys
+python3 - "$work" "$program" "$@" <<'P'
+import os, sys
+from measure import in_turn
 folder, program, *paths = sys.argv[1:]
 LEAST = 100_000_000
 RUNS = 3
@@ -57,15 +56,6 @@ def records():
     return b"".join(parts)
 
 
-def run(command, path):
-    """What the command prints of the file, and its processor time in seconds."""
-    with open(path, "rb") as file:
-        child = subprocess.Popen(command, stdin=file, stdout=subprocess.PIPE, stderr=subprocess.DEVNULL, text=True)
-        answer = child.stdout.read().strip()
-        _, _, spent = os.wait4(child.pid, 0)
-    return answer, spent.ru_utime + spent.ru_stime
-
-
 for name, part in (("records", records()), ("crowded", crowded()), ("reversed", reversed_fields())):
     path = os.path.join(folder, name)
     times = -(-LEAST // len(part))
@@ -75,12 +65,7 @@ for name, part in (("records", records()), ("crowded", crowded()), ("reversed", 
     count = part.count(b"\x1d")
     frames, size = count * times, len(part) * times
     commands = {"record": [program], "status": [program, "status"], "yaz-marcdump": ["yaz-marcdump", "-n", path]}
-    spent = {name: [] for name in commands}
-    answers = {}
-    for _ in range(RUNS):
-        for name_of, command in commands.items():
-            answers[name_of], seconds = run(command, path)
-            spent[name_of].append(seconds)
+    answers, spent = in_turn(commands, RUNS, path)
     best = {name_of: min(times_of) for name_of, times_of in spent.items()}
     print(f"{name}: {frames} frames of {len(part) // count:,} bytes")
     for name_of, seconds in best.items():

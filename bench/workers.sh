@@ -1,21 +1,17 @@
 #!/bin/sh
 # What several workers gain: a trial, and the merged export of a consortium, by 1, 2 and 4 of them.
 #
-# usage: bench/workers.sh PROGRAM MAKER [RECORDS [LIBRARIES]]
+# usage: bench/workers.sh [RECORDS [LIBRARIES]]
 #
-# PROGRAM is the built program, crates/union_main/out/union_main after ./union ran once. MAKER is a script in Python that is
-# not part of this repository: `MAKER SEED LIBRARIES RECORDS FOLDER --no-updates` makes the first loads of a consortium, a file
-# a library with a name that ends in .mrc. The trial and the files have RECORDS records in all (200,000 if not given), the files
-# of LIBRARIES libraries (8). What is printed is the elapsed time in seconds, the processor time, and the largest memory in
-# megabytes, as GNU time tells them, and how many times as fast it was as one worker. Each number of workers must write the same
-# bytes. All is one run: compare ratios alone.
-set -eu
-
-[ $# -ge 2 ] || { sed -n '4p' "$0" >&2; exit 2; }
+# The trial and the files have RECORDS records in all (200,000 if not given), the files of LIBRARIES libraries (8). What is
+# printed is the elapsed time in seconds, the processor time, and the largest memory in megabytes, as GNU time tells them, and how
+# many times as fast it was as one worker. Each number of workers must write the same bytes. All is one run: compare ratios
+# alone.
 . "$(dirname "$0")/common.sh"
-maker=$2
-records=${3:-200000}
-libraries=${4:-8}
+[ $# -le 2 ] || usage
+need_union
+records=${1:-200000}
+libraries=${2:-8}
 
 # A line on what a command spent: its name, the number of workers, and the elapsed time of one worker.
 tell() {
