@@ -33,6 +33,8 @@ USAGE
 
     LIB is the library's code, 1 to 16 of A-Z and 0-9. PATH is the path of its
     file, at least one byte and UTF-8: everything after the first '='.
+    A path is taken from the folder in which union runs, also one in a script.
+    '-' is no file: standard input is /dev/stdin.
     export, works and watch take 1 to 64 libraries, each under a code of its
     own. N workers load them at once, 1 to 64: without the option there are 4.
     With --json the export is MARC in JSON. Options stand in the order above.
