@@ -3,3 +3,4 @@ mod Made
 pub mod MemberLaws
 pub mod MeetLaws
 pub mod KeyLaws
+pub mod PostedLaws

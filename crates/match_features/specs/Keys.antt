@@ -1,22 +1,25 @@
--- The keys that features are looked up by.
+-- The keys of features, of which those that meet have one in common: control pairs, ISBNs, ISSNs and titles.
 use Rattle.std.specs.Prelude.{Bool, false, nat_eq, ◌&&◌, ◌||◌, List, [], ◌∷◌, ◌++◌, map, Contains}
 use Rattle.std.specs.Hash.{HashWrites, u8, str}
 use Rattle.std.specs.Cmp.Lexicographic.{pointwise}
 use Rattle.union_base.specs.SortedLists.{have_common}
 use Rattle.match_features.specs.declared.features.Features.{Features}
 use Rattle.match_features.specs.declared.keys.FeatureKey.{FeatureKey}
-use Rattle.match_features.specs.declared.keys.FeatureKey.TheVariants.{Control, Isbn, Issn, Title}
+use Rattle.match_features.specs.declared.keys.FeatureKey.TheVariants.{Control, Isbn, Issn, Title, TitleAndName, TitleOfMany}
 use Rattle.match_features.specs.Kept.{texts_cmp, pairs_cmp}
 
 -- each control pair, each ISBN, each ISSN, each title
 abbrev pub keys : Features → List FeatureKey
 keys x = map Control x.control ++ map Isbn x.isbns ++ map Issn x.issns ++ map Title x.titles
 
+-- the other kinds are for an index alone: see Posted.antt
 abbrev pub HasKey : Features → FeatureKey → Type 0
 HasKey x (Control pair) = Contains x.control pair
 HasKey x (Isbn isbn) = Contains x.isbns isbn
 HasKey x (Issn issn) = Contains x.issns issn
 HasKey x (Title title) = Contains x.titles title
+HasKey x (TitleAndName pair) = ⊥
+HasKey x (TitleOfMany title) = ⊥
 
 -- whether two have a key in common
 abbrev pub share_key : Features → Features → Bool
@@ -32,6 +35,8 @@ key_eq (Control p) (Control q) = pointwise nat_eq p.0 q.0 && pointwise nat_eq p.
 key_eq (Isbn a) (Isbn b) = pointwise nat_eq a b
 key_eq (Issn a) (Issn b) = pointwise nat_eq a b
 key_eq (Title a) (Title b) = pointwise nat_eq a b
+key_eq (TitleAndName p) (TitleAndName q) = pointwise nat_eq p.0 q.0 && pointwise nat_eq p.1 q.1
+key_eq (TitleOfMany a) (TitleOfMany b) = pointwise nat_eq a b
 key_eq j k = false
 
 -- what a key gives to a hasher: its kind, and its texts, each in one piece
@@ -40,3 +45,5 @@ key_writes (Control p) = u8 0 ++ str p.0 ++ str p.1
 key_writes (Isbn a) = u8 1 ++ a ∷ []
 key_writes (Issn a) = u8 2 ++ a ∷ []
 key_writes (Title a) = u8 3 ++ a ∷ []
+key_writes (TitleAndName p) = u8 4 ++ str p.0 ++ str p.1
+key_writes (TitleOfMany a) = u8 5 ++ a ∷ []

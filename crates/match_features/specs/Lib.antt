@@ -5,3 +5,4 @@ pub mod Joining
 pub mod JoinLaws
 pub mod Meeting
 pub mod Keys
+pub mod Posted

@@ -1,6 +1,7 @@
-//! The keys that features are looked up by, as `specs/Keys.antt` has them.
-ghost use Rattle.std.specs.Prelude.{◌≡◌, ◌≢◌, ◌↔◌, ◌++◌, IfOk, OnOk, Contains, AllPairs, map};
+//! The keys that features have, as `specs/Keys.antt` has them, and those of an index, as `specs/Posted.antt` has them.
+ghost use Rattle.std.specs.Prelude.{◌≡◌, ◌≢◌, ◌↔◌, ◌++◌, IfOk, OnOk, Contains, AllPairs, map, min, length, ◌*◌, ◌-◌, ◌^◌, []};
 ghost use Rattle.match_features.specs.Keys.{keys, HasKey};
+ghost use Rattle.match_features.specs.Posted.{has_few, IsPosted, Seeks, number_keys, pair_keys, posted, posted_by_title, sought, sought_by_title};
 
 use crate::control_pair::ControlPair;
 use crate::features::Features;
@@ -10,7 +11,10 @@ use union_base::bytes::Bytes;
 use union_base::copied::Copied;
 use union_base::memory::Memory;
 
-/// What features are looked up by (this project's own). Features that meet have a key in common.
+/// The most pairs of a title and a name for which features have a key each in an index.
+const MOST_PAIRS: usize = 64;
+
+/// What features are looked up by (this project's own). Features that meet have a key of the first four kinds in common.
 #[derive(Debug, PartialEq, Eq)]
 pub enum FeatureKey {
     /// A control pair: the source and the number.
@@ -21,6 +25,10 @@ pub enum FeatureKey {
     Issn([u8; 8]),
     /// A title in normal form.
     Title(Bytes),
+    /// A title and a name in normal form, of features that have at most 64 such pairs. For an index alone.
+    TitleAndName(ControlPair),
+    /// A title in normal form, of features that have more pairs of a title and a name. For an index alone.
+    TitleOfMany(Bytes),
 }
 
 /// A drop of its own, as that of `Bytes`.
@@ -31,6 +39,8 @@ impl Drop for FeatureKey {
             FeatureKey::Isbn(_) => (),
             FeatureKey::Issn(_) => (),
             FeatureKey::Title(_) => (),
+            FeatureKey::TitleAndName(_) => (),
+            FeatureKey::TitleOfMany(_) => (),
         }
     }
 }
@@ -63,6 +73,14 @@ impl Hash for FeatureKey {
                 state.write_u8(3);
                 state.write(title.bytes());
             }
+            FeatureKey::TitleAndName(pair) => {
+                state.write_u8(4);
+                pair.hash(state);
+            }
+            FeatureKey::TitleOfMany(title) => {
+                state.write_u8(5);
+                state.write(title.bytes());
+            }
         }
     }
 }
@@ -74,6 +92,8 @@ impl Copied for FeatureKey {
             FeatureKey::Isbn(isbn) => Ok(FeatureKey::Isbn(*isbn)),
             FeatureKey::Issn(issn) => Ok(FeatureKey::Issn(*issn)),
             FeatureKey::Title(title) => Ok(FeatureKey::Title(title.copied(alloc)?)),
+            FeatureKey::TitleAndName(pair) => Ok(FeatureKey::TitleAndName(pair.copied(alloc)?)),
+            FeatureKey::TitleOfMany(title) => Ok(FeatureKey::TitleOfMany(title.copied(alloc)?)),
         }
     }
 }
@@ -86,18 +106,94 @@ pub fn feature_keys(alloc: Global, features: &Features) -> Result<Vec<FeatureKey
     ensures had { IfOk result (λ found. (k : FeatureKey) → Contains found.items k ↔ HasKey features.now k) }
     ensures once { IfOk result (λ found. AllPairs (λ j k. j ≢ k) found.items) }
 {
-    let control = features.control.as_slice();
-    let isbns = features.isbns.as_slice();
-    let issns = features.issns.as_slice();
     let titles = features.titles.as_slice();
-    let numbers = isbns.len().saturating_add(issns.len());
-    let others = numbers.saturating_add(titles.len());
-    let mut found = Vec::with_capacity(alloc, control.len().saturating_add(others))?;
-    push_control_keys(alloc, &mut found, control)?;
-    push_isbn_keys(&mut found, isbns)?;
-    push_issn_keys(&mut found, issns)?;
+    let mut found = with_room_for(alloc, features, titles.len())?;
+    push_number_keys(alloc, &mut found, features)?;
     push_title_keys(alloc, &mut found, titles)?;
     Ok(found)
+}
+
+/// The keys under which an index has the features, each once: their own keys, and each title with each name, or each title as
+/// that of many where there are more than 64 such pairs.
+///
+/// Returns `Memory` if allocation fails.
+pub fn posted_keys(alloc: Global, features: &Features) -> Result<Vec<FeatureKey>, Memory>
+    ensures value { IfOk result (λ found. found.items ≡ posted features.now) }
+    ensures had { IfOk result (λ found. (k : FeatureKey) → Contains found.items k ↔ IsPosted features.now k) }
+    ensures once { IfOk result (λ found. AllPairs (λ j k. j ≢ k) found.items) }
+{
+    let mut found = with_room_by_title(alloc, features)?;
+    push_number_keys(alloc, &mut found, features)?;
+    push_title_keys(alloc, &mut found, features.titles.as_slice())?;
+    push_posted_by_title(alloc, &mut found, features)?;
+    Ok(found)
+}
+
+/// The keys by which an index is asked for features that may meet these: those of their numbers, and each title with each name
+/// and each title as that of many, or each title where there are more than 64 such pairs.
+///
+/// Returns `Memory` if allocation fails.
+pub fn sought_keys(alloc: Global, features: &Features) -> Result<Vec<FeatureKey>, Memory>
+    ensures value { IfOk result (λ found. found.items ≡ sought features.now) }
+    ensures sought { IfOk result (λ found. (k : FeatureKey) → Contains found.items k ↔ Seeks features.now k) }
+{
+    let mut found = with_room_by_title(alloc, features)?;
+    push_number_keys(alloc, &mut found, features)?;
+    push_sought_by_title(alloc, &mut found, features)?;
+    Ok(found)
+}
+
+/// Whether the features have at most 64 pairs of a title and a name.
+fn has_few(features: &Features) -> bool
+    ensures { result ≡ has_few features.now }
+{
+    pairs(features.titles.as_slice(), features.names.as_slice()) <= MOST_PAIRS
+}
+
+/// How many pairs of a title and a name there are, or the greatest number where that is more.
+fn pairs(titles: &[Bytes], names: &[Bytes]) -> usize
+    ensures { result ≡ min (length titles.now * length names.now) (2 ^ 64 - 1) }
+{
+    titles.len().saturating_mul(names.len())
+}
+
+/// No keys, with room for those of the features' numbers and for `others`. Returns `Memory` if allocation fails.
+fn with_room_for(
+    alloc: Global,
+    features: &Features,
+    others: usize,
+) -> Result<Vec<FeatureKey>, Memory>
+    ensures { IfOk result (λ found. found.items ≡ []) }
+{
+    let isbns = features.isbns.as_slice().len();
+    let issns = features.issns.as_slice().len();
+    let numbers = features.control.as_slice().len().saturating_add(isbns);
+    let most = numbers.saturating_add(issns).saturating_add(others);
+    Ok(Vec::with_capacity(alloc, most)?)
+}
+
+/// No keys, with room for those of the features' numbers, their titles, and their titles with names. Returns `Memory` if
+/// allocation fails.
+fn with_room_by_title(alloc: Global, features: &Features) -> Result<Vec<FeatureKey>, Memory>
+    ensures { IfOk result (λ found. found.items ≡ []) }
+{
+    let titles = features.titles.as_slice().len();
+    let pairs = pairs(features.titles.as_slice(), features.names.as_slice());
+    let more = if pairs <= MOST_PAIRS { pairs } else { titles };
+    with_room_for(alloc, features, titles.saturating_add(more))
+}
+
+/// Puts the keys of the control pairs, the ISBNs and the ISSNs last.
+fn push_number_keys(
+    alloc: Global,
+    found: &mut Vec<FeatureKey>,
+    features: &Features,
+) -> Result<(), Memory>
+    ensures { OnOk result (found.new.items ≡ found.old.items ++ number_keys features.now) }
+{
+    push_control_keys(alloc, found, features.control.as_slice())?;
+    push_isbn_keys(found, features.isbns.as_slice())?;
+    push_issn_keys(found, features.issns.as_slice())
 }
 
 fn push_control_keys(
@@ -141,6 +237,89 @@ fn push_title_keys(
 {
     for title in titles {
         found.push(FeatureKey::Title(title.copied(alloc)?))?;
+    }
+    Ok(())
+}
+
+/// Puts each title with each name last, or each title as that of many.
+fn push_posted_by_title(
+    alloc: Global,
+    found: &mut Vec<FeatureKey>,
+    features: &Features,
+) -> Result<(), Memory>
+    ensures { OnOk result (found.new.items ≡ found.old.items ++ posted_by_title features.now) }
+{
+    if has_few(features) {
+        push_pair_keys(
+            alloc,
+            found,
+            features.titles.as_slice(),
+            features.names.as_slice(),
+        )
+    } else {
+        push_keys_of_many(alloc, found, features.titles.as_slice())
+    }
+}
+
+/// Puts each title with each name last, and each title as that of many; or each title.
+fn push_sought_by_title(
+    alloc: Global,
+    found: &mut Vec<FeatureKey>,
+    features: &Features,
+) -> Result<(), Memory>
+    ensures { OnOk result (found.new.items ≡ found.old.items ++ sought_by_title features.now) }
+{
+    let titles = features.titles.as_slice();
+    if has_few(features) {
+        push_pair_keys(alloc, found, titles, features.names.as_slice())?;
+        push_keys_of_many(alloc, found, titles)
+    } else {
+        push_title_keys(alloc, found, titles)
+    }
+}
+
+/// Puts each title with each name last.
+fn push_pair_keys(
+    alloc: Global,
+    found: &mut Vec<FeatureKey>,
+    titles: &[Bytes],
+    names: &[Bytes],
+) -> Result<(), Memory>
+    ensures { OnOk result (found.new.items ≡ found.old.items ++ pair_keys titles.now names.now) }
+{
+    for title in titles {
+        push_keys_with(alloc, found, title, names)?;
+    }
+    Ok(())
+}
+
+/// Puts the title with each name last.
+fn push_keys_with(
+    alloc: Global,
+    found: &mut Vec<FeatureKey>,
+    title: &Bytes,
+    names: &[Bytes],
+) -> Result<(), Memory>
+    ensures { OnOk result (found.new.items
+        ≡ found.old.items ++ map (λ name. FeatureKey.TitleAndName (title.now, name)) names.now) }
+{
+    for name in names {
+        let pair = ControlPair::of(alloc, title.bytes(), name.bytes())?;
+        found.push(FeatureKey::TitleAndName(pair))?;
+    }
+    Ok(())
+}
+
+/// Puts each title as that of many last.
+fn push_keys_of_many(
+    alloc: Global,
+    found: &mut Vec<FeatureKey>,
+    titles: &[Bytes],
+) -> Result<(), Memory>
+    ensures { OnOk result (found.new.items ≡ found.old.items ++ map FeatureKey.TitleOfMany titles.now) }
+{
+    for title in titles {
+        found.push(FeatureKey::TitleOfMany(title.copied(alloc)?))?;
     }
     Ok(())
 }

@@ -3,13 +3,14 @@
 //!
 //! Each function here does nothing when it runs: its contract is the law. The same laws stand as the lemmas
 //! `features_join_laws` in `specs/`, where the type's own laws cite it, and `features_match_laws`, `features_key_laws`,
-//! `features_keys`, `features_keys_once` and `features_keys_exact` in `proofs/`.
+//! `features_seeking_laws`, `features_keys`, `features_keys_once` and `features_keys_exact` in `proofs/`.
 ghost use Rattle.std.specs.Prelude.{◌≡◌, ◌≢◌, ◌↔◌, ◌⊎◌, IsTrue, Contains, AllPairs};
 ghost use Rattle.match_features.specs.declared.features.Features.{Features};
 ghost use Rattle.match_features.specs.declared.keys.FeatureKey.{FeatureKey};
 ghost use Rattle.match_features.specs.Joining.{join};
 ghost use Rattle.match_features.specs.Meeting.{meet};
 ghost use Rattle.match_features.specs.Keys.{keys, HasKey, share_key, key_eq};
+ghost use Rattle.match_features.specs.Posted.{IsPosted, is_posted, Seeks};
 
 /// Merging is idempotent, commutative and associative.
 pub fn merging_is_a_union()
@@ -36,6 +37,22 @@ pub fn meeting_is_representative()
 /// Features that meet have a key in common.
 pub fn meeting_shares_a_key()
     ensures { (x y : Features) → IsTrue (meet x y) → (k : FeatureKey) × HasKey x k × HasKey y k }
+{}
+
+/// Features that meet find one another: the ones seek a key under which an index has the others, whether they have few titles
+/// and names or many.
+pub fn meeting_is_found()
+    ensures { (x y : Features) → IsTrue (meet x y) → (k : FeatureKey) × Seeks x k × IsPosted y k }
+{}
+
+/// What features find by the keys that they seek has a key in common with them.
+pub fn found_shares_a_key()
+    ensures { (x y : Features) (k : FeatureKey) → Seeks x k → IsPosted y k → IsTrue (share_key y x) }
+{}
+
+/// Whether an index has features under a key is what the test says.
+pub fn posted_keys_are_told()
+    ensures { (x : Features) (k : FeatureKey) → IsPosted x k ↔ IsTrue (is_posted k x) }
 {}
 
 /// What two merge to has the keys of both, and no other.

@@ -1,3 +1,4 @@
+pub mod Candidates
 pub mod Reach
 pub mod Resolution
 pub mod Withdrawal

@@ -1,6 +1,7 @@
 //! Values that match or do not, and merge where they do.
 ghost use Rattle.std.specs.Prelude.{◌≡◌, ◌≢◌, ◌+◌, ◌↔◌, Bool, true, IfOk, Contains, AllPairs};
 ghost use Rattle.merge_laws.specs.Resolution.{MatchLaws, KeyLaws};
+ghost use Rattle.merge_laws.specs.Candidates.{SeekingLaws};
 
 use crate::join::Join;
 use crate::steps::Steps;
@@ -9,8 +10,12 @@ use std::hash::Hash;
 use std::sync::ledger::Ledger;
 use union_base::memory::Memory;
 
-/// Values that can be resolved: a test says whether two of them stand for one thing, and then they merge. Values that
-/// match have an index key in common, so an index over keys finds all that a value can match.
+/// Values that can be resolved: a test says whether two of them stand for one thing, and then they merge.
+///
+/// Values that match have a key in common, and a merge has the keys of its two sides, so a value that has no key in common
+/// with any of a list matches nothing that comes of the list. An index finds what a value can match by keys that may tell
+/// more: values are posted under some keys and seek some keys, and where two match, the one is posted under a key that the
+/// other seeks.
 pub trait Resolvable: Join {
     /// What values are looked up by.
     type Key: Eq + Hash + Drop;
@@ -24,6 +29,12 @@ pub trait Resolvable: Join {
     /// Whether two values have a key in common.
     ghost shares: { Self → Self → Bool };
 
+    /// An index has the value under a key.
+    ghost is_posted: { Self → Self.Key → Type 0 };
+
+    /// What a value can match is looked up under a key.
+    ghost seeks: { Self → Self.Key → Type 0 };
+
     /// Whether the values match. Counts exactly one step, and takes no memory.
     fn matches<L: Ledger>(&self, other: &Self, steps: &mut Steps<L>) -> bool
         ensures answer { result ≡ meets self.now other.now }
@@ -34,6 +45,15 @@ pub trait Resolvable: Join {
         ensures keys { IfOk result (λ keys. (k : Self.Key) → Contains keys.items k ↔ has_key self.now k) }
         ensures once { IfOk result (λ keys. AllPairs (λ j k. j ≢ k) keys.items) };
 
+    /// The keys under which an index has the value, each once, in any order. Returns `Memory` if allocation fails.
+    fn posted_keys(&self, alloc: Global) -> Result<Vec<Self::Key>, Memory>
+        ensures keys { IfOk result (λ keys. (k : Self.Key) → Contains keys.items k ↔ is_posted self.now k) }
+        ensures once { IfOk result (λ keys. AllPairs (λ j k. j ≢ k) keys.items) };
+
+    /// The keys under which what the value can match is looked up, in any order. Returns `Memory` if allocation fails.
+    fn sought_keys(&self, alloc: Global) -> Result<Vec<Self::Key>, Memory>
+        ensures { IfOk result (λ keys. (k : Self.Key) → Contains keys.items k ↔ seeks self.now k) };
+
     /// An equal key. Returns `Memory` if allocation fails.
     fn copy_key(alloc: Global, key: &Self::Key) -> Result<Self::Key, Memory>
         ensures { IfOk result (λ k. k ≡ key.now) };
@@ -43,6 +63,9 @@ pub trait Resolvable: Join {
 
     /// Values that match share a key, and a merge has the keys of its two sides.
     ghost key_laws: { KeyLaws meets Self.join has_key shares };
+
+    /// Where two values match, the one seeks a key under which the other is posted. Those that are found so share a key.
+    ghost seeking_laws: { SeekingLaws meets is_posted seeks shares };
 
     /// Keys that compare as equal are one key, so what is found under a key has that key.
     ghost exact_keys: { (j k : Self.Key) → Self.Key.eq j k ≡ true → j ≡ k };

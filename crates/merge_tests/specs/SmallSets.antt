@@ -7,6 +7,7 @@ use Rattle.std.proofs.Common.{sym, ◌∙◌, ap, inl, inr, arith}
 use Rattle.std.proofs.Math.Decide.{dec_lt}
 use Rattle.std.proofs.lemmas.Nat.Bits.{bit_at_and, bit_at_or, bit_at-lt, bit_at-zero, bit_at-suc, bit_at_lowest, same_from_bits}
 use Rattle.std.proofs.lemmas.Bool.Decides.{nat_tests}
+use Rattle.merge_laws.specs.Candidates.{SeekingLaws}
 use Rattle.merge_laws.specs.Resolution.{JoinLaws, MatchLaws, KeyLaws}
 
 -- The number k is in the set.
@@ -114,6 +115,9 @@ number_laws = record {
   merged = HasNumber-union;
   shared = λ m n. (number-from_meet m n, λ (k, p, q). meet-from_number m n k p q);
 }
+
+pub seeking_laws : SeekingLaws meet HasNumber HasNumber meet
+seeking_laws = record { matching = number-from_meet; near = λ m n k p q. meet-from_number n m k q p }
 
 -- numbers that compare as equal are one
 pub numbers_exact : (j k : ℕ) → nat_eq j k ≡ true → j ≡ k

@@ -2,9 +2,9 @@
 //! union. The tests of the resolvers run on it.
 //!
 //! Guarantee: the laws of both traits, by specs/SmallSets.antt. Cost: a set is one word, and no call takes memory but
-//! `index_keys`.
+//! those that make keys. An index has a set under each of its numbers, which are also what it seeks.
 ghost use Rattle.std.specs.Prelude.{◌≡◌, ◌+◌, ◌-◌, ◌<◌, ◌↔◌, ℕ, IfSome, IsNone};
-ghost use Rattle.merge_tests.specs.SmallSets.{HasNumber, union, meet, union_laws, meet_laws, number_laws, numbers_exact};
+ghost use Rattle.merge_tests.specs.SmallSets.{HasNumber, union, meet, union_laws, meet_laws, number_laws, seeking_laws, numbers_exact};
 
 use merge_laws::join::Join;
 use merge_laws::resolvable::Resolvable;
@@ -77,6 +77,10 @@ impl Resolvable for SmallSet {
 
     ghost shares = { meet };
 
+    ghost is_posted = { HasNumber };
+
+    ghost seeks = { HasNumber };
+
     fn matches<L: Ledger>(&self, other: &SmallSet, steps: &mut Steps<L>) -> bool {
         steps.tick();
         self.mask & other.mask != 0
@@ -93,6 +97,14 @@ impl Resolvable for SmallSet {
         Ok(keys)
     }
 
+    fn posted_keys(&self, alloc: Global) -> Result<Vec<u32>, Memory> {
+        self.index_keys(alloc)
+    }
+
+    fn sought_keys(&self, alloc: Global) -> Result<Vec<u32>, Memory> {
+        self.index_keys(alloc)
+    }
+
     fn copy_key(_alloc: Global, key: &u32) -> Result<u32, Memory> {
         Ok(*key)
     }
@@ -100,6 +112,8 @@ impl Resolvable for SmallSet {
     ghost match_laws = { meet_laws };
 
     ghost key_laws = { number_laws };
+
+    ghost seeking_laws = { seeking_laws };
 
     ghost exact_keys = { numbers_exact };
 }

@@ -1,2 +1,3 @@
 mod Parting
 mod Joining
+mod Indexing

@@ -5,20 +5,20 @@ ghost use Rattle.std.specs.Prelude.{◌≤◌, IfOk};
 ghost use Rattle.std.specs.Thread.{IsSync, IsSend};
 ghost use Rattle.merge_laws.specs.Resolution.{IsResolution};
 
+use crate::indexed::resolve_by_halves;
 use crate::strangers::parted_by_keys;
 use merge_laws::laws::resolution_goes_on;
 use merge_laws::resolvable::Resolvable;
-use merge_laws::swoosh::resolve;
 use std::thread::{Threads, join};
 use union_base::memory::Memory;
 
-/// The resolution of the list: the strangers among its values are tested against none, and the others among themselves.
+/// The resolution of the list: the strangers among its values are tested against none, and the others by halves.
 fn resolved<R: Resolvable>(list: Vec<R>) -> Result<Vec<R>, Memory>
     ensures { IfOk result (λ all. IsResolution R.meets R.join list.items all.items) }
 {
     let (strangers, others) = parted_by_keys(list)?;
     let mut all = strangers;
-    all.append(&mut resolve(others)?)?;
+    all.append(&mut resolve_by_halves(others)?)?;
     Ok(all)
 }
 

@@ -3,10 +3,12 @@
 //!
 //! Guarantee: the answer is a resolution of the list, and so, up to its order, that of the plain resolver, whatever the number
 //! of workers. Cost: at most one thread a worker. A worker makes the keys of its values twice, looks each of them up three times
-//! at most, and makes match tests only among the values that share a key with another one of its list. So does the resolution of
-//! the blocks of both halves, which one thread does. Values are moved and never copied. The definitions are in
+//! at most, and makes match tests only among the values that share a key with another one of its list, which it inserts one by
+//! one into an index of their own: each is tested only against those that are posted under a key that it seeks. So does the
+//! resolution of the blocks of both halves, which one thread does. Values are moved and never copied. The definitions are in
 //! specs/Resolution.antt of merge_laws, and in specs/Strangers.antt.
 #![tactic(auto)]
 
 pub mod halves;
+mod indexed;
 mod strangers;

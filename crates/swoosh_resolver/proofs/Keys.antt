@@ -1,4 +1,4 @@
--- Keys that values share.
+-- Keys in lists, and the numbers under them.
 use Rattle.std.proofs.Common.{◌≡◌, ℕ, Bool, true, false, eqb, List, [], ◌∷◌, ◌++◌, refl, sym, ◌∙◌, subst, true≢false, inl, inr, arith}
 use Rattle.std.specs.Prelude.{◌↔◌, Contains}
 use Rattle.std.specs.List.{list_any, dedup}
@@ -7,9 +7,7 @@ use Rattle.std.proofs.lemmas.List.Elements.{Contains-append_left, Contains-appen
 use Rattle.std.proofs.lemmas.List.Kept.{Contains-dedup_nat, Contains-from_dedup}
 use Rattle.std.proofs.lemmas.List.Sorted.{IsPermutation-sym, Contains-permutation}
 use Rattle.std.specs.Cmp.{IsEquivalence}
-use Rattle.merge_laws.specs.Resolution.{KeyLaws}
 use Rattle.merge_laws.proofs.Places.{Contains-head, Contains-tail, Contains-cases}
-use Rattle.swoosh_resolver.specs.Tables.{AreKeys}
 
 module _ {K : Type 0} (eq : K → K → Bool) where
   -- a key that the search finds is in the list
@@ -31,19 +29,6 @@ module _ {K : Type 0} (eq : K → K → Bool) where
           | inl same ↦ true≢false (sym (subst (λ z. eq y z ≡ true) same (laws.refl y)) ∙ e)
           | inr c' ↦ absent-from_missed laws ys k (rw e at h) c'
         ]
-      ] refl
-
-module _ {R K : Type 0} {match : R → R → Bool} {merge : R → R → R} {has_key : R → K → Type 0} {shares : R → R → Bool} (laws : KeyLaws match merge has_key shares) (x y : R) (xs ys : List K) (kx : AreKeys has_key x xs) (ky : AreKeys has_key y ys) where
-  -- values share a key that both lists have
-  pub shares-from_both : (k : K) → Contains xs k → Contains ys k → true ≡ shares x y
-  shares-from_both k cx cy = sym ((laws.shared x y).1 (k, (kx.members k).0 cx, (ky.members k).0 cy))
-
-  -- and share none where the lists have none in common
-  pub shares_none : ((k : K) → Contains xs k → Contains ys k → ⊥) → false ≡ shares x y
-  shares_none apart =
-      elim (shares x y) as (λ b. shares x y ≡ b → false ≡ b) [
-        | false ↦ λ e. refl
-        | true ↦ λ e. (let (k, hx, hy) = (laws.shared x y).0 e in absurd (apart k ((kx.members k).1 hx) ((ky.members k).1 hy)))
       ] refl
 
 -- the numbers are those under the keys

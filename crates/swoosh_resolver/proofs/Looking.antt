@@ -5,22 +5,22 @@ use Rattle.std.specs.List.{AllWithin}
 use Rattle.std.proofs.lemmas.List.{get_or_default}
 use Rattle.std.proofs.lemmas.List.Elements.{AllWithin-more}
 use Rattle.std.proofs.lemmas.List.Sums.{sum_by-take-le}
-use Rattle.merge_laws.specs.Resolution.{KeyLaws}
+use Rattle.merge_laws.specs.Candidates.{SeekingLaws}
 use Rattle.merge_laws.proofs.Places.{All-from_members}
 use Rattle.feature_index.specs.Postings.{Ascends}
-use Rattle.swoosh_resolver.specs.Tables.{Entry, AreKeys, block_at, blocks_in}
+use Rattle.swoosh_resolver.specs.Tables.{Entry, AreSought, block_at, blocks_in}
 use Rattle.swoosh_resolver.specs.Changes.{without}
 use Rattle.swoosh_resolver.specs.Insertions.{passes}
 use Rattle.swoosh_resolver.proofs.Places.{block-from_open, number-from_block, passing-le, counted-more}
 
--- the numbers are those of the blocks that have one of the value's keys
-pub record IsLook {R K : Type 0} (has_key : R → K → Type 0) (blocks : List (Option (Entry R K))) (value : R) (keys : List K) (numbers : List ℕ) : Type 0 where
-  pub keyed : AreKeys has_key value keys
+-- the numbers are those of the blocks that are posted under one of the keys that the value seeks
+pub record IsLook {R K : Type 0} (is_posted seeks : R → K → Type 0) (blocks : List (Option (Entry R K))) (value : R) (keys : List K) (numbers : List ℕ) : Type 0 where
+  pub keyed : AreSought seeks value keys
   pub ascending : Ascends numbers
-  pub members : (n : ℕ) → Contains numbers n ↔ ((k : K) × Contains keys k × ((e : Entry R K) × (block_at blocks n ≡ Some e) × has_key e.value k))
+  pub members : (n : ℕ) → Contains numbers n ↔ ((k : K) × Contains keys k × ((e : Entry R K) × (block_at blocks n ≡ Some e) × is_posted e.value k))
 
-module _ {R K : Type 0} {match : R → R → Bool} {merge : R → R → R} {has_key : R → K → Type 0} {shares : R → R → Bool} (laws : KeyLaws match merge has_key shares)
-    (blocks : List (Option (Entry R K))) (closed : List ℕ) (value : R) (keys : List K) (numbers : List ℕ) (look : IsLook has_key blocks value keys numbers) where
+module _ {R K : Type 0} {match : R → R → Bool} {is_posted seeks : R → K → Type 0} {shares : R → R → Bool} (laws : SeekingLaws match is_posted seeks shares)
+    (blocks : List (Option (Entry R K))) (closed : List ℕ) (value : R) (keys : List K) (numbers : List ℕ) (look : IsLook is_posted seeks blocks value keys numbers) where
   abbrev left : List (Option (Entry R K))
   left = without blocks closed
 
@@ -29,7 +29,7 @@ module _ {R K : Type 0} {match : R → R → Bool} {merge : R → R → R} {has_
   shares-at n c e at =
       let (k, ck, (f, there, has)) = (look.members n).0 c in
       let same : f ≡ e = let here = block-from_open closed blocks n e at in cc in
-      (laws.shared e.value value).1 (k, subst (λ (z : Entry R K). has_key z.value k) same has, (look.keyed.members k).0 ck)
+      laws.near value e.value k ((look.keyed.members k).0 ck) (subst (λ (z : Entry R K). is_posted z.value k) same has)
 
   cost-at : (n : ℕ) → Contains numbers n → cond {A = ℕ} (is_some (block_at left n)) 1 0 ≤ cond (passes (λ e. shares e.value value) (block_at left n)) 1 0
   cost-at n c = go (block_at left n) (λ e at. shares-at n c e at)

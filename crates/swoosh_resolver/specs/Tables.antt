@@ -18,6 +18,10 @@ pub record AreKeys {R K : Type 0} (has_key : R → K → Type 0) (value : R) (ke
   pub members : (k : K) → Contains keys k ↔ has_key value k
   pub once : AllPairs (λ j k. j ≢ k) keys
 
+-- the keys are those that the value seeks
+pub record AreSought {R K : Type 0} (seeks : R → K → Type 0) (value : R) (keys : List K) : Type 0 where
+  pub members : (k : K) → Contains keys k ↔ seeks value k
+
 -- the blocks, where the place in the list is the number; how many more numbers have room; and the numbers under each key
 pub record Table (R K : Type 0) : Type 0 where
   pub blocks : List (Option (Entry R K))

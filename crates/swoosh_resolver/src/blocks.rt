@@ -29,7 +29,7 @@ impl<R: Resolvable> Model for Blocks<R> {
 
     ghost view = { λ b. record { blocks = b.blocks.items; room = vec_capacity b.blocks - length b.blocks.items; postings = b.postings } };
 
-    ghost invariant = { λ b. AreBlocks R.meets R.Key.eq R.has_key b.blocks.items b.postings b.count };
+    ghost invariant = { λ b. AreBlocks R.meets R.Key.eq R.is_posted b.blocks.items b.postings b.count };
 }
 
 impl<R: Resolvable> Blocks<R> {
@@ -68,7 +68,7 @@ impl<R: Resolvable> Blocks<R> {
     pub fn with_key(&self, key: &R::Key) -> &[u64]
         ensures ascending { Ascends result.now }
         ensures members { (n : ℕ) → Contains result.now n
-            ↔ ((e : Entry R R.Key) × (block_at self.now.blocks n ≡ Some e) × R.has_key e.value key.now) }
+            ↔ ((e : Entry R R.Key) × (block_at self.now.blocks n ≡ Some e) × R.is_posted e.value key.now) }
     {
         self.postings.of(key)
     }

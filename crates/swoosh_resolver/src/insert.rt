@@ -9,7 +9,7 @@ ghost use Rattle.swoosh_resolver.specs.Insertions.{passes, IsMatchAt, Merges, In
 
 use crate::blocks::Blocks;
 use crate::change::Change;
-use crate::keyed::Keyed;
+use crate::keyed::Seeker;
 use crate::posting::candidates;
 use merge_laws::resolvable::Resolvable;
 use merge_laws::steps::Steps;
@@ -23,7 +23,7 @@ impl<R: Resolvable> Blocks<R> {
         &self,
         closed: &[u64],
         number: u64,
-        value: &Keyed<R>,
+        value: &Seeker<R>,
         steps: &mut Steps<L>,
     ) -> Option<&R>
         ensures some { IfSome result (λ b. IsMatchAt R.meets (without self.now.blocks closed.now) value.now.value number b.now) }
@@ -44,7 +44,7 @@ impl<R: Resolvable> Blocks<R> {
         &self,
         alloc: Global,
         closed: &[u64],
-        value: &Keyed<R>,
+        value: &Seeker<R>,
         steps: &mut Steps<L>,
     ) -> Result<Option<(u64, &R)>, Memory>
         ensures found { IfOk result (λ o. IfSome o (λ p. IsMatchAt R.meets
@@ -54,7 +54,7 @@ impl<R: Resolvable> Blocks<R> {
         ensures cost { steps.new ≤ steps.old + count_by (λ e. R.shares e.value value.now.value) (blocks_in
             (without self.now.blocks closed.now)) }
     {
-        let numbers = candidates::<R>(alloc, &self.postings, value.keys.as_slice())?;
+        let numbers = candidates::<R>(alloc, &self.postings, value.sought.as_slice())?;
         for number in numbers.iter() {
             if let Some(block) = self.kept_match(closed, *number, value, steps) {
                 return Ok(Some((*number, block)));
@@ -69,7 +69,7 @@ impl<R: Resolvable> Blocks<R> {
         &self,
         alloc: Global,
         change: &mut Change<R>,
-        value: &Keyed<R>,
+        value: &Seeker<R>,
         steps: &mut Steps<L>,
     ) -> Result<Option<R>, Memory>
         requires { Fits R.meets self.now.blocks change.old.closed.items change.old.opened.items }
@@ -125,11 +125,12 @@ impl<R: Resolvable> Blocks<R> {
             → steps.new ≤ steps.old + reach R.meets R.shares (view_of self.now.blocks change.closed.items change.opened.items) x }
     {
         let mut change = change;
-        let mut value = Keyed::of(alloc, value)?;
+        let mut value = Seeker::of(alloc, value)?;
         while let Some(merged) = self.merge_next(alloc, &mut change, &value, steps)? {
-            value = Keyed::of(alloc, merged)?;
+            value = Seeker::of(alloc, merged)?;
         }
-        change.opened.push(alloc, value)?;
+        let keyed = value.keyed(alloc)?;
+        change.opened.push(alloc, keyed)?;
         Ok(change)
     }
 }

@@ -35,9 +35,9 @@ fn close<R: Resolvable>(
     number: u64,
 )
     requires stands { IsSome (block_at blocks.old.items number) }
-    requires posted { ArePosted R.Key.eq R.has_key blocks.old.items postings.old }
+    requires posted { ArePosted R.Key.eq R.is_posted blocks.old.items postings.old }
     ensures blocks { blocks.new.items ≡ slice_set blocks.old.items number None }
-    ensures posted { ArePosted R.Key.eq R.has_key blocks.new.items postings.new }
+    ensures posted { ArePosted R.Key.eq R.is_posted blocks.new.items postings.new }
     ensures spares { (k : R.Key) → spare_of R.Key.eq postings.new k ≡ spare_of R.Key.eq postings.old k }
     ensures capacity { vec_capacity blocks.new ≡ vec_capacity blocks.old }
 {
@@ -57,9 +57,9 @@ fn open<R: Resolvable>(
     requires within { number ≤ length blocks.old.items }
     requires place { number < vec_capacity blocks.old }
     requires room { (k : R.Key) → count_by (R.Key.eq k) keyed.keys ≤ spare_of R.Key.eq postings.old k }
-    requires posted { ArePosted R.Key.eq R.has_key blocks.old.items postings.old }
+    requires posted { ArePosted R.Key.eq R.is_posted blocks.old.items postings.old }
     ensures blocks { blocks.new.items ≡ put blocks.old.items number keyed }
-    ensures posted { ArePosted R.Key.eq R.has_key blocks.new.items postings.new }
+    ensures posted { ArePosted R.Key.eq R.is_posted blocks.new.items postings.new }
     ensures spares { (k : R.Key) → spare_of R.Key.eq postings.old k ≤ spare_of R.Key.eq postings.new k + count_by
         (R.Key.eq k) keyed.keys }
     ensures capacity { vec_capacity blocks.old ≤ vec_capacity blocks.new }
@@ -81,9 +81,9 @@ fn close_all<R: Resolvable>(
 )
     requires distinct { AllPairs (λ m n. m ≢ n) closed.now }
     requires named { (n : ℕ) → Contains closed.now n → IsSome (block_at blocks.old.items n) }
-    requires posted { ArePosted R.Key.eq R.has_key blocks.old.items postings.old }
+    requires posted { ArePosted R.Key.eq R.is_posted blocks.old.items postings.old }
     ensures blocks { blocks.new.items ≡ without blocks.old.items closed.now }
-    ensures posted { ArePosted R.Key.eq R.has_key blocks.new.items postings.new }
+    ensures posted { ArePosted R.Key.eq R.is_posted blocks.new.items postings.new }
     ensures spares { (k : R.Key) → spare_of R.Key.eq postings.new k ≡ spare_of R.Key.eq postings.old k }
     ensures capacity { vec_capacity blocks.new ≡ vec_capacity blocks.old }
 {
@@ -103,10 +103,10 @@ fn open_all<R: Resolvable>(
     requires free { (n : ℕ) → Contains closed.now n → (n < length blocks.old.items) × (block_at blocks.old.items n ≡ None) }
     requires places { length opened.items + length blocks.old.items ≤ length closed.now + vec_capacity blocks.old }
     requires room { (k : R.Key) → count_by (R.Key.eq k) (keys_in opened.items) ≤ spare_of R.Key.eq postings.old k }
-    requires posted { ArePosted R.Key.eq R.has_key blocks.old.items postings.old }
+    requires posted { ArePosted R.Key.eq R.is_posted blocks.old.items postings.old }
     ensures opened { AreOpened blocks.old.items closed.now (length blocks.old.items) opened.items blocks.new.items }
     ensures view { IsPermutation (blocks_in blocks.old.items ++ opened.items) (blocks_in blocks.new.items) }
-    ensures posted { ArePosted R.Key.eq R.has_key blocks.new.items postings.new }
+    ensures posted { ArePosted R.Key.eq R.is_posted blocks.new.items postings.new }
 {
     let first = blocks.len();
     let mut place = 0;

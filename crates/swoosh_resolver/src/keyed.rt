@@ -1,13 +1,13 @@
-//! Values with their index keys.
+//! Values with the keys under which an index has them, or with the keys that they seek.
 ghost use Rattle.std.specs.Prelude.{◌≡◌, IfOk};
-ghost use Rattle.swoosh_resolver.specs.Tables.{AreKeys};
+ghost use Rattle.swoosh_resolver.specs.Tables.{AreKeys, AreSought};
 
 use merge_laws::resolvable::Resolvable;
 use std::alloc::Global;
 use std::marker::Model;
 use union_base::memory::Memory;
 
-/// A value, and its index keys, each once.
+/// A value, and the keys under which an index has it, each once.
 #[derive(Drop)]
 pub struct Keyed<R: Resolvable> {
     pub value: R,
@@ -21,7 +21,7 @@ impl<R: Resolvable> Model for Keyed<R> {
 
     ghost view = { λ k. record { value = k.value; keys = k.keys.items } };
 
-    ghost invariant = { λ k. AreKeys R.has_key k.value k.keys.items };
+    ghost invariant = { λ k. AreKeys R.is_posted k.value k.keys.items };
 }
 
 impl<R: Resolvable> Keyed<R> {
@@ -29,7 +29,42 @@ impl<R: Resolvable> Keyed<R> {
     pub fn of(alloc: Global, value: R) -> Result<Keyed<R>, Memory>
         ensures { IfOk result (λ k. k.value ≡ value) }
     {
-        let keys = value.index_keys(alloc)?;
+        let keys = value.posted_keys(alloc)?;
         Ok(Keyed { value, keys })
+    }
+}
+
+/// A value that looks for what it matches, and the keys that it seeks.
+#[derive(Drop)]
+pub(crate) struct Seeker<R: Resolvable> {
+    pub(crate) value: R,
+    pub(crate) sought: Vec<R::Key>,
+}
+
+impl<R: Resolvable> Model for Seeker<R> {
+    ghost use Rattle.swoosh_resolver.specs.Tables.{Entry, AreSought};
+
+    ghost Value = { Entry R R.Key };
+
+    ghost view = { λ s. record { value = s.value; keys = s.sought.items } };
+
+    ghost invariant = { λ s. AreSought R.seeks s.value s.sought.items };
+}
+
+impl<R: Resolvable> Seeker<R> {
+    /// The value with the keys that it seeks. Returns `Memory` if allocation fails.
+    pub(crate) fn of(alloc: Global, value: R) -> Result<Seeker<R>, Memory>
+        ensures { IfOk result (λ s. s.value ≡ value) }
+    {
+        let sought = value.sought_keys(alloc)?;
+        Ok(Seeker { value, sought })
+    }
+
+    /// The value with the keys under which an index has it. Returns `Memory` if allocation fails.
+    pub(crate) fn keyed(self, alloc: Global) -> Result<Keyed<R>, Memory>
+        ensures { IfOk result (λ k. k.value ≡ self.value) }
+    {
+        let Seeker { value, sought: _ } = self;
+        Keyed::of(alloc, value)
     }
 }

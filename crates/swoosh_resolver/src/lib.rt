@@ -3,8 +3,8 @@
 //! Guarantee: a plan's view is the resolution of the view before it and the inserted value, and what is installed is the view
 //! that was planned. A plan changes nothing; room is made for it, and then it is installed without taking memory, so that it
 //! cannot stop half way. A member of a plan's view can be taken apart, and then the parts stand in its place. Cost: an
-//! insertion tests only values that share a key with the value at hand, at most the reach of the insertion in all
-//! (specs/Reach.antt of merge_laws), whatever the number of blocks. The values that a plan opens have an index of their own,
+//! insertion tests only values that are posted under a key that the value at hand seeks, at most the reach of the insertion in
+//! all (specs/Reach.antt of merge_laws), whatever the number of blocks. The values that a plan opens have an index of their own,
 //! so it asks one look-up a key of these too. A split tests nothing. The definitions are in specs/.
 #![tactic(auto)]
 

@@ -5,7 +5,7 @@ ghost use Rattle.swoosh_resolver.specs.Tables.{Entry, AreListed, block_at};
 ghost use Rattle.feature_index.specs.Postings.{spare_of};
 ghost use Rattle.swoosh_resolver.specs.Insertions.{passes};
 
-use crate::keyed::Keyed;
+use crate::keyed::{Keyed, Seeker};
 use crate::posting::{candidates, make_room_for, post, unpost};
 use feature_index::postings::Postings;
 use merge_laws::resolvable::Resolvable;
@@ -29,17 +29,17 @@ impl<R: Resolvable> Model for Opened<R> {
 
     ghost view = { λ o. record { items = o.values.items } };
 
-    ghost invariant = { λ o. AreListed R.Key.eq R.has_key o.values.items o.places };
+    ghost invariant = { λ o. AreListed R.Key.eq R.is_posted o.values.items o.places };
 }
 
 /// Makes the index one of the values without that at the place, whose place the last one takes, in the room that was made for
 /// the last one. Takes no memory.
 fn unlist<R: Resolvable>(places: &mut Postings<R::Key>, values: &[Keyed<R>], place: usize)
     requires within { place < length values.now }
-    requires listed { AreListed R.Key.eq R.has_key values.now places.old }
+    requires listed { AreListed R.Key.eq R.is_posted values.now places.old }
     requires room { (k : R.Key) (d : Entry R R.Key) → count_by (R.Key.eq k) (slice_index_or values.now
         (length values.now - 1) d).keys ≤ spare_of R.Key.eq places.old k }
-    ensures { (d : Entry R R.Key) → AreListed R.Key.eq R.has_key (swap_remove values.now place d) places.new }
+    ensures { (d : Entry R R.Key) → AreListed R.Key.eq R.is_posted (swap_remove values.now place d) places.new }
 {
     let last = values.len() - 1;
     unpost(places, &values[place], place as u64);
@@ -106,7 +106,7 @@ impl<R: Resolvable> Opened<R> {
     }
 
     /// Whether the value matches the one at the place. Takes no memory.
-    fn matches_at<L: Ledger>(&self, place: u64, value: &Keyed<R>, steps: &mut Steps<L>) -> bool
+    fn matches_at<L: Ledger>(&self, place: u64, value: &Seeker<R>, steps: &mut Steps<L>) -> bool
         ensures answer { result ≡ passes (λ e. R.meets value.now.value e.value) (block_at (map Some self.now.items) place) }
         ensures cost { steps.new ≤ steps.old + (if is_some (block_at (map Some self.now.items) place) then 1 else 0) }
     {
@@ -116,12 +116,12 @@ impl<R: Resolvable> Opened<R> {
         }
     }
 
-    /// The place of the first of the values that the given one matches. Only those that share a key with it are tested.
+    /// The place of the first of the values that the given one matches. Only those are tested that have a key which it seeks.
     /// Returns `Memory` if allocation fails.
     pub(crate) fn first_match<L: Ledger>(
         &self,
         alloc: Global,
-        value: &Keyed<R>,
+        value: &Seeker<R>,
         steps: &mut Steps<L>,
     ) -> Result<Option<usize>, Memory>
         ensures within { IfOk result (λ o. IfSome o (λ i. i < length self.now.items)) }
@@ -130,7 +130,7 @@ impl<R: Resolvable> Opened<R> {
         ensures none { IfOk result (λ o. IfNone o (All (λ e. R.meets value.now.value e.value ≡ false) self.now.items)) }
         ensures cost { steps.new ≤ steps.old + count_by (λ e. R.shares e.value value.now.value) self.now.items }
     {
-        let numbers = candidates::<R>(alloc, &self.places, value.keys.as_slice())?;
+        let numbers = candidates::<R>(alloc, &self.places, value.sought.as_slice())?;
         for number in numbers.iter() {
             if self.matches_at(*number, value, steps) {
                 return Ok(Some(*number as usize));

@@ -12,9 +12,9 @@ use union_base::memory::Memory;
 /// Puts the number under each key of the value, in the room that was made. Takes no memory.
 pub(crate) fn post<R: Resolvable>(postings: &mut Postings<R::Key>, keyed: &Keyed<R>, number: u64)
     requires room { (k : R.Key) → count_by (R.Key.eq k) keyed.now.keys ≤ spare_of R.Key.eq postings.old k }
-    requires absent { (k : R.Key) → R.has_key keyed.now.value k → Contains (numbers_of R.Key.eq postings.old k) number → ⊥ }
+    requires absent { (k : R.Key) → R.is_posted keyed.now.value k → Contains (numbers_of R.Key.eq postings.old k) number → ⊥ }
     ensures numbers { (k : R.Key) (n : ℕ) → Contains (numbers_of R.Key.eq postings.new k) n
-        ↔ (Contains (numbers_of R.Key.eq postings.old k) n ⊎ (R.has_key keyed.now.value k × (n ≡ number))) }
+        ↔ (Contains (numbers_of R.Key.eq postings.old k) n ⊎ (R.is_posted keyed.now.value k × (n ≡ number))) }
     ensures spares { (k : R.Key) → spare_of R.Key.eq postings.old k ≤ spare_of R.Key.eq postings.new k + count_by
         (R.Key.eq k) keyed.now.keys }
 {
@@ -25,9 +25,9 @@ pub(crate) fn post<R: Resolvable>(postings: &mut Postings<R::Key>, keyed: &Keyed
 
 /// Takes the number from under each key of the value. Takes no memory.
 pub(crate) fn unpost<R: Resolvable>(postings: &mut Postings<R::Key>, keyed: &Keyed<R>, number: u64)
-    requires { (k : R.Key) → R.has_key keyed.now.value k → Contains (numbers_of R.Key.eq postings.old k) number }
+    requires { (k : R.Key) → R.is_posted keyed.now.value k → Contains (numbers_of R.Key.eq postings.old k) number }
     ensures numbers { (k : R.Key) (n : ℕ) → Contains (numbers_of R.Key.eq postings.new k) n
-        ↔ (Contains (numbers_of R.Key.eq postings.old k) n × (R.has_key keyed.now.value k → n ≢ number)) }
+        ↔ (Contains (numbers_of R.Key.eq postings.old k) n × (R.is_posted keyed.now.value k → n ≢ number)) }
     ensures spares { (k : R.Key) → spare_of R.Key.eq postings.new k ≡ spare_of R.Key.eq postings.old k }
 {
     for key in keyed.keys.iter() {
@@ -72,9 +72,9 @@ pub(crate) fn candidates<R: Resolvable>(
 ) -> Result<Vec<u64>, Memory>
     ensures ascending { IfOk result (λ numbers. Ascends numbers.items) }
     ensures members { IfOk result (λ numbers. (blocks : List (Option (Entry R R.Key)))
-        → ArePosted R.Key.eq R.has_key blocks postings.now → (n : ℕ) → Contains numbers.items n
+        → ArePosted R.Key.eq R.is_posted blocks postings.now → (n : ℕ) → Contains numbers.items n
         ↔ ((k : R.Key) × Contains keys.now k × ((e : Entry R R.Key) × (block_at blocks n ≡ Some e)
-        × R.has_key e.value k))) }
+        × R.is_posted e.value k))) }
 {
     let mut numbers = Vec::new(alloc);
     for key in keys.iter() {

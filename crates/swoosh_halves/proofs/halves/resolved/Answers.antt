@@ -17,4 +17,4 @@ returns g c =
     let others = c.in_ok-strangers.others.items in
     subst (IsResolution match merge list) (sym c.in_ok-append.ensures.items)
     (IsResolution-through join laws list (strangers ++ others) _ (λ y c. member (parted.own y c)) (λ x c. (x, parted.kept x c, IsDominated-refl join laws x))
-    (strangers_beside join laws g.met.R.Resolvable.key_laws strangers others _ parted.strangers parted.apart c.in_ok-resolve.ensures))
+    (strangers_beside join laws g.met.R.Resolvable.key_laws strangers others _ parted.strangers parted.apart c.in_ok-resolve_by_halves.ensures))

@@ -9,7 +9,7 @@ use Rattle.swoosh_resolver.proofs.install.close_all.Given as goal
 abbrev pub invariant-loop-number : goal.invariant-loop-number
 invariant-loop-number g l = record {
   blocks : l.blocks.items ≡ without l.initial.blocks.items (take l.number-index l.closed);
-  posted : ArePosted g.R.Key.PartialEq.eq g.R.Resolvable.has_key l.blocks.items l.postings;
+  posted : ArePosted g.R.Key.PartialEq.eq g.R.Resolvable.is_posted l.blocks.items l.postings;
   spares : (k : g.row.R-Key.Denot) → spare_of g.R.Key.PartialEq.eq l.postings k ≡ spare_of g.R.Key.PartialEq.eq l.initial.postings k;
   capacity : vec_capacity l.blocks ≡ vec_capacity l.initial.blocks;
 }

@@ -12,7 +12,7 @@ invariant-loop-keyed g l = record {
   place : l.place ≡ length l.yielded;
   rest : l.yielded ++ l.keyed-iterator.rest.items ≡ l.fn.opened.items;
   opening : IsOpening l.fn.blocks.items l.closed l.yielded l.blocks.items;
-  posted : ArePosted g.R.Key.PartialEq.eq g.R.Resolvable.has_key l.blocks.items l.postings;
+  posted : ArePosted g.R.Key.PartialEq.eq g.R.Resolvable.is_posted l.blocks.items l.postings;
   spares : (k : g.row.R-Key.Denot) → spare_of g.R.Key.PartialEq.eq l.fn.postings k ≤ spare_of g.R.Key.PartialEq.eq l.postings k + count_by (g.R.Key.PartialEq.eq k) (keys_in l.yielded);
   capacity : vec_capacity l.fn.blocks ≤ vec_capacity l.blocks;
 }

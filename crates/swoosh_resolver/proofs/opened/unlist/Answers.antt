@@ -82,4 +82,4 @@ returns-then-place-last g c d =
     let a = length-set (map {B = Option (Entry g.row.R.Denot g.row.R-Key.Denot)} Some xs) i None in
     let b = length-set (slice_set (map {B = Option (Entry g.row.R.Denot g.row.R-Key.Denot)} Some xs) i None) m None in
     let put' = posted-put emptied c.unpost-then-place-last.new.postings two c.post.new.postings i z (freed (map Some xs) i m (omega arith) (omega arith)) (omega arith) c.post.ensures.numbers in
-    unlisted-moved xs i d m (omega arith) c.post.new.postings (omega arith) (subst (λ z. ArePosted g.R.Key.PartialEq.eq g.R.Resolvable.has_key (put emptied i z) c.post.new.postings) is put')
+    unlisted-moved xs i d m (omega arith) c.post.new.postings (omega arith) (subst (λ z. ArePosted g.R.Key.PartialEq.eq g.R.Resolvable.is_posted (put emptied i z) c.post.new.postings) is put')

@@ -11,8 +11,8 @@ loop-key-init g c = unposted_none g.met.R.Key.Eq.laws g.met.R.Resolvable.exact_k
 pub remove-requires : goal.remove-requires
 remove-requires g c =
     let keys = c.deref-key-items.result.now in
-    let keyed : AreKeys g.R.Resolvable.has_key c.args.keyed.now.value keys =
-    subst (λ v. AreKeys g.R.Resolvable.has_key v keys) (ap (λ (e : Entry g.row.R.Denot g.row.R-Key.Denot). e.value) c.keyed.view_is) (rw c.deref-key-items.ensures.value c.keyed.invariant) in
+    let keyed : AreKeys g.R.Resolvable.is_posted c.args.keyed.now.value keys =
+    subst (λ v. AreKeys g.R.Resolvable.is_posted v keys) (ap (λ (e : Entry g.row.R.Denot g.row.R-Key.Denot). e.value) c.keyed.view_is) (rw c.deref-key-items.ensures.value c.keyed.invariant) in
     let key = c.key-item.result in
     let i = c.loop-key.key-index in
     (c.loop-key.invariant.numbers key c.args.number).1 (
@@ -33,8 +33,8 @@ loop-key-preserved g c =
 pub returns-clause-numbers : goal.returns-clause-numbers
 returns-clause-numbers g c =
     let keys = c.deref-key-items.result.now in
-    let keyed : AreKeys g.R.Resolvable.has_key c.args.keyed.now.value keys =
-    subst (λ v. AreKeys g.R.Resolvable.has_key v keys) (ap (λ (e : Entry g.row.R.Denot g.row.R-Key.Denot). e.value) c.keyed.view_is) (rw c.deref-key-items.ensures.value c.keyed.invariant) in
+    let keyed : AreKeys g.R.Resolvable.is_posted c.args.keyed.now.value keys =
+    subst (λ v. AreKeys g.R.Resolvable.is_posted v keys) (ap (λ (e : Entry g.row.R.Denot g.row.R-Key.Denot). e.value) c.keyed.view_is) (rw c.deref-key-items.ensures.value c.keyed.invariant) in
     let all : take c.loop-key.key-index keys ≡ keys = take_all c.loop-key.key-index keys (omega arith) in
     let unposted : IsUnposted g.R.Key.PartialEq.eq c.args.postings.now keys c.args.number c.loop-key.postings = rw all at c.loop-key.invariant in
     λ k n. (

@@ -44,11 +44,11 @@ returns-clause-inserts g c =
     let none = rw c.in_default.is at c.in_ok-merged.ensures.none in
     rw (c.in_ok-push.ensures.items, none.0, none.1)
     (record {
-      by = c.loop-value.value;
+      by = c.in_ok-keyed.keyed;
       before = c.loop-value.change.opened.items;
       last = refl;
-      dominates = c.loop-value.invariant.inserting.above;
-      others = c.loop-value.invariant.others;
+      dominates = rw c.in_ok-keyed.ensures c.loop-value.invariant.inserting.above;
+      others = rw c.in_ok-keyed.ensures c.loop-value.invariant.others;
     })
 
 pub returns-clause-fits : goal.returns-clause-fits
@@ -57,11 +57,11 @@ returns-clause-fits g c =
     let change = c.loop-value.change in
     let list = view_of blocks c.args.change.closed.items c.args.change.opened.items ++ c.args.value ∷ [] in
     let view = view_of blocks change.closed.items change.opened.items in
-    let value = c.loop-value.value in
+    let keyed = c.in_ok-keyed.keyed in
     let none = rw c.in_default.is at c.in_ok-merged.ensures.none in
-    let kept : IsResolving g.R.Resolvable.meets g.R.Join.join list [] (view ++ value.value ∷ []) =
-    resolving_kept g.met.R.Join.join_laws g.met.R.Resolvable.match_laws list [] view value.value c.loop-value.invariant.inserting.resolving none.2 in
-    rw (c.in_ok-push.ensures.items, none.0, none.1) (fits-push blocks change.closed.items change.opened.items c.loop-value.invariant.fits value kept.apart)
+    let kept : IsResolving g.R.Resolvable.meets g.R.Join.join list [] (view ++ keyed.value ∷ []) =
+    rw c.in_ok-keyed.ensures (resolving_kept g.met.R.Join.join_laws g.met.R.Resolvable.match_laws list [] view c.loop-value.value.value c.loop-value.invariant.inserting.resolving none.2) in
+    rw (c.in_ok-push.ensures.items, none.0, none.1) (fits-push blocks change.closed.items change.opened.items c.loop-value.invariant.fits keyed kept.apart)
 
 pub returns-clause-resolved : goal.returns-clause-resolved
 returns-clause-resolved g c =
@@ -69,12 +69,12 @@ returns-clause-resolved g c =
     let change = c.loop-value.change in
     let list = view_of blocks c.args.change.closed.items c.args.change.opened.items ++ c.args.value ∷ [] in
     let view = view_of blocks change.closed.items change.opened.items in
-    let value = c.loop-value.value in
+    let keyed = c.in_ok-keyed.keyed in
     let none = rw c.in_default.is at c.in_ok-merged.ensures.none in
-    let kept : IsResolving g.R.Resolvable.meets g.R.Join.join list [] (view ++ value.value ∷ []) =
-    resolving_kept g.met.R.Join.join_laws g.met.R.Resolvable.match_laws list [] view value.value c.loop-value.invariant.inserting.resolving none.2 in
-    rw (c.in_ok-push.ensures.items, none.0, none.1, view-push blocks change.closed.items change.opened.items value)
-    (IsResolution-from_resolving g.met.R.Join.join_laws g.met.R.Resolvable.match_laws list (view ++ value.value ∷ []) kept)
+    let kept : IsResolving g.R.Resolvable.meets g.R.Join.join list [] (view ++ keyed.value ∷ []) =
+    rw c.in_ok-keyed.ensures (resolving_kept g.met.R.Join.join_laws g.met.R.Resolvable.match_laws list [] view c.loop-value.value.value c.loop-value.invariant.inserting.resolving none.2) in
+    rw (c.in_ok-push.ensures.items, none.0, none.1, view-push blocks change.closed.items change.opened.items keyed)
+    (IsResolution-from_resolving g.met.R.Join.join_laws g.met.R.Resolvable.match_laws list (view ++ keyed.value ∷ []) kept)
 
 pub returns-in_err-merged-clause-cost : goal.returns-in_err-merged-clause-cost
 returns-in_err-merged-clause-cost g c all x r cx d =
@@ -84,6 +84,12 @@ returns-in_err-merged-clause-cost g c all x r cx d =
 
 pub returns-in_err-value-2-clause-cost : goal.returns-in_err-value-2-clause-cost
 returns-in_err-value-2-clause-cost g c all x r cx d =
+    let view = view_of c.args.self.now.blocks c.loop-value.change.closed.items c.loop-value.change.opened.items in
+    inserting_bound g.met.R.Join.join_laws g.met.R.Resolvable.match_laws g.met.R.Resolvable.key_laws (view_of c.args.self.now.blocks c.args.change.closed.items c.args.change.opened.items) c.args.value
+    c.args.steps.now c.loop-value.steps c.loop-value.value.value view c.merge_next.new.steps c.loop-value.invariant.inserting c.merge_next.ensures.cost all x r cx d
+
+pub returns-in_err-keyed-clause-cost : goal.returns-in_err-keyed-clause-cost
+returns-in_err-keyed-clause-cost g c all x r cx d =
     let view = view_of c.args.self.now.blocks c.loop-value.change.closed.items c.loop-value.change.opened.items in
     inserting_bound g.met.R.Join.join_laws g.met.R.Resolvable.match_laws g.met.R.Resolvable.key_laws (view_of c.args.self.now.blocks c.args.change.closed.items c.args.change.opened.items) c.args.value
     c.args.steps.now c.loop-value.steps c.loop-value.value.value view c.merge_next.new.steps c.loop-value.invariant.inserting c.merge_next.ensures.cost all x r cx d

@@ -1,0 +1,8 @@
+-- By which keys an index finds the values that a value can match.
+use Rattle.std.specs.Prelude.{Bool, IsTrue}
+
+-- Where x matches y, it seeks a key under which y is posted. And a value that is posted under a key which x seeks is near to
+-- x: the two share a key.
+pub record SeekingLaws {A K : Type 0} (match : A → A → Bool) (is_posted seeks : A → K → Type 0) (shares : A → A → Bool) : Type 0 where
+  pub matching : (x y : A) → IsTrue (match x y) → (k : K) × seeks x k × is_posted y k
+  pub near : (x y : A) (k : K) → seeks x k → is_posted y k → IsTrue (shares y x)
