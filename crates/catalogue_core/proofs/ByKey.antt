@@ -2,7 +2,6 @@
 use Rattle.std.proofs.Common.{◌≡◌, ◌≢◌, ℕ, zero, suc, ◌<◌, Bool, true, false, cond, List, [], ◌∷◌, Contains, AllPairs, refl, sym, ap, subst, ◌∙◌, inl, inr, arith}
 use Rattle.std.specs.Prelude.{◌↔◌, filter, filter_map, Option, Some, None, Result, Ok, Err, IfOk}
 use Rattle.std.specs.Option.{option_map}
-use Rattle.std.specs.Cmp.Lexicographic.{nat_list_cmp_total}
 use Rattle.std.specs.List.{list_all, cons_option}
 use Rattle.std.specs.List.Sorted.{IsPermutation, IsSorted}
 use Rattle.std.specs.Ordering.{is_lt}
@@ -11,22 +10,19 @@ use Rattle.std.proofs.lemmas.List.Kept.{AllPairs-cons, AllPairs-filter}
 use Rattle.std.proofs.lemmas.List.Sorted.{Contains-permutation, IsPermutation-sym, IsPermutation-trans}
 use Rattle.union_base.specs.Both.{both_true, true_both}
 use Rattle.union_base.specs.SortedLists.{is_ascending}
-use Rattle.union_base.specs.Ties.{texts_apart}
 use Rattle.merge_laws.specs.Resolution.{DoNotMatch, member}
 use Rattle.merge_laws.proofs.Places.{Contains-head, Contains-tail, Contains-cases, All-from_members, AllPairs-first, AllPairs-none, AllPairs-permutation, AllPairs-rest, IsPermutation-from_members}
 use Rattle.merge_laws.proofs.Resolutions.{IsDominated-refl, apart-from_resolution, once-in_resolution, IsResolution-from_apart}
 use Rattle.feature_index.specs.Postings.{Ascends}
-use Rattle.match_features.specs.KeptLaws.{pairs_total, pairs_tie}
-use Rattle.match_features.proofs.MemberLaws.{member-from_has, has-from_member}
+use Rattle.match_features.proofs.PostedLaws.{told-from_posted, posted-from_told}
 use Rattle.match_features.specs.declared.keys.FeatureKey.{FeatureKey}
-use Rattle.match_features.specs.declared.keys.FeatureKey.TheVariants.{Control, Isbn, Issn, Title}
 use Rattle.swoosh_resolver.specs.Tables.{block_at, blocks_in, values_of}
 use Rattle.swoosh_resolver.proofs.Places.{block-from_value, number-from_block}
 use Rattle.catalogue_core.specs.Homes.{Block}
 use Rattle.catalogue_editions.specs.Ids.{edition_cmp}
 use Rattle.catalogue_editions.specs.IndexKeys.{has_key}
 use Rattle.catalogue_editions.specs.JoinLaws.{edition_join_laws}
-use Rattle.catalogue_editions.specs.Matching.{match, HasFeatureKey}
+use Rattle.catalogue_editions.specs.Matching.{match, IsPostedUnder}
 use Rattle.catalogue_editions.specs.MatchLaws.{edition_match_laws}
 use Rattle.catalogue_editions.specs.Resolutions.{IsOrderedResolution}
 use Rattle.catalogue_editions.specs.declared.edition.Edition.{Edition}
@@ -35,20 +31,6 @@ use Rattle.catalogue_core.proofs.Housing.{same-some}
 use Rattle.edition_blocks.proofs.BlockLaws.{block-stands, value-in, in-value}
 use Rattle.edition_blocks.proofs.LookingLaws.{value_at}
 use Rattle.edition_blocks.proofs.MappedLaws.{mapped-from_member, member-from_mapped}
-
--- ---- the test says whether an edition has a key
-
-has-from_key : (e : Edition) (key : FeatureKey) → HasFeatureKey e key → has_key key e ≡ true
-has-from_key e (Control pair) h = has-from_member pairs_total pairs_tie e.features.control pair h
-has-from_key e (Isbn isbn) h = has-from_member nat_list_cmp_total texts_apart e.features.isbns isbn h
-has-from_key e (Issn issn) h = has-from_member nat_list_cmp_total texts_apart e.features.issns issn h
-has-from_key e (Title title) h = has-from_member nat_list_cmp_total texts_apart e.features.titles title h
-
-key-from_has : (e : Edition) (key : FeatureKey) → has_key key e ≡ true → HasFeatureKey e key
-key-from_has e (Control pair) h = member-from_has pairs_total pairs_tie e.features.control pair h
-key-from_has e (Isbn isbn) h = member-from_has nat_list_cmp_total texts_apart e.features.isbns isbn h
-key-from_has e (Issn issn) h = member-from_has nat_list_cmp_total texts_apart e.features.issns issn h
-key-from_has e (Title title) h = member-from_has nat_list_cmp_total texts_apart e.features.titles title h
 
 -- ---- what a test keeps of a list
 
@@ -140,7 +122,7 @@ found-once blocks once (n ∷ numbers) up =
 
 -- ---- the numbers under a key
 
-module _ (blocks : List (Option Block)) (key : FeatureKey) (numbers : List ℕ) (posted : (n : ℕ) → Contains numbers n ↔ ((e : Block) × (block_at blocks n ≡ Some e) × HasFeatureKey e.value key)) (list all : List Edition) (is : IsOrderedResolution list all) (same : IsPermutation (values_of (blocks_in blocks)) all) where
+module _ (blocks : List (Option Block)) (key : FeatureKey) (numbers : List ℕ) (posted : (n : ℕ) → Contains numbers n ↔ ((e : Block) × (block_at blocks n ≡ Some e) × IsPostedUnder e.value key)) (list all : List Edition) (is : IsOrderedResolution list all) (same : IsPermutation (values_of (blocks_in blocks)) all) where
   abbrev found : List Edition
   found = filter_map (value_at blocks) numbers
 
@@ -150,7 +132,7 @@ module _ (blocks : List (Option Block)) (key : FeatureKey) (numbers : List ℕ) 
       let (e, stands, value) = block-from_value (block_at blocks n) x (sym at) in
       let (f, there, has) = (posted n).0 cn in
       let one : f ≡ e = same-some (block_at blocks n) f e there stands in
-      let bears : has_key key x ≡ true = ap (has_key key) (value ∙ ap (λ (b : Block). b.value) (sym one)) ∙ has-from_key f.value key has in
+      let bears : has_key key x ≡ true = ap (has_key key) (value ∙ ap (λ (b : Block). b.value) (sym one)) ∙ told-from_posted f.value.features key has in
       let within : Contains (values_of (blocks_in blocks)) x = subst (Contains (values_of (blocks_in blocks))) (sym value) (value-in (blocks_in blocks) e (block-stands blocks n e stands)) in
       member-filter (has_key key) all x (Contains-permutation (values_of (blocks_in blocks)) all x same within) bears
 
@@ -160,7 +142,7 @@ module _ (blocks : List (Option Block)) (key : FeatureKey) (numbers : List ℕ) 
       let (e, ce, value) = in-value (blocks_in blocks) x (Contains-permutation all (values_of (blocks_in blocks)) x (IsPermutation-sym (values_of (blocks_in blocks)) all same) within) in
       let (n, at) = number-from_block blocks e ce in
       mapped-from_member (value_at blocks) numbers n x
-      ((posted n).1 (e, at, key-from_has e.value key (ap (has_key key) value ∙ bears)))
+      ((posted n).1 (e, at, posted-from_told e.value.features key (ap (has_key key) value ∙ bears)))
       (ap (option_map (λ (b : Block). b.value)) at ∙ ap Some value)
 
   -- what stands under the numbers, in order of the least contributors, are the editions that have the key

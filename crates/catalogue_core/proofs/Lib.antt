@@ -17,3 +17,5 @@ pub mod PartsLaws
 pub mod LeavingLaws
 pub mod TouchLaws
 mod ToldLaws
+mod Images
+mod Unranked

@@ -19,7 +19,7 @@ use Rattle.merge_laws.proofs.Places.{Contains-head, Contains-tail, Contains-case
 use Rattle.merge_laws.proofs.Tags.{tag-from_dominated, member-from_tag}
 use Rattle.field_merge.specs.Kept.{id_cmp}
 use Rattle.field_merge.specs.KeptLaws.{id_total}
-use Rattle.catalogue_editions.specs.Batches.{is_one_of, is_own_op}
+use Rattle.catalogue_editions.specs.Batches.{is_one_of, has_one_level, is_own_op}
 use Rattle.catalogue_editions.specs.Ids.{first_id, least}
 use Rattle.catalogue_editions.specs.Joining.{join}
 use Rattle.catalogue_editions.specs.JoinLaws.{edition_join_laws}
@@ -112,7 +112,9 @@ one-from_own library (id ∷ []) h = refl
 one-from_own library (id ∷ more ∷ rest) h = cc
 
 pub single-op : (library : List ℕ) (all : MapOf Edition) (op : Op) → AreSingle all → is_own_op library op ≡ true → AreSingle (after_op library all op)
-single-op library all (Load e) s own = single-insert all (least e) e s (one-from_own library e.content.contributors own)
+single-op library all (Load e) s own =
+    single-insert all (least e) e s
+    (one-from_own library e.content.contributors (both_true (is_one_of library e.content.contributors) (has_one_level e.content) own).0)
 single-op library all (Withdraw number) s own = single-remove all (is_at (id_cmp (record { library = library; control = number }))) s
 
 single-ops : (library : List ℕ) (all : MapOf Edition) (ops : List Op) → AreSingle all → list_all (is_own_op library) ops ≡ true → AreSingle (fold (after_op library) all ops)

@@ -23,3 +23,4 @@ pub mod Reaches
 pub mod Kept
 pub mod PreparedReaches
 pub mod Touches
+pub mod Preferring

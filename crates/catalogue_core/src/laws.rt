@@ -1,10 +1,13 @@
 //! What holds of the editions of a catalogue. Each function here does nothing when it runs: its contract is the law.
-ghost use Rattle.std.specs.Prelude.{◌≡◌, ◌⊎◌, ℕ, false, List, [], ◌∷◌, Contains};
+ghost use Rattle.std.specs.Prelude.{◌≡◌, ◌⊎◌, ℕ, false, List, [], ◌∷◌, map, Contains};
 ghost use Rattle.union_base.specs.declared.record_id.RecordId.{RecordId};
+ghost use Rattle.marc_fields.specs.declared.marc_record.Record.{Record};
 ghost use Rattle.catalogue_editions.specs.declared.edition.Edition.{Edition};
+ghost use Rattle.catalogue_editions.specs.Resolutions.{IsOrderedResolution};
 ghost use Rattle.catalogue_editions.specs.Matching.{share};
 ghost use Rattle.catalogue_core.specs.declared.history_entry.HistoryEntry.{HistoryEntry};
 ghost use Rattle.catalogue_core.specs.Histories.{AreEditionsOf};
+ghost use Rattle.catalogue_core.specs.Preferring.{editions_by, unranked};
 ghost use Rattle.catalogue_core.specs.Reaches.{IsReachOfInsertion, IsReachOfWithdrawal};
 
 pub use catalogue_editions::laws::{
@@ -25,4 +28,12 @@ pub fn strangers_cost_one_test()
         → IsReachOfInsertion list e number → number ≡ 0 }
     ensures goes { (list : List Edition) (e : Edition) (id : RecordId) (number : ℕ) → ((x : Edition) → Contains list x
         → (x ≡ e) ⊎ (share x e ≡ false)) → e.content.contributors ≡ id ∷ [] → IsReachOfWithdrawal list id number → number ≡ 1 }
+{}
+
+/// By any two preferences the same records resolve to the same editions, place by place, but for their fixed parts and their
+/// slots: who is one edition with whom, its contributors, its features and its united fields do not depend on a preference.
+pub fn preferences_agree()
+    ensures { (prefer other : List (List ℕ)) (records : List (List ℕ × Record))
+        (one two : List Edition) → IsOrderedResolution (editions_by prefer records) one
+        → IsOrderedResolution (editions_by other records) two → map unranked one ≡ map unranked two }
 {}

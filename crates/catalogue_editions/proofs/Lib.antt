@@ -1,4 +1,5 @@
-mod KeyTexts
 mod EditionTexts
-pub mod Apart
+mod KeyTexts
 mod Runs
+pub mod Apart
+pub mod OwnLaws

@@ -1,9 +1,11 @@
 -- Editions match as their features meet.
 use Rattle.merge_laws.specs.Resolution.{MatchLaws, KeyLaws}
+use Rattle.merge_laws.specs.Candidates.{SeekingLaws}
 use Rattle.match_features.proofs.MeetLaws.{features_match_laws}
 use Rattle.match_features.proofs.KeyLaws.{features_key_laws}
+use Rattle.match_features.proofs.PostedLaws.{features_seeking_laws}
 use Rattle.catalogue_editions.specs.Joining.{join}
-use Rattle.catalogue_editions.specs.Matching.{match, HasFeatureKey, share}
+use Rattle.catalogue_editions.specs.Matching.{match, HasFeatureKey, IsPostedUnder, SeeksKey, share}
 
 pub edition_match_laws : MatchLaws match join
 edition_match_laws = record {
@@ -17,4 +19,10 @@ edition_key_laws = record {
   matching = λ x y. features_key_laws.matching x.features y.features;
   merged = λ x y key. features_key_laws.merged x.features y.features key;
   shared = λ x y. features_key_laws.shared x.features y.features;
+}
+
+pub edition_seeking_laws : SeekingLaws match IsPostedUnder SeeksKey share
+edition_seeking_laws = record {
+  matching = λ x y. features_seeking_laws.matching x.features y.features;
+  near = λ x y. features_seeking_laws.near x.features y.features;
 }

@@ -1,7 +1,8 @@
--- Which editions match, and the keys that an edition is looked up by: by its features alone.
+-- Which editions match, the keys that an edition has, and those of an index: by its features alone.
 use Rattle.std.specs.Prelude.{Bool}
 use Rattle.match_features.specs.Meeting.{meet}
 use Rattle.match_features.specs.Keys.{HasKey, share_key}
+use Rattle.match_features.specs.Posted.{IsPosted, Seeks}
 use Rattle.match_features.specs.declared.keys.FeatureKey.{FeatureKey}
 use Rattle.catalogue_editions.specs.declared.edition.Edition.{Edition}
 
@@ -14,3 +15,11 @@ HasFeatureKey x key = HasKey x.features key
 -- whether two have a key in common
 abbrev pub share : Edition → Edition → Bool
 share x y = share_key x.features y.features
+
+-- the key is one under which an index has the edition
+abbrev pub IsPostedUnder : Edition → FeatureKey → Type 0
+IsPostedUnder x key = IsPosted x.features key
+
+-- the key is one by which an index is asked for editions that may match this one
+abbrev pub SeeksKey : Edition → FeatureKey → Type 0
+SeeksKey x key = Seeks x.features key

@@ -9,6 +9,6 @@ use Rattle.catalogue_editions.specs.declared.op.Op.{Op}
 use Rattle.catalogue_editions.specs.declared.op.Op.TheVariants.{Load, Withdraw}
 
 -- a record of status `d` withdraws the record that the library has under its control number, whatever else it has; a record
--- of another status loads its edition, where it can be loaded
-abbrev pub op : List ℕ → Record → Option Op
-op library r = (if is_deleted r.leader.status then Some (Withdraw (control_number r)) else option_map Load (edition library r))
+-- of another status loads its edition, by the preference, where it can be loaded
+abbrev pub op : List (List ℕ) → List ℕ → Record → Option Op
+op prefer library r = (if is_deleted r.leader.status then Some (Withdraw (control_number r)) else option_map Load (edition prefer library r))

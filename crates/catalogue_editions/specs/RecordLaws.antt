@@ -118,8 +118,9 @@ fixed-text fields all =
 abbrev pub is_loaded : List ℕ → Record → Bool
 is_loaded library r = (is_library_code library && is_loadable r) && (are_printable r.leader && list_all is_short r.fields)
 
-pub sound_record : (library : List ℕ) (r : Record) → IsTrue (is_loaded library r) → IsTrue (is_sound (content library r))
-sound_record library r loaded =
+pub sound_record : (prefer : List (List ℕ)) (library : List ℕ) (r : Record) → IsTrue (is_loaded library r)
+    → IsTrue (is_sound (content prefer library r))
+sound_record prefer library r loaded =
     let halves = both_true (is_library_code library && is_loadable r) (are_printable r.leader && list_all is_short r.fields) loaded in
     let front = both_true (is_library_code library) (is_loadable r) halves.0 in
     let back = both_true (are_printable r.leader) (list_all is_short r.fields) halves.1 in
@@ -131,8 +132,8 @@ sound_record library r loaded =
     let sized = both_true (how_many (codes "008") r.fields == 1) (length (text_under (codes "008") r.fields) == 40) shape.0 in
     let storable : list_all is_storable r.fields ≡ true = both-all is_short is_utf8_field r.fields back.1 described.1 in
     let (title, is) = title-from_loadable r front.1 in
-    let k = rank library r in
-    sound_whole (content library r) (record {
+    let k = rank prefer library r in
+    sound_whole (content prefer library r) (record {
       ids = true_both (is_id (contributor library r)) true (true_both (is_library_code library) (has_number_shape (control_number r)) front.0 number.1) refl;
       fixed = true_both (are_edition_codes (codes_of r.leader)) _
           (true_both (are_printable (codes_of r.leader)) true (codes-printable r.leader back.0) refl)

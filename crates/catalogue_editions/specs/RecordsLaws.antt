@@ -11,6 +11,8 @@ where_true-some : {A : Type 0} (b : Bool) (value : b ≡ true → A) (x : A) →
 where_true-some true value x same h = ap Some (same refl)
 where_true-some false value x same h = cc
 
-pub edition-is : (library : List ℕ) (r : Record) (e : Edition) → IsTrue (is_loaded library r) → IsEditionOf library r e → edition library r ≡ Some e
-edition-is library r e loaded is =
-    where_true-some (is_loaded library r) (edition_made library r) e (λ h. same_editions (edition_made library r h) e (sym is.features) (sym is.content)) loaded
+pub edition-is : (prefer : List (List ℕ)) (library : List ℕ) (r : Record) (e : Edition) → IsTrue (is_loaded library r) → IsEditionOf prefer library r e
+    → edition prefer library r ≡ Some e
+edition-is prefer library r e loaded is =
+    where_true-some (is_loaded library r) (edition_made prefer library r) e
+    (λ h. same_editions (edition_made prefer library r h) e (sym is.features) (sym is.content)) loaded

@@ -7,7 +7,8 @@ use union_base::library_code::LibraryCode;
 use union_base::sequence::Sequence;
 
 /// What a library does with its records in one turn: 1 to `LARGEST_BATCH` operations, in order. Each edition that is loaded
-/// has one contributor, a record of this library.
+/// has one contributor, a record of this library, and one level in all its ranks, at most that of the first library of a
+/// preference.
 #[derive(Debug)]
 pub struct Batch {
     pub library: LibraryCode,

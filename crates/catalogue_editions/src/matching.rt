@@ -1,11 +1,12 @@
 //! Which editions match, as `specs/Matching.antt` has it: by their features alone.
 ghost use Rattle.std.specs.Prelude.{refl};
 ghost use Rattle.catalogue_editions.specs.Matching.{match as edition_match, HasFeatureKey, share};
-ghost use Rattle.catalogue_editions.specs.MatchLaws.{edition_match_laws, edition_key_laws};
+ghost use Rattle.catalogue_editions.specs.Matching.{IsPostedUnder, SeeksKey};
+ghost use Rattle.catalogue_editions.specs.MatchLaws.{edition_match_laws, edition_key_laws, edition_seeking_laws};
 ghost use Rattle.catalogue_editions.specs.ExactKeys.{exact_keys};
 
 use crate::edition::Edition;
-use match_features::keys::{FeatureKey, feature_keys};
+use match_features::keys::{FeatureKey, feature_keys, posted_keys, sought_keys};
 use merge_laws::resolvable::Resolvable;
 use merge_laws::steps::Steps;
 use std::alloc::Global;
@@ -22,6 +23,10 @@ impl Resolvable for Edition {
 
     ghost shares = { share };
 
+    ghost is_posted = { IsPostedUnder };
+
+    ghost seeks = { SeeksKey };
+
     fn matches<L: Ledger>(&self, other: &Edition, steps: &mut Steps<L>) -> bool {
         steps.tick();
         self.features().meets(other.features())
@@ -29,6 +34,14 @@ impl Resolvable for Edition {
 
     fn index_keys(&self, alloc: Global) -> Result<Vec<FeatureKey>, Memory> {
         feature_keys(alloc, self.features())
+    }
+
+    fn posted_keys(&self, alloc: Global) -> Result<Vec<FeatureKey>, Memory> {
+        posted_keys(alloc, self.features())
+    }
+
+    fn sought_keys(&self, alloc: Global) -> Result<Vec<FeatureKey>, Memory> {
+        sought_keys(alloc, self.features())
     }
 
     fn copy_key(alloc: Global, key: &FeatureKey) -> Result<FeatureKey, Memory> {
@@ -39,22 +52,44 @@ impl Resolvable for Edition {
 
     ghost key_laws = { edition_key_laws };
 
+    ghost seeking_laws = { edition_seeking_laws };
+
     ghost exact_keys = { exact_keys (record {
       controls = λ p q. refl;
       isbns = λ a b. refl;
       issns = λ a b. refl;
       titles = λ a b. refl;
+      pairs = λ p q. refl;
+      manys = λ a b. refl;
       control_isbn = λ p b. refl;
       control_issn = λ p b. refl;
       control_title = λ p b. refl;
+      control_pair = λ p q. refl;
+      control_many = λ p b. refl;
       isbn_control = λ a q. refl;
       isbn_issn = λ a b. refl;
       isbn_title = λ a b. refl;
+      isbn_pair = λ a q. refl;
+      isbn_many = λ a b. refl;
       issn_control = λ a q. refl;
       issn_isbn = λ a b. refl;
       issn_title = λ a b. refl;
+      issn_pair = λ a q. refl;
+      issn_many = λ a b. refl;
       title_control = λ a q. refl;
       title_isbn = λ a b. refl;
       title_issn = λ a b. refl;
+      title_pair = λ a q. refl;
+      title_many = λ a b. refl;
+      pair_control = λ p q. refl;
+      pair_isbn = λ p b. refl;
+      pair_issn = λ p b. refl;
+      pair_title = λ p b. refl;
+      pair_many = λ p b. refl;
+      many_control = λ a q. refl;
+      many_isbn = λ a b. refl;
+      many_issn = λ a b. refl;
+      many_title = λ a b. refl;
+      many_pair = λ a q. refl;
     }) };
 }

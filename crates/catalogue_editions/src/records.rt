@@ -13,6 +13,7 @@ use crate::edition::{Edition, EditionParts};
 use crate::laws::accepted_can_be_loaded;
 use crate::op::Op;
 use field_merge::making::content_of;
+use field_merge::preference::Preference;
 use marc_fields::marc_record::Record;
 use marc_parts::loads::is_deleted;
 use marc_parts::parts::control_number;
@@ -22,21 +23,26 @@ use union_base::bytes::Bytes;
 use union_base::library_code::LibraryCode;
 use union_base::memory::Memory;
 
-/// The edition of a record that the library loads: the features and the content of that record. Each accepted record that
+/// The edition of a record that the library loads: the features of that record and, by the preference, its content. Each accepted record that
 /// is no withdrawal can be loaded, and a frame can store its fields (`laws::accepted_can_be_loaded`).
 ///
 /// Returns `Memory` if allocation fails.
-pub fn edition_of(alloc: Global, library: &LibraryCode, rec: Record) -> Result<Edition, Memory>
+pub fn edition_of(
+    alloc: Global,
+    prefer: &Preference,
+    library: &LibraryCode,
+    rec: Record,
+) -> Result<Edition, Memory>
     requires loadable { IsTrue (is_loadable rec) }
     requires short { IsTrue (list_all is_short rec.fields) }
-    ensures parts { IfOk result (λ e. IsEditionOf library.now rec e) }
-    ensures value { IfOk result (λ e. edition library.now rec ≡ Some e) }
+    ensures parts { IfOk result (λ e. IsEditionOf prefer.now library.now rec e) }
+    ensures value { IfOk result (λ e. edition prefer.now library.now rec ≡ Some e) }
 {
     rec.leader.prints();
     let _code = library.bytes();
     let parts = EditionParts {
         features: features_of(alloc, library, &rec)?,
-        content: content_of(alloc, library, rec)?,
+        content: content_of(alloc, prefer, library, rec)?,
     };
     Edition::of(alloc, parts)
 }
@@ -51,12 +57,17 @@ pub fn control_of(alloc: Global, rec: &Record) -> Result<Bytes, Memory>
 }
 
 /// What the library's record asks for: the withdrawal of the record under its control number where its status is `d`, and
-/// else the load of its edition.
+/// else the load of its edition by the preference.
 ///
 /// Returns `Memory` if allocation fails.
-pub fn op_of(alloc: Global, library: &LibraryCode, rec: Record) -> Result<Op, Memory>
+pub fn op_of(
+    alloc: Global,
+    prefer: &Preference,
+    library: &LibraryCode,
+    rec: Record,
+) -> Result<Op, Memory>
     requires { IsAccepted rec }
-    ensures value { IfOk result (λ done. op library.now rec ≡ Some done) }
+    ensures value { IfOk result (λ done. op prefer.now library.now rec ≡ Some done) }
     ensures own { IfOk result (λ done. IsTrue (is_own_op library.now done)) }
 {
     if is_deleted(rec.leader.status) {
@@ -64,7 +75,7 @@ pub fn op_of(alloc: Global, library: &LibraryCode, rec: Record) -> Result<Op, Me
         Ok(Op::Withdraw(number))
     } else {
         accepted_can_be_loaded();
-        let edition = edition_of(alloc, library, rec)?;
+        let edition = edition_of(alloc, prefer, library, rec)?;
         Ok(Op::Load(edition))
     }
 }

@@ -45,7 +45,7 @@ pub struct Delivery {
 }
 
 /// Writes four digits.
-fn put_digits(frame: &mut [u8], at: usize, number: u64)
+pub fn put_digits(frame: &mut [u8], at: usize, number: u64)
     requires { at + 4 ≤ length frame.old }
 {
     frame[at] = b'0' + (number / 1000 % 10) as u8;
@@ -55,7 +55,7 @@ fn put_digits(frame: &mut [u8], at: usize, number: u64)
 }
 
 /// The code of one of three libraries.
-fn library(place: usize) -> Result<LibraryCode, Fail> {
+pub fn library(place: usize) -> Result<LibraryCode, Fail> {
     let code: &[u8] = match place {
         0 => b"LIBA",
         1 => b"LIBB",
@@ -92,13 +92,13 @@ pub fn batch_of(alloc: Global, place: usize, deliveries: &[Delivery; 3]) -> Resu
 
 /// Numbers that are drawn one after the other.
 #[derive(Drop)]
-struct Draws {
-    state: u64,
+pub struct Draws {
+    pub state: u64,
 }
 
 impl Draws {
     /// A number below the bound.
-    fn below(&mut self, bound: u64) -> u64
+    pub fn below(&mut self, bound: u64) -> u64
         requires { 0 < bound }
     {
         self.state = self
@@ -199,7 +199,7 @@ fn same_records(
 }
 
 /// Whether the two answer the same.
-fn same_answers(
+pub fn same_answers(
     alloc: Global,
     catalogue: &Catalogue,
     plain: &PlainCatalogue,

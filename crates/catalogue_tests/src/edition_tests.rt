@@ -29,10 +29,10 @@ const OTHER_TYPE: &[u8] =
     b"00148nim a2200073 a 4500001000300000008004100003020002200044245000800066\x1Er2\x1E240101s1999    xx                  eng d\x1E  \x1Fa978-0-306-40615-7\x1E00\x1FaCat\x1E\x1D";
 
 /// A full record, and a later one that is less full and has a 240.
-const FULL: &[u8] =
+pub const FULL: &[u8] =
     b"00170nam a2200085 a 4500001000300000005001700003008004100020020001500061245000800076\x1Ex1\x1E20200101000000.0\x1E240101s1999    xx                  eng d\x1E  \x1Fa0306406152\x1E00\x1FaCat\x1E\x1D";
 
-const LATER: &[u8] =
+pub const LATER: &[u8] =
     b"00195nam a22000977a 4500001000300000005001700003008004100020020001500061240000900076245001200085\x1Ey1\x1E20240101000000.0\x1E240101s2001    xx                  eng d\x1E  \x1Fa0306406152\x1E10\x1FaCats\x1E04\x1FaThe cat\x1E\x1D";
 
 /// What the editions resolve to, in order, in a ledger of their own.

@@ -8,6 +8,8 @@
 #[cfg(test)]
 mod answer_tests;
 #[cfg(test)]
+mod common_title_tests;
+#[cfg(test)]
 mod comparing_tests;
 #[cfg(test)]
 mod edition_tests;
@@ -17,6 +19,8 @@ mod export_tests;
 mod history_tests;
 #[cfg(test)]
 mod plain_catalogue;
+#[cfg(test)]
+mod preference_tests;
 #[cfg(test)]
 mod prepared_tests;
 #[cfg(test)]

@@ -8,6 +8,7 @@ use catalogue_core::edition::Edition;
 use catalogue_core::laws::accepted_can_be_loaded;
 use catalogue_core::op::Op;
 use catalogue_core::records::{edition_of, op_of};
+use field_merge::preference::Preference;
 use iso2709_frame::cut::Cut;
 use marc_fields::decoding::is_frame;
 use marc_fields::marc_record::Record;
@@ -48,12 +49,24 @@ pub fn record_in(alloc: Global, frame: &[u8]) -> Result<Record, Fail>
     }
 }
 
-/// The operation that the library's record asks for.
+/// The operation that the library's record asks for, without a preference.
 pub fn op_in(alloc: Global, library: &LibraryCode, frame: &[u8]) -> Result<Op, Fail>
     ensures { IfOk result (λ op. IsTrue (is_own_op library.now op)) }
 {
+    op_by(alloc, &Preference::none(), library, frame)
+}
+
+/// The operation that the library's record asks for, by the preference.
+pub fn op_by(
+    alloc: Global,
+    prefer: &Preference,
+    library: &LibraryCode,
+    frame: &[u8],
+) -> Result<Op, Fail>
+    ensures { IfOk result (λ op. IsTrue (is_own_op library.now op)) }
+{
     let rec = record_in(alloc, frame)?;
-    Ok(op_of(alloc, library, rec)?)
+    Ok(op_of(alloc, prefer, library, rec)?)
 }
 
 /// The batch of the library that has one operation, which its record asks for.
@@ -64,13 +77,23 @@ pub fn batch_of_one(alloc: Global, library: &str, frame: &[u8]) -> Result<Batch,
     Ok(Batch::of(library, ops))
 }
 
-/// The edition of the library's record, which is no withdrawal.
+/// The edition of the library's record, which is no withdrawal, without a preference.
 pub fn edition_in(alloc: Global, library: &str, frame: &[u8]) -> Result<Edition, Fail> {
+    edition_by(alloc, &Preference::none(), library, frame)
+}
+
+/// The edition of the library's record, which is no withdrawal, by the preference.
+pub fn edition_by(
+    alloc: Global,
+    prefer: &Preference,
+    library: &str,
+    frame: &[u8],
+) -> Result<Edition, Fail> {
     let library = library_of(library)?;
     let rec = record_in(alloc, frame)?;
     if is_deleted(rec.leader.status) {
         return Err("a record that is loaded")?;
     }
     accepted_can_be_loaded();
-    Ok(edition_of(alloc, &library, rec)?)
+    Ok(edition_of(alloc, prefer, &library, rec)?)
 }

@@ -1,2 +1,3 @@
+pub mod PreferredLaws
 pub mod Gathering
 pub mod Members

@@ -65,17 +65,17 @@ contributor library r = record { library = library; control = control_number r }
 abbrev pub untitled : Field
 untitled = record { tag = codes "245"; body = Data 0x20 0x20 (record { code = 0x61; text = [] } ∷ []); well_formed = refl }
 
--- the content of a library's record
-abbrev pub content : List ℕ → Record → Content
-content library r = record {
+-- the content of a library's record, by a preference
+abbrev pub content : List (List ℕ) → List ℕ → Record → Content
+content prefer library r = record {
   contributors = contributor library r ∷ [];
-  fixed = fixed_part (rank library r) r;
-  f005 = option_map (slot (rank library r)) (first_under (codes "005") r.fields);
-  f010 = option_map (slot (rank library r)) (first_under (codes "010") r.fields);
-  f040 = option_map (slot (rank library r)) (first_under (codes "040") r.fields);
-  f1xx = option_map (slot (rank library r)) (find is_main_entry r.fields);
-  f240 = option_map (slot (rank library r)) (first_under (codes "240") r.fields);
-  f245 = slot (rank library r) (unwrap_or (first_under (codes "245") r.fields) untitled);
+  fixed = fixed_part (rank prefer library r) r;
+  f005 = option_map (slot (rank prefer library r)) (first_under (codes "005") r.fields);
+  f010 = option_map (slot (rank prefer library r)) (first_under (codes "010") r.fields);
+  f040 = option_map (slot (rank prefer library r)) (first_under (codes "040") r.fields);
+  f1xx = option_map (slot (rank prefer library r)) (find is_main_entry r.fields);
+  f240 = option_map (slot (rank prefer library r)) (first_under (codes "240") r.fields);
+  f245 = slot (rank prefer library r) (unwrap_or (first_under (codes "245") r.fields) untitled);
   united = set_of field_cmp (filter is_united r.fields);
   kept = kept-one (contributor library r) (filter is_united r.fields);
 }

@@ -8,4 +8,6 @@ pub mod MergingLaws
 pub mod OrderLaws
 pub mod Orders
 pub mod Parts
+pub mod PreferenceLaws
+pub mod Preferences
 pub mod Ranks

@@ -33,9 +33,15 @@ fixed_total =
 
 pub ranks_apart : IsAntisymmetric rank_cmp
 ranks_apart x y e =
-    let same = pairs_apart nat_cmp-IsAntisymmetric (pairs_apart texts_apart (pairs_apart texts_apart texts_apart))
-    (x.class, (x.stamp, (x.library, x.control))) (y.class, (y.stamp, (y.library, y.control))) e in
-    λ i. record { class = (same i).0; stamp = (same i).1.0; library = (same i).1.1.0; control = (same i).1.1.1 }
+    let same = pairs_apart nat_cmp-IsAntisymmetric (pairs_apart nat_cmp-IsAntisymmetric (pairs_apart texts_apart (pairs_apart texts_apart texts_apart)))
+    (x.level, (x.class, (x.stamp, (x.library, x.control)))) (y.level, (y.class, (y.stamp, (y.library, y.control)))) e in
+    λ i. record {
+      level = (same i).0;
+      class = (same i).1.0;
+      stamp = (same i).1.1.0;
+      library = (same i).1.1.1.0;
+      control = (same i).1.1.1.1;
+    }
 
 pub slots_apart : IsAntisymmetric slot_cmp
 slots_apart x y e =

@@ -8,11 +8,11 @@ use Rattle.field_merge.specs.declared.rank.Rank.{Rank}
 use Rattle.field_merge.specs.declared.slot.Slot.{Slot}
 use Rattle.field_merge.specs.declared.fixed.Fixed.{Fixed}
 
--- by rank: class, stamp, library, control number
+-- by rank: level, class, stamp, library, control number
 abbrev pub rank_cmp : Rank → Rank → Ordering
 rank_cmp =
-    then_cmp (on (λ r. r.class) nat_cmp) (then_cmp (on (λ r. r.stamp) (slice_cmp nat_cmp))
-    (then_cmp (on (λ r. r.library) (slice_cmp nat_cmp)) (on (λ r. r.control) (slice_cmp nat_cmp))))
+    then_cmp (on (λ r. r.level) nat_cmp) (then_cmp (on (λ r. r.class) nat_cmp) (then_cmp (on (λ r. r.stamp) (slice_cmp nat_cmp))
+    (then_cmp (on (λ r. r.library) (slice_cmp nat_cmp)) (on (λ r. r.control) (slice_cmp nat_cmp)))))
 
 abbrev pub slot_cmp : Slot → Slot → Ordering
 slot_cmp = then_cmp (on (λ s. s.rank) rank_cmp) (on (λ s. s.field) field_cmp)

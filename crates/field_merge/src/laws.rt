@@ -34,16 +34,16 @@ pub fn slots_of_a_merge()
 
 /// The united fields of a record's content are those of the record's fields that are united.
 pub fn united_fields_of_a_record()
-    ensures { (library : List ℕ) (r : Record) (field : Field)
-        → Contains (content library r).united field ↔ (Contains r.fields field × IsTrue (is_united field)) }
+    ensures { (prefer : List (List ℕ)) (library : List ℕ) (r : Record) (field : Field)
+        → Contains (content prefer library r).united field ↔ (Contains r.fields field × IsTrue (is_united field)) }
 {}
 
 /// The fields in the slots of a record's content are fields of the record; the title too, where the record can be loaded.
 pub fn slots_of_a_record()
-    ensures f005 { (library : List ℕ) (r : Record) → IfSome (content library r).f005 (λ s. Contains r.fields s.field) }
-    ensures f010 { (library : List ℕ) (r : Record) → IfSome (content library r).f010 (λ s. Contains r.fields s.field) }
-    ensures f040 { (library : List ℕ) (r : Record) → IfSome (content library r).f040 (λ s. Contains r.fields s.field) }
-    ensures f1xx { (library : List ℕ) (r : Record) → IfSome (content library r).f1xx (λ s. Contains r.fields s.field) }
-    ensures f240 { (library : List ℕ) (r : Record) → IfSome (content library r).f240 (λ s. Contains r.fields s.field) }
-    ensures f245 { (library : List ℕ) (r : Record) → IsTrue (is_loadable r) → Contains r.fields (content library r).f245.field }
+    ensures f005 { (prefer : List (List ℕ)) (library : List ℕ) (r : Record) → IfSome (content prefer library r).f005 (λ s. Contains r.fields s.field) }
+    ensures f010 { (prefer : List (List ℕ)) (library : List ℕ) (r : Record) → IfSome (content prefer library r).f010 (λ s. Contains r.fields s.field) }
+    ensures f040 { (prefer : List (List ℕ)) (library : List ℕ) (r : Record) → IfSome (content prefer library r).f040 (λ s. Contains r.fields s.field) }
+    ensures f1xx { (prefer : List (List ℕ)) (library : List ℕ) (r : Record) → IfSome (content prefer library r).f1xx (λ s. Contains r.fields s.field) }
+    ensures f240 { (prefer : List (List ℕ)) (library : List ℕ) (r : Record) → IfSome (content prefer library r).f240 (λ s. Contains r.fields s.field) }
+    ensures f245 { (prefer : List (List ℕ)) (library : List ℕ) (r : Record) → IsTrue (is_loadable r) → Contains r.fields (content prefer library r).f245.field }
 {}

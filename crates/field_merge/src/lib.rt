@@ -16,5 +16,6 @@ pub mod laws;
 pub mod making;
 pub mod merging;
 pub mod parts;
+pub mod preference;
 pub mod rank;
 pub mod slot;

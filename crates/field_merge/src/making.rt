@@ -10,6 +10,7 @@ ghost use Rattle.field_merge.specs.Contents.{codes_of, contributor, fixed_part, 
 use crate::content::Content;
 use crate::fixed::Fixed;
 use crate::parts::parts_of;
+use crate::preference::Preference;
 use crate::rank::{Rank, rank_of};
 use marc_fields::marc_record::Record;
 use marc_leader::codes::LeaderCodes;
@@ -21,13 +22,18 @@ use union_base::memory::Memory;
 use union_base::record_id::RecordId;
 use union_base::sorted_list::SortedList;
 
-/// The content of a library's record. Returns `Memory` if allocation fails.
-pub fn content_of(alloc: Global, library: &LibraryCode, rec: Record) -> Result<Content, Memory>
+/// The content of a library's record, by the preference. Returns `Memory` if allocation fails.
+pub fn content_of(
+    alloc: Global,
+    prefer: &Preference,
+    library: &LibraryCode,
+    rec: Record,
+) -> Result<Content, Memory>
     requires { IsTrue (is_loadable rec) }
-    ensures { IfOk result (λ c. c ≡ content library.now rec) }
+    ensures { IfOk result (λ c. c ≡ content prefer.now library.now rec) }
 {
     let contributors = contributors_of(alloc, library, &rec)?;
-    let fixed = fixed_of(alloc, rank_of(alloc, library, &rec)?, &rec)?;
+    let fixed = fixed_of(alloc, rank_of(alloc, prefer, library, &rec)?, &rec)?;
     let parts = parts_of(alloc, &fixed.rank, rec.fields.into_vec())?;
     Ok(Content {
         contributors,

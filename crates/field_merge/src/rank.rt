@@ -6,6 +6,7 @@ ghost use Rattle.field_merge.specs.Orders.{rank_cmp};
 ghost use Rattle.field_merge.specs.OrderLaws.{rank_total};
 ghost use Rattle.field_merge.specs.Ranks.{class_of, stamp_of, rank};
 
+use crate::preference::Preference;
 use marc_fields::marc_record::Record;
 use marc_parts::parts::{control_number, text_under};
 use std::alloc::Global;
@@ -23,6 +24,9 @@ pub const STAMP_SIZE: usize = 16;
 /// What a rank has (this project's own), compared by these fields in their order. The greater is the better.
 #[derive(Debug, PartialEq, Eq, PartialOrd, Ord, Drop)]
 pub struct RankParts {
+    /// How the library is preferred, from `MOST_CODES` for the first library of a preference down to 0 for one without a
+    /// place in it.
+    pub level: u8,
     /// How full the record is by its encoding level, from 9 for a full one down to 0.
     pub class: u8,
     /// When the record was last changed: the text of field 005, or sixteen `0`.
@@ -125,11 +129,17 @@ impl Ord for Rank {
     }
 }
 
-/// The rank of a library's record. Returns `Memory` if allocation fails.
-pub fn rank_of(alloc: Global, library: &LibraryCode, rec: &Record) -> Result<Rank, Memory>
-    ensures { IfOk result (λ r. r ≡ rank library.now rec.now) }
+/// The rank of a library's record, by the preference. Returns `Memory` if allocation fails.
+pub fn rank_of(
+    alloc: Global,
+    prefer: &Preference,
+    library: &LibraryCode,
+    rec: &Record,
+) -> Result<Rank, Memory>
+    ensures { IfOk result (λ r. r ≡ rank prefer.now library.now rec.now) }
 {
     let parts = RankParts {
+        level: prefer.level(library),
         class: class_of(rec.leader.encoding),
         stamp: stamp_of(text_under(b"005", rec.fields.as_slice())),
         library: *library,
@@ -140,10 +150,10 @@ pub fn rank_of(alloc: Global, library: &LibraryCode, rec: &Record) -> Result<Ran
 
 /// How full a record of that encoding level is (MARC 21, leader/17), from 9 for a full one down to 0 for a code that says
 /// nothing of it (this project's own). Takes no memory.
-pub fn class_of(level: u8) -> u8
-    ensures { result ≡ class_of level }
+pub fn class_of(encoding: u8) -> u8
+    ensures { result ≡ class_of encoding }
 {
-    match level {
+    match encoding {
         b' ' => 9,
         b'1' | b'I' => 8,
         b'4' => 7,

@@ -1,21 +1,26 @@
-//! Contents and merges whose expected values another program made, and classes.
+//! Preferences, contents and merges whose expected values another program made, and classes.
 
-use crate::frames::{next_library, next_record};
-use crate::made::{Made, makes, merges};
-use crate::tables::assert_cases;
+use crate::frames::{next_library, next_preference, next_record};
+use crate::made::{Made, makes, merges, merges_three};
+use crate::tables::{CELL_END, assert_cases, next_cell};
 use field_merge::content::Content;
 use field_merge::fixed::Fixed;
 use field_merge::making::content_of;
-use field_merge::rank::{Rank, class_of};
+use field_merge::preference::Preference;
+use field_merge::rank::{Rank, RankParts, STAMP_SIZE, class_of};
 use field_merge::slot::Slot;
 use marc_leader::codes::LeaderCodes;
 use std::alloc::Global;
+use std::mem::size_of;
 use std::str::Split;
 use std::test::Fail;
+use union_base::bytes::Bytes;
 use union_base::field::Field;
+use union_base::library_code::LibraryCode;
 use union_base::memory::Memory;
 
 mod cases;
+mod preferences;
 
 #[test]
 fn contents_of_records(rt: HostRuntime) -> Result<(), Fail> {
@@ -25,6 +30,65 @@ fn contents_of_records(rt: HostRuntime) -> Result<(), Fail> {
 #[test]
 fn merges_of_contents(rt: HostRuntime) -> Result<(), Fail> {
     assert_cases(&rt, rt.alloc(), cases::MERGES, 65, merges::<Content>)
+}
+
+#[test]
+fn texts_of_preferences(rt: HostRuntime) -> Result<(), Fail> {
+    assert!(rt; Preference::read(b"LIBA,\xFF").is_none());
+    assert_cases(&rt, rt.alloc(), preferences::TEXTS, 48, reads_preference)
+}
+
+#[test]
+fn contents_by_preference(rt: HostRuntime) -> Result<(), Fail> {
+    assert_cases(&rt, rt.alloc(), preferences::RECORDS, 10, makes::<Content>)
+}
+
+#[test]
+fn merges_by_preference(rt: HostRuntime) -> Result<(), Fail> {
+    assert_cases(&rt, rt.alloc(), preferences::PAIRS, 45, merges::<Content>)?;
+    assert_cases(
+        &rt,
+        rt.alloc(),
+        preferences::TRIPLES,
+        30,
+        merges_three::<Content>,
+    )
+}
+
+/// Whether the text of a case is read as a preference in which the libraries have these levels, or as none where `-` stands.
+fn reads_preference(_alloc: Global, case: &str) -> Result<bool, Fail> {
+    let mut cells = case.split(CELL_END);
+    let read = Preference::read(next_cell(&mut cells)?.as_bytes());
+    match read {
+        Some(preference) => has_levels(&preference, &mut cells),
+        None => Ok(next_cell(&mut cells)? == "-"),
+    }
+}
+
+/// Whether the libraries of the cells have the levels behind them, one at least.
+fn has_levels(preference: &Preference, cells: &mut Split<'_, char>) -> Result<bool, Fail> {
+    let mut agrees = false;
+    for _ in 0..u64::MAX {
+        match cells.next() {
+            Some(text) => {
+                let library = LibraryCode::read(text.as_bytes()).ok_or("a library code")?;
+                let level: u8 = next_cell(cells)?.parse()?;
+                if preference.level(&library) != level {
+                    return Ok(false);
+                }
+                agrees = true;
+            }
+            None => return Ok(agrees),
+        }
+    }
+    Ok(false)
+}
+
+/// The level takes a byte that the other parts leave free.
+#[test]
+fn level_takes_no_room(rt: HostRuntime) {
+    let without = size_of::<(u8, [u8; STAMP_SIZE], LibraryCode, Bytes)>();
+    assert_eq!(rt; size_of::<RankParts>(), without);
 }
 
 #[test]
@@ -53,9 +117,10 @@ fn classes_of_encoding_levels(rt: HostRuntime) {
 
 impl Made for Content {
     fn next_made(alloc: Global, cells: &mut Split<'_, char>) -> Result<Content, Fail> {
+        let prefer = next_preference(cells)?;
         let library = next_library(cells)?;
         let rec = next_record(alloc, cells)?;
-        Ok(content_of(alloc, &library, rec)?)
+        Ok(content_of(alloc, &prefer, &library, rec)?)
     }
 
     /// Line by line.
@@ -109,11 +174,22 @@ fn push_field(text: &mut Vec<u8>, field: &Field) -> Result<(), Memory> {
 
 fn push_rank(text: &mut Vec<u8>, rank: &Rank) -> Result<(), Memory> {
     let parts = rank.parts();
+    push_level(text, parts.level)?;
     text.push(parts.class.saturating_add(b'0'))?;
     text.push(b' ')?;
     text.extend_from_slice(&parts.stamp)?;
     text.push(b' ')?;
     push_id(text, parts.library.bytes(), parts.control.bytes())
+}
+
+/// In two digits, and nothing for 0.
+fn push_level(text: &mut Vec<u8>, level: u8) -> Result<(), Memory> {
+    if level > 0 {
+        text.push(level / 10 + b'0')?;
+        text.push(level % 10 + b'0')?;
+        text.push(b' ')?;
+    }
+    Ok(())
 }
 
 fn push_id(text: &mut Vec<u8>, library: &[u8], control: &[u8]) -> Result<(), Memory> {

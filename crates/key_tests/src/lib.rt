@@ -19,6 +19,8 @@ mod match_features_tests;
 #[cfg(test)]
 mod naco_normal_tests;
 #[cfg(test)]
+mod posted_keys_tests;
+#[cfg(test)]
 mod tables;
 #[cfg(test)]
 mod workset_keys_tests;

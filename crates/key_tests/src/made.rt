@@ -10,7 +10,7 @@ use union_base::memory::Memory;
 
 /// What is made of a library's record.
 pub(crate) trait Made: Join {
-    /// What is made of the record of the next two cells, a library and a frame.
+    /// What is made of the record of the next cells, which end in a library and a frame.
     fn next_made(alloc: Global, cells: &mut Split<'_, char>) -> Result<Self, Fail>;
 
     /// Writes it as the cases have it.
@@ -32,7 +32,31 @@ pub(crate) fn merges<M: Made>(alloc: Global, case: &str) -> Result<bool, Fail> {
     Ok(merge_is(alloc, &one, &other, expected)? && merge_is(alloc, &other, &one, expected)?)
 }
 
-/// What is made of the two records of the next four cells.
+/// Whether what the three records of a case make merges to what is written in the next cell, whichever is merged last.
+pub(crate) fn merges_three<M: Made>(alloc: Global, case: &str) -> Result<bool, Fail> {
+    let mut cells = case.split(CELL_END);
+    let (one, two) = next_pair::<M>(alloc, &mut cells)?;
+    let three = M::next_made(alloc, &mut cells)?;
+    let expected = cells.next();
+    Ok(
+        merge_with_pair_is(alloc, &one, (&two, &three), expected)?
+            && merge_with_pair_is(alloc, &two, (&three, &one), expected)?
+            && merge_with_pair_is(alloc, &three, (&one, &two), expected)?,
+    )
+}
+
+/// Whether the merge of one with the merge of two is so written.
+fn merge_with_pair_is<M: Made>(
+    alloc: Global,
+    one: &M,
+    pair: (&M, &M),
+    expected: Option<&str>,
+) -> Result<bool, Fail> {
+    let merged = pair.0.joined(alloc, pair.1)?;
+    merge_is(alloc, one, &merged, expected)
+}
+
+/// What is made of the two records of the cells that follow.
 pub(crate) fn next_pair<M: Made>(
     alloc: Global,
     cells: &mut Split<'_, char>,

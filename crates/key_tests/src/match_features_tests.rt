@@ -214,6 +214,8 @@ fn push_key(text: &mut Vec<u8>, key: &FeatureKey) -> Result<(), Memory> {
         FeatureKey::Isbn(isbn) => Ok(text.extend_from_slice(isbn)?),
         FeatureKey::Issn(issn) => Ok(text.extend_from_slice(issn)?),
         FeatureKey::Title(title) => Ok(text.extend_from_slice(title.bytes())?),
+        // None of the keys that features have is one for an index alone.
+        FeatureKey::TitleAndName(_) | FeatureKey::TitleOfMany(_) => Ok(()),
     }
 }
 

@@ -15,13 +15,14 @@ use Rattle.catalogue_editions.proofs.records.edition_of.Goals as goal
 
 pub invariant_of-parts : goal.invariant_of-parts
 invariant_of-parts c =
+    let prefer = c.args.prefer.now in
     let library = c.args.library.now in
     let r = c.args.rec in
     let loaded : IsTrue (is_loaded library r) =
     true_both (is_library_code library && is_loadable r) (are_printable r.leader && list_all is_short r.fields)
     (true_both (is_library_code library) (is_loadable r) c.bytes-code.ensures.code c.requires.loadable)
     (true_both (are_printable r.leader) (list_all is_short r.fields) c.prints.ensures c.requires.short) in
-    let whole = edition_made library r loaded in
+    let whole = edition_made prefer library r loaded in
     record {
       linked = (λ i. are_linked (c.in_ok-content_of.ensures i).contributors (c.in_ok-features_of.ensures i).control) ∙ whole.linked;
       sound = ap is_sound c.in_ok-content_of.ensures ∙ whole.sound;
@@ -29,13 +30,14 @@ invariant_of-parts c =
 
 pub returns-clause-value : goal.returns-clause-value
 returns-clause-value c =
+    let prefer = c.args.prefer.now in
     let library = c.args.library.now in
     let r = c.args.rec in
     let loaded : IsTrue (is_loaded library r) =
     true_both (is_library_code library && is_loadable r) (are_printable r.leader && list_all is_short r.fields)
     (true_both (is_library_code library) (is_loadable r) c.bytes-code.ensures.code c.requires.loadable)
     (true_both (are_printable r.leader) (list_all is_short r.fields) c.prints.ensures c.requires.short) in
-    IfOk-weaker c.of.result _ _ (λ _ made. edition-is library r _ loaded (record {
+    IfOk-weaker c.of.result _ _ (λ _ made. edition-is prefer library r _ loaded (record {
       features = ap (λ e. e.features) made ∙ c.in_ok-features_of.ensures;
       content = ap (λ e. e.content) made ∙ c.in_ok-content_of.ensures;
     })) c.of.ensures

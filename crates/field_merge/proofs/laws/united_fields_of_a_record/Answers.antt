@@ -6,7 +6,7 @@ use Rattle.field_merge.proofs.Members.{members-set_of, member-filter}
 use Rattle.field_merge.proofs.laws.united_fields_of_a_record.Goals as goal
 
 pub returns : goal.returns
-returns c library r field =
+returns c prefer library r field =
     let set = members-set_of field_total field_cmp-IsAntisymmetric (filter is_united r.fields) field in
     let passed = member-filter is_united r.fields field in
     (λ m. passed.0 (set.0 m), λ m. set.1 (passed.1 m))

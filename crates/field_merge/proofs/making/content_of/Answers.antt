@@ -17,12 +17,13 @@ unwrap-requires c =
 
 pub returns : goal.returns
 returns c =
+    let prefer = c.args.prefer.now in
     let library = c.args.library.now in
     let r = c.args.rec in
-    let fixed : c.in_ok-fixed.fixed ≡ fixed_part (rank library r) r = c.in_ok-fixed.ensures ∙ ap (λ k. fixed_part k r) c.in_ok-rank_of.ensures in
+    let fixed : c.in_ok-fixed.fixed ≡ fixed_part (rank prefer library r) r = c.in_ok-fixed.ensures ∙ ap (λ k. fixed_part k r) c.in_ok-rank_of.ensures in
     let parts = subst (λ k. ArePartsOf k r.fields c.in_ok-parts.parts) (ap (λ f. f.rank) fixed)
     (subst (λ fields. ArePartsOf c.in_ok-fixed.fixed.rank fields c.in_ok-parts.parts) c.into_vec.ensures c.in_ok-parts.ensures) in
-    same_contents _ (content library r) (record {
+    same_contents _ (content prefer library r) (record {
       contributors = c.contributors.view_is ∙ c.in_ok-contributors.ensures;
       fixed = fixed;
       f005 = parts.f005;
@@ -30,6 +31,6 @@ returns c =
       f040 = parts.f040;
       f1xx = parts.f1xx;
       f240 = parts.f240;
-      f245 = title-is (rank library r) (first_under (codes "245") r.fields) c.unwrap.result (sym parts.f245 ∙ c.unwrap.ensures);
+      f245 = title-is (rank prefer library r) (first_under (codes "245") r.fields) c.unwrap.result (sym parts.f245 ∙ c.unwrap.ensures);
       united = c.in_ok-of.ensures ∙ ap (set_of field_cmp) parts.united;
     })

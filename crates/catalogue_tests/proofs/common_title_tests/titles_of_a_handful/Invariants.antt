@@ -1,0 +1,5 @@
+-- the ledger of this one catalogue
+use Rattle.catalogue_tests.proofs.common_title_tests.titles_of_a_handful.Given as goal
+
+abbrev pub ghosts-agree : goal.ghosts-agree
+ghosts-agree a b = record { name = b.blank.name; parts = b.blank.parts }
