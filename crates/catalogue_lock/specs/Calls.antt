@@ -39,7 +39,7 @@ pub record IsBusy {S C : Type 0} (v w : View S C) (loaded found : ℕ) : Type 0 
   pub loaded_is : w.loaded ≡ loaded
   pub words : ((loaded % 2 ≡ 1) × (found ≡ loaded) × (w.tries ≡ v.tries)) ⊎ ((loaded % 2 ≡ 0) × (found ≢ loaded) × (w.found ≡ found) × (w.tries ≡ v.tries + 1))
 
--- why a turn was not taken
+-- why a turn was not taken: memory is wanted only after one compare and exchange
 abbrev pub IsRefusal : {S C : Type 0} → View S C → View S C → C → TryRefusal C → Type 0
 IsRefusal v w change (Busy loaded found back) = IsBusy v w loaded found × (back ≡ change)
-IsRefusal v w change Memory = IsRefused v w
+IsRefusal v w change Memory = IsRefused v w × (w.tries ≡ v.tries + 1)

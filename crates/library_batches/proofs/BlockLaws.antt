@@ -6,10 +6,9 @@ use Rattle.std.proofs.lemmas.List.{length-drop, take_all, drop_all}
 use Rattle.std.proofs.lemmas.Bool.{cond-true, cond-false}
 use Rattle.std.proofs.Math.Seq.{take-append_seam, drop-append_seam}
 use Rattle.catalogue_editions.specs.declared.op.Op.{Op}
-use Rattle.catalogue_editions.specs.declared.op.TheConstants.{LARGEST_BATCH}
 use Rattle.catalogue_editions.specs.declared.batch.Batch.{Batch}
 use Rattle.library_batches.specs.Streams.{Frame, is_accepted, accepted}
-use Rattle.library_batches.specs.Batches.{IsOpOf, IsBatchOf, AreBatches, AreFirstBatches, blocks_within, blocks, has_accepted}
+use Rattle.library_batches.specs.Batches.{IsOpOf, IsBatchOf, AreBatches, AreFirstBatches, block_size, blocks_within, blocks, has_accepted}
 
 -- so many blocks are allowed that more would change nothing
 blocks_within-more : (n m : ℕ) (frames : List Frame) → length frames ≤ n → length frames ≤ m → blocks_within n frames ≡ blocks_within m frames
@@ -20,8 +19,8 @@ blocks_within-more (suc n) zero [] one two = refl
 blocks_within-more (suc n) zero (frame ∷ frames) one two = absurd (omega arith)
 blocks_within-more (suc n) (suc m) [] one two = refl
 blocks_within-more (suc n) (suc m) (frame ∷ frames) one two =
-    let fewer : length (drop LARGEST_BATCH (frame ∷ frames)) ≤ length frames = omega (arith, length-drop LARGEST_BATCH (frame ∷ frames)) in
-    ap (λ bs. take LARGEST_BATCH (frame ∷ frames) ∷ bs) (blocks_within-more n m (drop LARGEST_BATCH (frame ∷ frames)) (omega arith) (omega arith))
+    let fewer : length (drop block_size (frame ∷ frames)) ≤ length frames = omega (arith, length-drop block_size (frame ∷ frames)) in
+    ap (λ bs. take block_size (frame ∷ frames) ∷ bs) (blocks_within-more n m (drop block_size (frame ∷ frames)) (omega arith) (omega arith))
 
 -- a prefix of that length
 front_of : {A : Type 0} (n : ℕ) (xs ys : List A) → length xs ≡ n → take n (xs ++ ys) ≡ xs
@@ -31,11 +30,11 @@ rest_of : {A : Type 0} (n : ℕ) (xs ys : List A) → length xs ≡ n → drop n
 rest_of n xs ys is = subst (λ k. drop k (xs ++ ys) ≡ ys) is (drop-append_seam xs ys)
 
 -- a whole block, and what is after it
-blocks-whole : (taken still : List Frame) → length taken ≡ LARGEST_BATCH → blocks (taken ++ still) ≡ taken ∷ blocks still
+blocks-whole : (taken still : List Frame) → length taken ≡ block_size → blocks (taken ++ still) ≡ taken ∷ blocks still
 blocks-whole [] still whole = absurd (omega arith)
 blocks-whole (frame ∷ taken) still whole =
-    let behind : drop LARGEST_BATCH ((frame ∷ taken) ++ still) ≡ still = rest_of LARGEST_BATCH (frame ∷ taken) still whole in
-    ap (λ block. block ∷ blocks_within (length (taken ++ still)) (drop LARGEST_BATCH ((frame ∷ taken) ++ still))) (front_of LARGEST_BATCH (frame ∷ taken) still whole)
+    let behind : drop block_size ((frame ∷ taken) ++ still) ≡ still = rest_of block_size (frame ∷ taken) still whole in
+    ap (λ block. block ∷ blocks_within (length (taken ++ still)) (drop block_size ((frame ∷ taken) ++ still))) (front_of block_size (frame ∷ taken) still whole)
     ∙ ap (λ rest. (frame ∷ taken) ∷ rest) (ap (blocks_within (length (taken ++ still))) behind
     ∙ blocks_within-more (length (taken ++ still)) (length still) still (omega (arith, length-append taken still)) (omega arith))
 
@@ -44,10 +43,10 @@ blocks_within-none zero = refl
 blocks_within-none (suc n) = refl
 
 -- the last block
-blocks-last : (frame : Frame) (taken : List Frame) → length (frame ∷ taken) ≤ LARGEST_BATCH → blocks (frame ∷ taken) ≡ (frame ∷ taken) ∷ []
+blocks-last : (frame : Frame) (taken : List Frame) → length (frame ∷ taken) ≤ block_size → blocks (frame ∷ taken) ≡ (frame ∷ taken) ∷ []
 blocks-last frame taken most =
-    ap (λ block. block ∷ blocks_within (length taken) (drop LARGEST_BATCH (frame ∷ taken))) (take_all LARGEST_BATCH (frame ∷ taken) most)
-    ∙ ap (λ rest. (frame ∷ taken) ∷ rest) (ap (blocks_within (length taken)) (drop_all LARGEST_BATCH (frame ∷ taken) most) ∙ blocks_within-none (length taken))
+    ap (λ block. block ∷ blocks_within (length taken) (drop block_size (frame ∷ taken))) (take_all block_size (frame ∷ taken) most)
+    ∙ ap (λ rest. (frame ∷ taken) ∷ rest) (ap (blocks_within (length taken)) (drop_all block_size (frame ∷ taken) most) ∙ blocks_within-none (length taken))
 
 -- the blocks that have batches
 abbrev pub turning : List Frame → List (List Frame)
@@ -55,9 +54,9 @@ turning frames = filter has_accepted (blocks frames)
 
 -- a block is whole, or nothing is after it
 abbrev pub IsBlockBefore : List Frame → List Frame → Type 0
-IsBlockBefore taken still = (length taken ≡ LARGEST_BATCH) ⊎ (still ≡ []) × (length taken ≤ LARGEST_BATCH)
+IsBlockBefore taken still = (length taken ≡ block_size) ⊎ (still ≡ []) × (length taken ≤ block_size)
 
-turning-last : (taken : List Frame) → length taken ≤ LARGEST_BATCH → turning taken ≡ filter has_accepted (taken ∷ [])
+turning-last : (taken : List Frame) → length taken ≤ block_size → turning taken ≡ filter has_accepted (taken ∷ [])
 turning-last [] most = refl
 turning-last (frame ∷ taken) most = ap (filter has_accepted) (blocks-last frame taken most)
 
@@ -96,11 +95,11 @@ list_any-filter p (x ∷ xs) =
     elim (p x) as (λ b. (b || list_any p xs) ≡ some_in (cond b (x ∷ filter p xs) (filter p xs))) [ true ↦ refl | false ↦ list_any-filter p xs ]
 
 -- a block has an accepted frame exactly where it has an operation
-has_accepted-ops : (library : List ℕ) (taken : List Frame) (ops : List Op) → AllZip (IsOpOf library) (accepted taken) ops
+has_accepted-ops : (prefer : List (List ℕ)) (library : List ℕ) (taken : List Frame) (ops : List Op) → AllZip (IsOpOf prefer library) (accepted taken) ops
     → has_accepted taken ≡ some_in ops
-has_accepted-ops library taken ops asked =
+has_accepted-ops prefer library taken ops asked =
     list_any-filter is_accepted taken ∙ sym (some_in-map (λ (f : Frame). f.1) (filter is_accepted taken))
-    ∙ some_in-zip (IsOpOf library) (accepted taken) ops asked
+    ∙ some_in-zip (IsOpOf prefer library) (accepted taken) ops asked
 
 turning-some : (taken still : List Frame) → IsBlockBefore taken still → has_accepted taken ≡ true → turning (taken ++ still) ≡ taken ∷ turning still
 turning-some taken still before has = turning-before taken still before ∙ cond-true (has_accepted taken) (taken ∷ turning still) (turning still) has
@@ -109,28 +108,28 @@ turning-none : (taken still : List Frame) → IsBlockBefore taken still → has_
 turning-none taken still before has = turning-before taken still before ∙ cond-false (has_accepted taken) (taken ∷ turning still) (turning still) has
 
 -- a block with a batch is in front
-pub AreBatches-block : (library : List ℕ) (taken still : List Frame) (batch : Batch) (later : List Batch) → IsBlockBefore taken still
-    → some_in batch.ops ≡ true → IsBatchOf library taken batch → AreBatches library still later → AreBatches library (taken ++ still) (batch ∷ later)
-AreBatches-block library taken still batch later before some is all =
-    subst (λ bs. AllZip (IsBatchOf library) bs (batch ∷ later))
-    (sym (turning-some taken still before (has_accepted-ops library taken batch.ops is.ops ∙ some))) (is, all)
+pub AreBatches-block : (prefer : List (List ℕ)) (library : List ℕ) (taken still : List Frame) (batch : Batch) (later : List Batch) → IsBlockBefore taken still
+    → some_in batch.ops ≡ true → IsBatchOf prefer library taken batch → AreBatches prefer library still later → AreBatches prefer library (taken ++ still) (batch ∷ later)
+AreBatches-block prefer library taken still batch later before some is all =
+    subst (λ bs. AllZip (IsBatchOf prefer library) bs (batch ∷ later))
+    (sym (turning-some taken still before (has_accepted-ops prefer library taken batch.ops is.ops ∙ some))) (is, all)
 
-pub AreFirstBatches-block : (library : List ℕ) (taken still : List Frame) (batch : Batch) (later : List Batch) → IsBlockBefore taken still
-    → some_in batch.ops ≡ true → IsBatchOf library taken batch → AreFirstBatches library still later
-    → AreFirstBatches library (taken ++ still) (batch ∷ later)
-AreFirstBatches-block library taken still batch later before some is first =
-    subst (λ bs. AllZip (IsBatchOf library) (take (suc (length later)) bs) (batch ∷ later))
-    (sym (turning-some taken still before (has_accepted-ops library taken batch.ops is.ops ∙ some))) (is, first)
+pub AreFirstBatches-block : (prefer : List (List ℕ)) (library : List ℕ) (taken still : List Frame) (batch : Batch) (later : List Batch) → IsBlockBefore taken still
+    → some_in batch.ops ≡ true → IsBatchOf prefer library taken batch → AreFirstBatches prefer library still later
+    → AreFirstBatches prefer library (taken ++ still) (batch ∷ later)
+AreFirstBatches-block prefer library taken still batch later before some is first =
+    subst (λ bs. AllZip (IsBatchOf prefer library) (take (suc (length later)) bs) (batch ∷ later))
+    (sym (turning-some taken still before (has_accepted-ops prefer library taken batch.ops is.ops ∙ some))) (is, first)
 
 -- a block without one is in front
-pub AreBatches-none : (library : List ℕ) (taken still : List Frame) (ops : List Op) (later : List Batch) → IsBlockBefore taken still
-    → some_in ops ≡ false → AllZip (IsOpOf library) (accepted taken) ops → AreBatches library still later → AreBatches library (taken ++ still) later
-AreBatches-none library taken still ops later before none asked all =
-    subst (λ bs. AllZip (IsBatchOf library) bs later) (sym (turning-none taken still before (has_accepted-ops library taken ops asked ∙ none))) all
+pub AreBatches-none : (prefer : List (List ℕ)) (library : List ℕ) (taken still : List Frame) (ops : List Op) (later : List Batch) → IsBlockBefore taken still
+    → some_in ops ≡ false → AllZip (IsOpOf prefer library) (accepted taken) ops → AreBatches prefer library still later → AreBatches prefer library (taken ++ still) later
+AreBatches-none prefer library taken still ops later before none asked all =
+    subst (λ bs. AllZip (IsBatchOf prefer library) bs later) (sym (turning-none taken still before (has_accepted-ops prefer library taken ops asked ∙ none))) all
 
-pub AreFirstBatches-none : (library : List ℕ) (taken still : List Frame) (ops : List Op) (later : List Batch) → IsBlockBefore taken still
-    → some_in ops ≡ false → AllZip (IsOpOf library) (accepted taken) ops → AreFirstBatches library still later
-    → AreFirstBatches library (taken ++ still) later
-AreFirstBatches-none library taken still ops later before none asked first =
-    subst (λ bs. AllZip (IsBatchOf library) (take (length later) bs) later)
-    (sym (turning-none taken still before (has_accepted-ops library taken ops asked ∙ none))) first
+pub AreFirstBatches-none : (prefer : List (List ℕ)) (library : List ℕ) (taken still : List Frame) (ops : List Op) (later : List Batch) → IsBlockBefore taken still
+    → some_in ops ≡ false → AllZip (IsOpOf prefer library) (accepted taken) ops → AreFirstBatches prefer library still later
+    → AreFirstBatches prefer library (taken ++ still) later
+AreFirstBatches-none prefer library taken still ops later before none asked first =
+    subst (λ bs. AllZip (IsBatchOf prefer library) (take (length later) bs) later)
+    (sym (turning-none taken still before (has_accepted-ops prefer library taken ops asked ∙ none))) first

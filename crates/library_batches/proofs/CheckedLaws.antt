@@ -62,30 +62,30 @@ list_all-one_more : {A : Type 0} (p : A → Bool) (xs : List A) (x : A) → list
 list_all-one_more p xs x all one = list_all-append p xs (x ∷ []) ∙ (rw (all, one) refl)
 
 -- nothing is checked at first
-pub IsChecked-none : (library : List ℕ) (start : ℕ) (before : List RefusedFrame) → IsChecked library start [] [] before before
-IsChecked-none library start before = record {
+pub IsChecked-none : (prefer : List (List ℕ)) (library : List ℕ) (start : ℕ) (before : List RefusedFrame) → IsChecked prefer library start [] [] before before
+IsChecked-none prefer library start before = record {
   asked = tt;
   own = refl;
   refused = sym (append-nil before);
 }
 
 -- an accepted frame more
-pub IsChecked-accepted : (library : List ℕ) (start : ℕ) (taken : List Frame) (frame : Frame) (ops ops' : List Op) (before now : List RefusedFrame)
-    (r : Record) (asked : Op) → failure_of frame ≡ None → Spells frame.1 r → op library r ≡ Some asked → IsTrue (is_own_op library asked)
-    → ops' ≡ ops ++ asked ∷ [] → IsChecked library start taken ops before now → IsChecked library start (taken ++ frame ∷ []) ops' before now
-IsChecked-accepted library start taken frame ops ops' before now r asked none spells is own more checked = record {
-  asked = rw (accepted-one_more taken frame none, more) (AllZip-one_more (IsOpOf library) (accepted taken) ops frame.1 asked checked.asked (r, spells, is));
+pub IsChecked-accepted : (prefer : List (List ℕ)) (library : List ℕ) (start : ℕ) (taken : List Frame) (frame : Frame) (ops ops' : List Op) (before now : List RefusedFrame)
+    (r : Record) (asked : Op) → failure_of frame ≡ None → Spells frame.1 r → op prefer library r ≡ Some asked → IsTrue (is_own_op library asked)
+    → ops' ≡ ops ++ asked ∷ [] → IsChecked prefer library start taken ops before now → IsChecked prefer library start (taken ++ frame ∷ []) ops' before now
+IsChecked-accepted prefer library start taken frame ops ops' before now r asked none spells is own more checked = record {
+  asked = rw (accepted-one_more taken frame none, more) (AllZip-one_more (IsOpOf prefer library) (accepted taken) ops frame.1 asked checked.asked (r, spells, is));
   own = rw more (list_all-one_more (is_own_op library) ops asked checked.own own);
   refused = checked.refused ∙ sym (ap (λ xs. before ++ xs) (refused_from-one_more start taken frame
       ∙ (ap (λ f. refused_from start taken ++ refusal_of (start + length taken) f) none ∙ append-nil (refused_from start taken))));
 }
 
 -- a refused frame more
-pub IsChecked-refused : (library : List ℕ) (start number : ℕ) (taken : List Frame) (frame : Frame) (ops : List Op) (before now now' : List RefusedFrame)
+pub IsChecked-refused : (prefer : List (List ℕ)) (library : List ℕ) (start number : ℕ) (taken : List Frame) (frame : Frame) (ops : List Op) (before now now' : List RefusedFrame)
     (failure : Failure) → failure_of frame ≡ Some failure → number ≡ start + length taken
     → now' ≡ now ++ record { frame = number; rule = failure.rule; place = failure.place } ∷ []
-    → IsChecked library start taken ops before now → IsChecked library start (taken ++ frame ∷ []) ops before now'
-IsChecked-refused library start number taken frame ops before now now' failure fails place more checked = record {
+    → IsChecked prefer library start taken ops before now → IsChecked prefer library start (taken ++ frame ∷ []) ops before now'
+IsChecked-refused prefer library start number taken frame ops before now now' failure fails place more checked = record {
   asked = rw (accepted-refused_more taken frame failure fails) checked.asked;
   own = checked.own;
   refused = more ∙ (ap (λ xs. xs ++ record { frame = number; rule = failure.rule; place = failure.place } ∷ []) checked.refused

@@ -15,11 +15,12 @@ use Rattle.library_batches.specs.Handing.{HandsOut, IsRead}
 use Rattle.library_batches.specs.Outcomes.{found_in, after_batches}
 use Rattle.library_batches.specs.Reading.{Answers, Batching, begun, ahead, KeepsFrames}
 use Rattle.library_batches.specs.declared.stop.Stop.TheVariants.{TooLong}
+use Rattle.library_batches.proofs.PassedLaws.{to_reader, from_reader}
 
-pub HandsOut-none : (library : List ℕ) (limit : ℕ) (left : Option (List ℕ)) → HandsOut library limit left [] (begun library limit) left
-HandsOut-none library limit None = tt
-HandsOut-none library limit (Some bytes) = record {
-  keeps = record { library = refl; frames = refl; refused = refl };
+pub HandsOut-none : (prefer : List (List ℕ)) (library : List ℕ) (limit : ℕ) (left : Option (List ℕ)) → HandsOut prefer library limit left [] (begun prefer library limit) left
+HandsOut-none prefer library limit None = tt
+HandsOut-none prefer library limit (Some bytes) = record {
+  keeps = record { prefer = refl; library = refl; frames = refl; refused = refl };
   all = λ later all. all;
   first = λ later first. first;
   too_long = refl;
@@ -27,61 +28,62 @@ HandsOut-none library limit (Some bytes) = record {
 
 KeepsFrames-more : (a b c : Batching) (x y z : List Frame) → KeepsFrames a x b y → KeepsFrames b y c z → KeepsFrames a x c z
 KeepsFrames-more a b c x y z one two = record {
+  prefer = two.prefer ∙ one.prefer;
   library = two.library ∙ one.library;
   frames = two.frames ∙ one.frames;
   refused = two.refused ∙ one.refused;
 }
 
-pub HandsOut-batch : (library : List ℕ) (limit : ℕ) (left before now : Option (List ℕ)) (done : List Batch) (batch : Batch) (a b : Batching)
-    → HandsOut library limit left done a before → Answers (Ok (Some batch)) a before b now → HandsOut library limit left (done ++ batch ∷ []) b now
-HandsOut-batch library limit None before now done batch a b handed says = tt
-HandsOut-batch library limit (Some bytes) None now done batch a b handed says = absurd handed
-HandsOut-batch library limit (Some bytes) (Some x) None done batch a b handed says = absurd says
-HandsOut-batch library limit (Some bytes) (Some x) (Some y) done batch a b handed says =
-    let code : a.library ≡ library = handed.keeps.library in
+pub HandsOut-batch : (prefer : List (List ℕ)) (library : List ℕ) (limit : ℕ) (left before now : Option (List ℕ)) (done : List Batch) (batch : Batch) (a b : Batching)
+    → HandsOut prefer library limit left done a before → Answers (Ok (Some batch)) a before b now → HandsOut prefer library limit left (done ++ batch ∷ []) b now
+HandsOut-batch prefer library limit None before now done batch a b handed says = tt
+HandsOut-batch prefer library limit (Some bytes) None now done batch a b handed says = absurd handed
+HandsOut-batch prefer library limit (Some bytes) (Some x) None done batch a b handed says = absurd says
+HandsOut-batch prefer library limit (Some bytes) (Some x) (Some y) done batch a b handed says =
+    let of = handed.keeps in
     record {
-      keeps = KeepsFrames-more (begun library limit) a b (frames (take limit bytes)) (ahead a x) (ahead b y) handed.keeps says.0.keeps;
-      all = λ later all. subst (AreBatches library (frames (take limit bytes))) (sym (append_assoc done (batch ∷ []) later))
-          (handed.all (batch ∷ later) (subst (λ of. AreBatches of (ahead a x) (batch ∷ later)) code
-          (says.0.all later (subst (λ of. AreBatches of (ahead b y) later) (sym code) all))));
-      first = λ later first. subst (AreFirstBatches library (frames (take limit bytes))) (sym (append_assoc done (batch ∷ []) later))
-          (handed.first (batch ∷ later) (subst (λ of. AreFirstBatches of (ahead a x) (batch ∷ later)) code
-          (says.0.first later (subst (λ of. AreFirstBatches of (ahead b y) later) (sym code) first))));
+      keeps = KeepsFrames-more (begun prefer library limit) a b (frames (take limit bytes)) (ahead a x) (ahead b y) handed.keeps says.0.keeps;
+      all = λ later all. subst (AreBatches prefer library (frames (take limit bytes))) (sym (append_assoc done (batch ∷ []) later))
+          (handed.all (batch ∷ later) (from_reader (λ p l. AreBatches p l (ahead a x) (batch ∷ later)) (begun prefer library limit) a of.prefer of.library
+          (says.0.all later (to_reader (λ p l. AreBatches p l (ahead b y) later) (begun prefer library limit) a of.prefer of.library all))));
+      first = λ later first. subst (AreFirstBatches prefer library (frames (take limit bytes))) (sym (append_assoc done (batch ∷ []) later))
+          (handed.first (batch ∷ later) (from_reader (λ p l. AreFirstBatches p l (ahead a x) (batch ∷ later)) (begun prefer library limit) a of.prefer of.library
+          (says.0.first later (to_reader (λ p l. AreFirstBatches p l (ahead b y) later) (begun prefer library limit) a of.prefer of.library first))));
       too_long = says.1 ∙ handed.too_long;
     }
 
-pub HandsOut-end : (library : List ℕ) (limit : ℕ) (left before now : Option (List ℕ)) (done : List Batch) (a b : Batching)
-    → HandsOut library limit left done a before → Answers (Ok None) a before b now → IfSome left (λ bytes. IsRead library limit bytes done b)
-HandsOut-end library limit None before now done a b handed says = tt
-HandsOut-end library limit (Some bytes) None now done a b handed says = absurd handed
-HandsOut-end library limit (Some bytes) (Some x) None done a b handed says = absurd says
-HandsOut-end library limit (Some bytes) (Some x) (Some y) done a b handed says =
+pub HandsOut-end : (prefer : List (List ℕ)) (library : List ℕ) (limit : ℕ) (left before now : Option (List ℕ)) (done : List Batch) (a b : Batching)
+    → HandsOut prefer library limit left done a before → Answers (Ok None) a before b now → IfSome left (λ bytes. IsRead prefer library limit bytes done b)
+HandsOut-end prefer library limit None before now done a b handed says = tt
+HandsOut-end prefer library limit (Some bytes) None now done a b handed says = absurd handed
+HandsOut-end prefer library limit (Some bytes) (Some x) None done a b handed says = absurd says
+HandsOut-end prefer library limit (Some bytes) (Some x) (Some y) done a b handed says =
     let fits : length bytes ≤ limit = ltb-false limit (length bytes) (sym handed.too_long ∙ says.2) in
     let whole : frames (take limit bytes) ≡ frames bytes = ap frames (take_all limit bytes fits) in
-    let keeps = KeepsFrames-more (begun library limit) a b (frames (take limit bytes)) (ahead a x) [] handed.keeps says.1 in
-    let batches : AreBatches library (frames (take limit bytes)) done =
-    subst (AreBatches library (frames (take limit bytes))) (append-nil done)
-    (handed.all [] (subst (λ of. AreBatches of (ahead a x) []) handed.keeps.library says.0)) in
+    let keeps = KeepsFrames-more (begun prefer library limit) a b (frames (take limit bytes)) (ahead a x) [] handed.keeps says.1 in
+    let batches : AreBatches prefer library (frames (take limit bytes)) done =
+    subst (AreBatches prefer library (frames (take limit bytes))) (append-nil done)
+    (handed.all [] (from_reader (λ p l. AreBatches p l (ahead a x) []) (begun prefer library limit) a handed.keeps.prefer handed.keeps.library says.0)) in
     record {
       fits = fits;
-      all = subst (λ fs. AreBatches library fs done) whole batches;
+      all = subst (λ fs. AreBatches prefer library fs done) whole batches;
       frames_are = omega (arith, keeps.frames, ap length whole);
       refused_are = sym (append-nil b.refused) ∙ (keeps.refused ∙ ap refused whole);
     }
 
-pub HandsOut-long : (library : List ℕ) (limit : ℕ) (left before now : Option (List ℕ)) (done : List Batch) (a b : Batching)
-    → HandsOut library limit left done a before → Answers (Err TooLong) a before b now → IfSome left (λ bytes. limit < length bytes)
-HandsOut-long library limit None before now done a b handed says = tt
-HandsOut-long library limit (Some bytes) None now done a b handed says = absurd handed
-HandsOut-long library limit (Some bytes) (Some x) None done a b handed says = absurd says
-HandsOut-long library limit (Some bytes) (Some x) (Some y) done a b handed says = ltb-true limit (length bytes) (sym handed.too_long ∙ says)
+pub HandsOut-long : (prefer : List (List ℕ)) (library : List ℕ) (limit : ℕ) (left before now : Option (List ℕ)) (done : List Batch) (a b : Batching)
+    → HandsOut prefer library limit left done a before → Answers (Err TooLong) a before b now → IfSome left (λ bytes. limit < length bytes)
+HandsOut-long prefer library limit None before now done a b handed says = tt
+HandsOut-long prefer library limit (Some bytes) None now done a b handed says = absurd handed
+HandsOut-long prefer library limit (Some bytes) (Some x) None done a b handed says = absurd says
+HandsOut-long prefer library limit (Some bytes) (Some x) (Some y) done a b handed says = ltb-true limit (length bytes) (sym handed.too_long ∙ says)
 
-pub HandsOut-first : (library : List ℕ) (limit : ℕ) (left before : Option (List ℕ)) (done : List Batch) (a : Batching)
-    → HandsOut library limit left done a before → IfSome left (λ bytes. AreFirstBatches library (frames (take limit bytes)) done)
-HandsOut-first library limit None before done a handed = tt
-HandsOut-first library limit (Some bytes) None done a handed = absurd handed
-HandsOut-first library limit (Some bytes) (Some x) done a handed =
-    subst (AreFirstBatches library (frames (take limit bytes))) (append-nil done) (handed.first [] tt)
+pub HandsOut-first : (prefer : List (List ℕ)) (library : List ℕ) (limit : ℕ) (left before : Option (List ℕ)) (done : List Batch) (a : Batching)
+    → HandsOut prefer library limit left done a before → IfSome left (λ bytes. AreFirstBatches prefer library (frames (take limit bytes)) done)
+HandsOut-first prefer library limit None before done a handed = tt
+HandsOut-first prefer library limit (Some bytes) None done a handed = absurd handed
+HandsOut-first prefer library limit (Some bytes) (Some x) done a handed =
+    subst (AreFirstBatches prefer library (frames (take limit bytes))) (append-nil done) (handed.first [] tt)
 
 pub found_in-one_more : (all : MapOf Edition) (batches : List Batch) (batch : Batch)
     → found_in all (batches ++ batch ∷ []) ≡ found_in all batches ++ outcomes batch.library (after_batches all batches) batch.ops

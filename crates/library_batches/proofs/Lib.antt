@@ -2,3 +2,4 @@ pub mod CheckedLaws
 pub mod BlockLaws
 pub mod PassedLaws
 pub mod HandingLaws
+pub mod SameLaws

@@ -5,14 +5,14 @@ use Rattle.std.proofs.lemmas.Bool.{le-leb}
 use Rattle.std.proofs.lemmas.List.{length-map}
 use Rattle.std.proofs.lemmas.List.Sums.{length-filter, count_by-le-length}
 use Rattle.std.proofs.lemmas.Slice.Zip.{AllZip-long}
+use Rattle.std.specs.List.{AllZip}
 use Rattle.library_stream.specs.Streaming.{frames_on, passes, is_too_long, stopped}
 use Rattle.catalogue_editions.specs.declared.batch.Batch.{Batch}
 use Rattle.catalogue_editions.specs.Batches.{is_batch}
 use Rattle.catalogue_editions.specs.declared.op.Op.{Op}
-use Rattle.catalogue_editions.specs.declared.op.TheConstants.{LARGEST_BATCH}
 use Rattle.library_batches.specs.Streams.{Frame, is_accepted, accepted}
 use Rattle.library_batches.specs.Refused.{refused_from}
-use Rattle.library_batches.specs.Batches.{AreBatches, AreFirstBatches, IsBatchOf, IsOpOf}
+use Rattle.library_batches.specs.Batches.{AreBatches, AreFirstBatches, IsBatchOf, IsOpOf, block_size}
 use Rattle.library_batches.specs.Reading.{Batching, Answers, KeepsFrames, ahead}
 use Rattle.library_batches.specs.Blocks.{IsBlock, IsChecked, IsFull, StopsBehind, BlockAnswers}
 use Rattle.library_batches.specs.declared.block.Block.{Block}
@@ -22,11 +22,21 @@ use Rattle.library_batches.specs.declared.stop.Stop.TheVariants.{TooLong, Failed
 use Rattle.library_batches.proofs.CheckedLaws.{refused_from-append}
 use Rattle.library_batches.proofs.BlockLaws.{IsBlockBefore, some_in, AreBatches-block, AreFirstBatches-block, AreBatches-none, AreFirstBatches-none}
 
+-- what holds of one reader's preference and library holds of those of another reader of the same ones
+pub to_reader : (P : List (List ℕ) → List ℕ → Type 0) (a b : Batching) → b.prefer ≡ a.prefer → b.library ≡ a.library → P a.prefer a.library
+    → P b.prefer b.library
+to_reader P a b prefer library is = subst (λ l. P b.prefer l) (sym library) (subst (λ p. P p a.library) (sym prefer) is)
+
+pub from_reader : (P : List (List ℕ) → List ℕ → Type 0) (a b : Batching) → b.prefer ≡ a.prefer → b.library ≡ a.library → P b.prefer b.library
+    → P a.prefer a.library
+from_reader P a b prefer library is = subst (λ l. P a.prefer l) library (subst (λ p. P p b.library) prefer is)
+
 -- blocks without a batch were passed: what the batches still to come are, the batches of what was coming are
 pub record PassesBlocks (before : Batching) (coming : List Frame) (now : Batching) (still : List Frame) : Type 0 where
   pub keeps : KeepsFrames before coming now still
-  pub all : (later : List Batch) → AreBatches before.library still later → AreBatches before.library coming later
-  pub first : (later : List Batch) → AreFirstBatches before.library still later → AreFirstBatches before.library coming later
+  pub all : (later : List Batch) → AreBatches before.prefer before.library still later → AreBatches before.prefer before.library coming later
+  pub first : (later : List Batch) → AreFirstBatches before.prefer before.library still later
+      → AreFirstBatches before.prefer before.library coming later
 
 -- the same where the source may not tell its bytes
 abbrev pub Passes : Batching → Option (List ℕ) → Batching → Option (List ℕ) → Type 0
@@ -39,14 +49,15 @@ Passes before (Some bytes) now (Some rest) =
 pub Passes-none : (a : Batching) (left : Option (List ℕ)) → Passes a left a left
 Passes-none a None = tt
 Passes-none a (Some bytes) =
-    (record { keeps = record { library = refl; frames = refl; refused = refl }; all = λ later all. all; first = λ later first. first }, refl)
+    (record { keeps = record { prefer = refl; library = refl; frames = refl; refused = refl }; all = λ later all. all; first = λ later first. first }, refl)
 
 -- the frames that a block takes are kept
 KeepsFrames-block : (a b c : Batching) (coming between still : List Frame) (taken : List Frame) → KeepsFrames a coming b between → between ≡ taken ++ still
-    → c.library ≡ b.library → c.frames ≡ b.frames + length taken → c.refused ≡ b.refused ++ refused_from (b.frames + 1) taken → KeepsFrames a coming c still
-KeepsFrames-block a b c coming between still taken keeps takes library frames refused =
+    → c.prefer ≡ b.prefer → c.library ≡ b.library → c.frames ≡ b.frames + length taken → c.refused ≡ b.refused ++ refused_from (b.frames + 1) taken → KeepsFrames a coming c still
+KeepsFrames-block a b c coming between still taken keeps takes prefer library frames refused =
     let place : c.frames + 1 ≡ (b.frames + 1) + length taken = omega arith in
     record {
+      prefer = prefer ∙ keeps.prefer;
       library = library ∙ keeps.library;
       frames = omega (arith, keeps.frames, frames, ap length takes, length-append taken still);
       refused = ap (λ xs. xs ++ refused_from (c.frames + 1) still) refused
@@ -57,67 +68,67 @@ KeepsFrames-block a b c coming between still taken keeps takes library frames re
     }
 
 -- where the source ended within a block, nothing is after it
-is_before : (ended : Bool) (c : Batching) (rest : List ℕ) (taken : List Frame) → IsFull ended c.stream (length taken) → length taken ≤ LARGEST_BATCH
+is_before : (ended : Bool) (c : Batching) (rest : List ℕ) (taken : List Frame) → IsFull ended c.stream (length taken) → length taken ≤ block_size
     → IsBlockBefore taken (ahead c rest)
 is_before true c rest taken full most = inr (ap (λ course. frames_on course c.stream.pending c.stream.unread rest) full, most)
 is_before false c rest taken full most = inl full
 
 -- a block without a batch is passed
 pub Passes-block : (a b c : Batching) (one two three : Option (List ℕ)) (block : Block) → Passes a one b two → IsBlock b two c three block
-    → c.library ≡ b.library → some_in block.ops.items ≡ false → Passes a one c three
-Passes-block a b c None two three block passes is library none = tt
-Passes-block a b c (Some x) None three block passes is library none = absurd passes
-Passes-block a b c (Some x) (Some y) None block passes is library none = absurd is.takes
-Passes-block a b c (Some x) (Some y) (Some z) block passes is library none =
+    → c.prefer ≡ b.prefer → c.library ≡ b.library → some_in block.ops.items ≡ false → Passes a one c three
+Passes-block a b c None two three block passes is prefer library none = tt
+Passes-block a b c (Some x) None three block passes is prefer library none = absurd passes
+Passes-block a b c (Some x) (Some y) None block passes is prefer library none = absurd is.takes
+Passes-block a b c (Some x) (Some y) (Some z) block passes is prefer library none =
     let before : IsBlockBefore is.taken (ahead c z) = is_before block.ended c z is.taken is.full is.most in (
       record {
-        keeps = KeepsFrames-block a b c (ahead a x) (ahead b y) (ahead c z) is.taken passes.0.keeps is.takes.0 library is.frames is.checked.refused;
-        all = λ later all. passes.0.all later (subst (λ fs. AreBatches a.library fs later) (sym is.takes.0)
-            (subst (λ code. AreBatches code (is.taken ++ ahead c z) later) passes.0.keeps.library
-            (AreBatches-none b.library is.taken (ahead c z) block.ops.items later before none is.checked.asked
-            (subst (λ code. AreBatches code (ahead c z) later) (sym passes.0.keeps.library) all))));
-        first = λ later all. passes.0.first later (subst (λ fs. AreFirstBatches a.library fs later) (sym is.takes.0)
-            (subst (λ code. AreFirstBatches code (is.taken ++ ahead c z) later) passes.0.keeps.library
-            (AreFirstBatches-none b.library is.taken (ahead c z) block.ops.items later before none is.checked.asked
-            (subst (λ code. AreFirstBatches code (ahead c z) later) (sym passes.0.keeps.library) all))));
+        keeps = KeepsFrames-block a b c (ahead a x) (ahead b y) (ahead c z) is.taken passes.0.keeps is.takes.0 prefer library is.frames is.checked.refused;
+        all = λ later all. passes.0.all later (subst (λ fs. AreBatches a.prefer a.library fs later) (sym is.takes.0)
+            (from_reader (λ p l. AreBatches p l (is.taken ++ ahead c z) later) a b passes.0.keeps.prefer passes.0.keeps.library
+            (AreBatches-none b.prefer b.library is.taken (ahead c z) block.ops.items later before none is.checked.asked
+            (to_reader (λ p l. AreBatches p l (ahead c z) later) a b passes.0.keeps.prefer passes.0.keeps.library all))));
+        first = λ later all. passes.0.first later (subst (λ fs. AreFirstBatches a.prefer a.library fs later) (sym is.takes.0)
+            (from_reader (λ p l. AreFirstBatches p l (is.taken ++ ahead c z) later) a b passes.0.keeps.prefer passes.0.keeps.library
+            (AreFirstBatches-none b.prefer b.library is.taken (ahead c z) block.ops.items later before none is.checked.asked
+            (to_reader (λ p l. AreFirstBatches p l (ahead c z) later) a b passes.0.keeps.prefer passes.0.keeps.library all))));
       },
       sym is.takes.1 ∙ passes.1,
     )
 
 -- a block with a batch is answered
 pub Answers-batch : (a b c : Batching) (one two three : Option (List ℕ)) (block : Block) (batch : Batch) → Passes a one b two → IsBlock b two c three block
-    → c.library ≡ b.library → batch.library ≡ b.library → batch.ops ≡ block.ops.items → some_in block.ops.items ≡ true
+    → c.prefer ≡ b.prefer → c.library ≡ b.library → batch.library ≡ b.library → batch.ops ≡ block.ops.items → some_in block.ops.items ≡ true
     → Answers (Ok (Some batch)) a one c three
-Answers-batch a b c None two three block batch passes is library code ops some = tt
-Answers-batch a b c (Some x) None three block batch passes is library code ops some = absurd passes
-Answers-batch a b c (Some x) (Some y) None block batch passes is library code ops some = absurd is.takes
-Answers-batch a b c (Some x) (Some y) (Some z) block batch passes is library code ops some =
+Answers-batch a b c None two three block batch passes is prefer library code ops some = tt
+Answers-batch a b c (Some x) None three block batch passes is prefer library code ops some = absurd passes
+Answers-batch a b c (Some x) (Some y) None block batch passes is prefer library code ops some = absurd is.takes
+Answers-batch a b c (Some x) (Some y) (Some z) block batch passes is prefer library code ops some =
     let before : IsBlockBefore is.taken (ahead c z) = is_before block.ended c z is.taken is.full is.most in
-    let is_batch : IsBatchOf a.library is.taken batch = record {
+    let is_batch : IsBatchOf a.prefer a.library is.taken batch = record {
       library_is = code ∙ passes.0.keeps.library;
-      ops = rw (ops, ← passes.0.keeps.library) is.checked.asked;
+      ops = rw ops (from_reader (λ p l. AllZip (IsOpOf p l) (accepted is.taken) block.ops.items) a b passes.0.keeps.prefer passes.0.keeps.library is.checked.asked);
     } in (
       record {
-        keeps = KeepsFrames-block a b c (ahead a x) (ahead b y) (ahead c z) is.taken passes.0.keeps is.takes.0 library is.frames is.checked.refused;
-        all = λ later all. passes.0.all (batch ∷ later) (subst (λ fs. AreBatches a.library fs (batch ∷ later)) (sym is.takes.0)
-            (AreBatches-block a.library is.taken (ahead c z) batch later before (ap some_in ops ∙ some) is_batch all));
-        first = λ later all. passes.0.first (batch ∷ later) (subst (λ fs. AreFirstBatches a.library fs (batch ∷ later)) (sym is.takes.0)
-            (AreFirstBatches-block a.library is.taken (ahead c z) batch later before (ap some_in ops ∙ some) is_batch all));
+        keeps = KeepsFrames-block a b c (ahead a x) (ahead b y) (ahead c z) is.taken passes.0.keeps is.takes.0 prefer library is.frames is.checked.refused;
+        all = λ later all. passes.0.all (batch ∷ later) (subst (λ fs. AreBatches a.prefer a.library fs (batch ∷ later)) (sym is.takes.0)
+            (AreBatches-block a.prefer a.library is.taken (ahead c z) batch later before (ap some_in ops ∙ some) is_batch all));
+        first = λ later all. passes.0.first (batch ∷ later) (subst (λ fs. AreFirstBatches a.prefer a.library fs (batch ∷ later)) (sym is.takes.0)
+            (AreFirstBatches-block a.prefer a.library is.taken (ahead c z) batch later before (ap some_in ops ∙ some) is_batch all));
       },
       sym is.takes.1 ∙ passes.1,
     )
 
 -- at the end of the source every batch was handed out
 pub Answers-end : (a b c : Batching) (one two three : Option (List ℕ)) (block : Block) → Passes a one b two → IsBlock b two c three block
-    → c.library ≡ b.library → some_in block.ops.items ≡ false → block.ended ≡ true → Answers (Ok None) a one c three
-Answers-end a b c None two three block passed is library none ended = tt
-Answers-end a b c (Some x) None three block passed is library none ended = absurd passed
-Answers-end a b c (Some x) (Some y) None block passed is library none ended = absurd is.takes
-Answers-end a b c (Some x) (Some y) (Some z) block passed is library none ended =
-    let all = Passes-block a b c (Some x) (Some y) (Some z) block passed is library none in
+    → c.prefer ≡ b.prefer → c.library ≡ b.library → some_in block.ops.items ≡ false → block.ended ≡ true → Answers (Ok None) a one c three
+Answers-end a b c None two three block passed is prefer library none ended = tt
+Answers-end a b c (Some x) None three block passed is prefer library none ended = absurd passed
+Answers-end a b c (Some x) (Some y) None block passed is prefer library none ended = absurd is.takes
+Answers-end a b c (Some x) (Some y) (Some z) block passed is prefer library none ended =
+    let all = Passes-block a b c (Some x) (Some y) (Some z) block passed is prefer library none in
     let full = subst (λ e. IsFull e c.stream (length is.taken)) ended is.full in
     let nothing : ahead c z ≡ [] = ap (λ course. frames_on course c.stream.pending c.stream.unread z) full in (
-      subst (λ fs. AreBatches a.library fs [] → AreBatches a.library (ahead a x) []) nothing (all.0.all []) tt,
+      subst (λ fs. AreBatches a.prefer a.library fs [] → AreBatches a.prefer a.library (ahead a x) []) nothing (all.0.all []) tt,
       subst (λ fs. KeepsFrames a (ahead a x) c fs) nothing all.0.keeps,
       sym all.1 ∙ ap (λ course. passes course z) full,
     )
@@ -154,9 +165,9 @@ Answers-stopped Failed a b c one two three passed stops = Answers-failed a b c o
 Answers-stopped Memory a b c one two three passed stops = Answers-memory a b c one two three passed stops
 
 -- no fewer operations than one and no more than frames: they fit a batch
-pub is_batch-block : (library : List ℕ) (start : ℕ) (taken : List Frame) (ops : List Op) (before now : List RefusedFrame)
-    → IsChecked library start taken ops before now → length taken ≤ LARGEST_BATCH → 0 < length ops → IsTrue (is_batch library ops)
-is_batch-block library start taken ops before now checked most some =
-    let long = AllZip-long (IsOpOf library) (accepted taken) ops checked.asked in
-    let few : length ops ≤ LARGEST_BATCH = omega (arith, long, length-map (filter is_accepted taken) (λ (f : Frame). f.1), length-filter is_accepted taken, count_by-le-length is_accepted taken, most) in
-    rw (le-leb 1 (length ops) some, le-leb (length ops) LARGEST_BATCH few) checked.own
+pub is_batch-block : (prefer : List (List ℕ)) (library : List ℕ) (start : ℕ) (taken : List Frame) (ops : List Op) (before now : List RefusedFrame)
+    → IsChecked prefer library start taken ops before now → length taken ≤ block_size → 0 < length ops → IsTrue (is_batch library ops)
+is_batch-block prefer library start taken ops before now checked most some =
+    let long = AllZip-long (IsOpOf prefer library) (accepted taken) ops checked.asked in
+    let few : length ops ≤ block_size = omega (arith, long, length-map (filter is_accepted taken) (λ (f : Frame). f.1), length-filter is_accepted taken, count_by-le-length is_accepted taken, most) in
+    rw (le-leb 1 (length ops) some, le-leb (length ops) block_size few) checked.own

@@ -5,19 +5,23 @@ use Rattle.marc_fields.specs.Spelling.{Spells}
 use Rattle.marc_fields.specs.declared.marc_record.Record.{Record}
 use Rattle.catalogue_editions.specs.Ops.{op}
 use Rattle.catalogue_editions.specs.declared.op.Op.{Op}
-use Rattle.catalogue_editions.specs.declared.op.TheConstants.{LARGEST_BATCH}
 use Rattle.catalogue_editions.specs.declared.batch.Batch.{Batch}
 use Rattle.library_batches.specs.Streams.{Frame, is_accepted, accepted}
 
--- the operation is what the record asks for that the frame spells
-abbrev pub IsOpOf : List ℕ → List ℕ → Op → Type 0
-IsOpOf library frame done = (r : Record) × Spells frame r × (op library r ≡ Some done)
+-- the operation is what the record asks for that the frame spells, by a preference among libraries: the list of its codes, the best
+-- first
+abbrev pub IsOpOf : List (List ℕ) → List ℕ → List ℕ → Op → Type 0
+IsOpOf prefer library frame done = (r : Record) × Spells frame r × (op prefer library r ≡ Some done)
+
+-- how many frames a block has
+abbrev pub block_size : ℕ
+block_size = 256
 
 -- the frames in blocks of 256, the last of which may be shorter; at most so many blocks
 abbrev pub blocks_within : ℕ → List Frame → List (List Frame)
 blocks_within zero frames = []
 blocks_within (suc n) [] = []
-blocks_within (suc n) (frame ∷ frames) = take LARGEST_BATCH (frame ∷ frames) ∷ blocks_within n (drop LARGEST_BATCH (frame ∷ frames))
+blocks_within (suc n) (frame ∷ frames) = take block_size (frame ∷ frames) ∷ blocks_within n (drop block_size (frame ∷ frames))
 
 abbrev pub blocks : List Frame → List (List Frame)
 blocks frames = blocks_within (length frames) frames
@@ -27,15 +31,15 @@ abbrev pub has_accepted : List Frame → Bool
 has_accepted block = list_any is_accepted block
 
 -- the batch has the library's operations of the accepted frames of the block, in their order
-pub record IsBatchOf (library : List ℕ) (block : List Frame) (batch : Batch) : Type 0 where
+pub record IsBatchOf (prefer : List (List ℕ)) (library : List ℕ) (block : List Frame) (batch : Batch) : Type 0 where
   pub library_is : batch.library ≡ library
-  pub ops : AllZip (IsOpOf library) (accepted block) batch.ops
+  pub ops : AllZip (IsOpOf prefer library) (accepted block) batch.ops
 
 -- the batches are those of the frames, in their order: one for each block of which some frame is accepted
-abbrev pub AreBatches : List ℕ → List Frame → List Batch → Type 0
-AreBatches library frames batches = AllZip (IsBatchOf library) (filter has_accepted (blocks frames)) batches
+abbrev pub AreBatches : List (List ℕ) → List ℕ → List Frame → List Batch → Type 0
+AreBatches prefer library frames batches = AllZip (IsBatchOf prefer library) (filter has_accepted (blocks frames)) batches
 
 -- the batches are the first ones of the frames, as many as there are
-abbrev pub AreFirstBatches : List ℕ → List Frame → List Batch → Type 0
-AreFirstBatches library frames batches =
-    AllZip (IsBatchOf library) (take (length batches) (filter has_accepted (blocks frames))) batches
+abbrev pub AreFirstBatches : List (List ℕ) → List ℕ → List Frame → List Batch → Type 0
+AreFirstBatches prefer library frames batches =
+    AllZip (IsBatchOf prefer library) (take (length batches) (filter has_accepted (blocks frames))) batches

@@ -6,10 +6,9 @@ use Rattle.library_stream.specs.Answering.{Takes}
 use Rattle.library_stream.specs.declared.course.Course.TheVariants.{Ended}
 use Rattle.catalogue_editions.specs.Batches.{is_own_op}
 use Rattle.catalogue_editions.specs.declared.op.Op.{Op}
-use Rattle.catalogue_editions.specs.declared.op.TheConstants.{LARGEST_BATCH}
 use Rattle.library_batches.specs.Streams.{Frame, accepted}
 use Rattle.library_batches.specs.Refused.{refused_from}
-use Rattle.library_batches.specs.Batches.{IsOpOf}
+use Rattle.library_batches.specs.Batches.{IsOpOf, block_size}
 use Rattle.library_batches.specs.Reading.{Batching}
 use Rattle.library_batches.specs.declared.block.Block.{Block}
 use Rattle.library_batches.specs.declared.refused.RefusedFrame.{RefusedFrame}
@@ -18,23 +17,24 @@ use Rattle.library_batches.specs.declared.stop.Stop.TheVariants.{TooLong, Failed
 
 -- the frames, numbered from that number on, were checked: the accepted ones asked for these operations, and the refused ones
 -- were added to those that were refused before
-pub record IsChecked (library : List ℕ) (start : ℕ) (taken : List Frame) (ops : List Op) (before now : List RefusedFrame) : Type 0 where
-  pub asked : AllZip (IsOpOf library) (accepted taken) ops
+pub record IsChecked (prefer : List (List ℕ)) (library : List ℕ) (start : ℕ) (taken : List Frame) (ops : List Op)
+    (before now : List RefusedFrame) : Type 0 where
+  pub asked : AllZip (IsOpOf prefer library) (accepted taken) ops
   pub own : IsTrue (list_all (is_own_op library) ops)
   pub refused : now ≡ before ++ refused_from start taken
 
 -- a block is whole, unless the source ended within it
 abbrev pub IsFull : Bool → Streaming → ℕ → Type 0
 IsFull true reader frames = reader.course ≡ Ended
-IsFull false reader frames = frames ≡ LARGEST_BATCH
+IsFull false reader frames = frames ≡ block_size
 
 -- a block of the frames that were ahead
 pub record IsBlock (before : Batching) (left : Option (List ℕ)) (now : Batching) (left' : Option (List ℕ)) (block : Block) : Type 0 where
   pub taken : List Frame
   pub takes : Takes before.stream left now.stream left' taken
-  pub checked : IsChecked before.library (before.frames + 1) taken block.ops.items before.refused now.refused
+  pub checked : IsChecked before.prefer before.library (before.frames + 1) taken block.ops.items before.refused now.refused
   pub frames : now.frames ≡ before.frames + length taken
-  pub most : length taken ≤ LARGEST_BATCH
+  pub most : length taken ≤ block_size
   pub full : IsFull block.ended now.stream (length taken)
   pub fewer : most_ahead now.stream + length taken ≤ most_ahead before.stream
 

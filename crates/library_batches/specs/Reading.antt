@@ -1,5 +1,5 @@
 -- What a reader of batches is, and what is ahead of it.
-use Rattle.std.specs.Prelude.{◌≡◌, ℕ, ◌+◌, ⊤, false, true, List, [], ◌∷◌, ◌++◌, length, Option, Some, None, Result, Ok, Err}
+use Rattle.std.specs.Prelude.{◌≡◌, ℕ, ◌+◌, ◌^◌, ⊤, false, true, List, [], ◌∷◌, ◌++◌, length, Option, Some, None, Result, Ok, Err}
 use Rattle.library_stream.specs.Streaming.{Streaming, opened, frames_ahead, is_too_long}
 use Rattle.catalogue_editions.specs.declared.batch.Batch.{Batch}
 use Rattle.library_batches.specs.Streams.{Frame}
@@ -9,16 +9,22 @@ use Rattle.library_batches.specs.declared.refused.RefusedFrame.{RefusedFrame}
 use Rattle.library_batches.specs.declared.stop.Stop.{Stop}
 use Rattle.library_batches.specs.declared.stop.Stop.TheVariants.{TooLong, Failed, Memory}
 
--- the library; what its source still gives; how many frames were cut, and which of them are refused
+-- the most bytes that are read of a source
+abbrev pub most_bytes : ℕ
+most_bytes = 2 ^ 40
+
+-- the preference by which records are loaded, as the list of its codes; the library; what its source still gives; how many frames were
+-- cut, and which of them are refused
 pub record Batching : Type 0 where
+  pub prefer : List (List ℕ)
   pub library : List ℕ
   pub stream : Streaming
   pub frames : ℕ
   pub refused : List RefusedFrame
 
 -- a reader of which nothing was asked
-abbrev pub begun : List ℕ → ℕ → Batching
-begun library limit = record { library = library; stream = opened limit; frames = 0; refused = [] }
+abbrev pub begun : List (List ℕ) → List ℕ → ℕ → Batching
+begun prefer library limit = record { prefer = prefer; library = library; stream = opened limit; frames = 0; refused = [] }
 
 -- the frames that are still to come, where the source has these bytes left
 abbrev pub ahead : Batching → List ℕ → List Frame
@@ -26,6 +32,7 @@ ahead reader left = frames_ahead reader.stream left
 
 -- the same frames in all, and the same ones refused, as were cut and are still to come
 pub record KeepsFrames (before : Batching) (coming : List Frame) (now : Batching) (still : List Frame) : Type 0 where
+  pub prefer : now.prefer ≡ before.prefer
   pub library : now.library ≡ before.library
   pub frames : now.frames + length still ≡ before.frames + length coming
   pub refused : now.refused ++ refused_from (now.frames + 1) still ≡ before.refused ++ refused_from (before.frames + 1) coming
@@ -33,15 +40,17 @@ pub record KeepsFrames (before : Batching) (coming : List Frame) (now : Batching
 -- the batch was the next one: before the batches still to come, whichever these are
 pub record TakesBatch (before : Batching) (coming : List Frame) (now : Batching) (still : List Frame) (batch : Batch) : Type 0 where
   pub keeps : KeepsFrames before coming now still
-  pub all : (later : List Batch) → AreBatches before.library still later → AreBatches before.library coming (batch ∷ later)
-  pub first : (later : List Batch) → AreFirstBatches before.library still later → AreFirstBatches before.library coming (batch ∷ later)
+  pub all : (later : List Batch) → AreBatches before.prefer before.library still later
+      → AreBatches before.prefer before.library coming (batch ∷ later)
+  pub first : (later : List Batch) → AreFirstBatches before.prefer before.library still later
+      → AreFirstBatches before.prefer before.library coming (batch ∷ later)
 
 -- what an answer says of a source that had these bytes left, and has those now
 abbrev pub AnswersTold : Result (Option Batch) Stop → Batching → List ℕ → Batching → List ℕ → Type 0
 AnswersTold (Ok (Some batch)) before bytes now rest =
     TakesBatch before (ahead before bytes) now (ahead now rest) batch × (is_too_long now.stream rest ≡ is_too_long before.stream bytes)
 AnswersTold (Ok None) before bytes now rest =
-    AreBatches before.library (ahead before bytes) [] × KeepsFrames before (ahead before bytes) now [] × (is_too_long before.stream bytes ≡ false)
+    AreBatches before.prefer before.library (ahead before bytes) [] × KeepsFrames before (ahead before bytes) now [] × (is_too_long before.stream bytes ≡ false)
 AnswersTold (Err TooLong) before bytes now rest = is_too_long before.stream bytes ≡ true
 AnswersTold (Err Failed) before bytes now rest = ⊤
 AnswersTold (Err Memory) before bytes now rest = ⊤

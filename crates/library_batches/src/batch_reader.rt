@@ -3,16 +3,17 @@ ghost use Rattle.std.specs.Prelude.{◌≡◌, ◌≢◌, ◌≤◌, ◌<◌, Er
 ghost use Rattle.union_io.specs.Causes.{Rose};
 ghost use Rattle.library_stream.specs.Streaming.{most_ahead};
 ghost use Rattle.library_batches.specs.Blocks.{BlockAnswers};
-ghost use Rattle.library_batches.specs.Reading.{Answers, begun};
+ghost use Rattle.library_batches.specs.Reading.{Answers, begun, most_bytes};
 
 use crate::block::Block;
-use crate::checking::check_next;
+use crate::checking::{Origin, check_next};
 use crate::refused::RefusedFrame;
 use crate::stop::Stop;
 use catalogue_editions::batch::Batch;
 use catalogue_editions::op::LARGEST_BATCH;
+use field_merge::preference::Preference;
 use library_stream::answer::Next;
-use library_stream::frame_reader::{FrameReader, LARGEST_SOURCE};
+use library_stream::frame_reader::FrameReader;
 use std::alloc::Global;
 use std::marker::Model;
 use union_base::library_code::LibraryCode;
@@ -20,10 +21,11 @@ use union_base::memory::Memory;
 use union_base::sequence::Sequence;
 use union_io::source::Source;
 
-/// Reads the source of a library, and hands out its batches one after the other. Contracts see the library, what the source
-/// still gives, how many frames were cut, and which of them are refused.
+/// Reads the source of a library, and hands out its batches one after the other. Contracts see the preference by which records are
+/// loaded, the library, what the source still gives, how many frames were cut, and which of them are refused.
 #[derive(Drop)]
 pub struct BatchReader {
+    prefer: Preference,
     library: LibraryCode,
     frames: u64,
     refused: Vec<RefusedFrame>,
@@ -35,7 +37,13 @@ impl Model for BatchReader {
 
     ghost Value = { Batching };
 
-    ghost view = { λ r. record { library = r.library; stream = r.reader; frames = r.frames; refused = r.refused.items } };
+    ghost view = { λ r. record {
+      prefer = r.prefer;
+      library = r.library;
+      stream = r.reader;
+      frames = r.frames;
+      refused = r.refused.items;
+    } };
 
     ghost use Rattle.library_batches.specs.Within.{IsWithin};
 
@@ -43,15 +51,21 @@ impl Model for BatchReader {
 }
 
 impl BatchReader {
-    /// A reader of which nothing was asked, for a library's source that may give so many bytes. It takes the room of a piece
-    /// and of the largest frame.
+    /// A reader of which nothing was asked, for a library's source that may give `limit` bytes. The records are loaded by the
+    /// preference. It takes the room of a piece and of the largest frame.
     ///
     /// Returns `Memory` if allocation fails.
-    pub fn open(alloc: Global, library: &LibraryCode, limit: u64) -> Result<BatchReader, Memory>
-        requires { limit ≤ LARGEST_SOURCE }
-        ensures { IfOk result (λ reader. reader ≡ begun library.now limit) }
+    pub fn open(
+        alloc: Global,
+        prefer: &Preference,
+        library: &LibraryCode,
+        limit: u64,
+    ) -> Result<BatchReader, Memory>
+        requires { limit ≤ most_bytes }
+        ensures { IfOk result (λ reader. reader ≡ begun prefer.now library.now limit) }
     {
         Ok(BatchReader {
+            prefer: *prefer,
             library: *library,
             frames: 0,
             refused: Vec::new(alloc),
@@ -62,6 +76,7 @@ impl BatchReader {
     /// Cuts and checks the next frames of the source, `LARGEST_BATCH` of them unless it ends before.
     fn read_block<S: Source>(&mut self, alloc: Global, source: &mut S) -> Result<Block, Stop>
         ensures name { S.name source.new ≡ S.name source.old }
+        ensures prefer { self.new.prefer ≡ self.old.prefer }
         ensures library { self.new.library ≡ self.old.library }
         ensures answers { BlockAnswers result self.old (S.left source.old) self.new (S.left source.new) }
         ensures failed { result ≡ Err Stop.Failed → Rose (S.faults source.old) (S.faults source.new) }
@@ -74,8 +89,11 @@ impl BatchReader {
                     self.frames += 1;
                     check_next(
                         alloc,
-                        &self.library,
-                        self.frames,
+                        &Origin {
+                            prefer: &self.prefer,
+                            library: &self.library,
+                            number: self.frames,
+                        },
                         cut,
                         self.reader.frame(),
                         &mut ops,
@@ -95,10 +113,11 @@ impl BatchReader {
     /// is refused.
     ///
     /// Answers `TooLong` exactly where the source gave as many bytes as the limit allows and at least one more, and no read
-    /// failed; `Failed` only where a read of the source failed; `Memory` where memory ran out. The operations of a block that
+    /// failed; `Failed` only where a read of the source failed; `Memory` if allocation fails. The operations of a block that
     /// was not whole by then are dropped, and the reader is not to be asked again.
     pub fn next<S: Source>(&mut self, alloc: Global, source: &mut S) -> Result<Option<Batch>, Stop>
         ensures name { S.name source.new ≡ S.name source.old }
+        ensures prefer { self.new.prefer ≡ self.old.prefer }
         ensures library { self.new.library ≡ self.old.library }
         ensures answers { Answers result self.old (S.left source.old) self.new (S.left source.new) }
         ensures failed { result ≡ Err Stop.Failed → Rose (S.faults source.old) (S.faults source.new) }
@@ -139,6 +158,7 @@ impl BatchReader {
         ensures { result.items ≡ self.refused }
     {
         let BatchReader {
+            prefer: _,
             library: _,
             frames: _,
             refused,

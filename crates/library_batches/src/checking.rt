@@ -8,36 +8,49 @@ ghost use Rattle.library_batches.specs.declared.refused.RefusedFrame.{RefusedFra
 use crate::refused::RefusedFrame;
 use catalogue_editions::op::Op;
 use catalogue_editions::records::op_of;
+use field_merge::preference::Preference;
 use iso2709_frame::cut::Cut;
 use marc_rules::check::{Refusal, check_frame};
 use std::alloc::Global;
 use union_base::library_code::LibraryCode;
 use union_base::memory::Memory;
 
-/// Checks a frame of that number, and adds the operation that its record asks for, or its refusal. The record is gone then.
+/// Where a frame comes from: its library, the preference by which that library's records are loaded, and the frame's number in the
+/// stream.
+#[derive(Clone, Copy)]
+pub struct Origin<'a> {
+    pub prefer: &'a Preference,
+    pub library: &'a LibraryCode,
+    pub number: u64,
+}
+
+/// Checks a frame, and adds the operation that its record asks for, or its refusal. The record is gone then.
+///
+/// Returns `Memory` if allocation fails.
 pub fn check_next(
     alloc: Global,
-    library: &LibraryCode,
-    number: u64,
+    origin: &Origin<'_>,
     cut: Cut,
     frame: &[u8],
     ops: &mut Vec<Op>,
     refused: &mut Vec<RefusedFrame>,
 ) -> Result<(), Memory>
     requires whole { cut ≡ Cut.Whole → IsWhole frame.now }
-    ensures { OnOk result ((start : ℕ) (taken : List Frame) (before : List RefusedModel) → number ≡ start + length taken
-        → IsChecked library.now start taken ops.old.items before refused.old.items
-        → IsChecked library.now start (taken ++ (cut, frame.now) ∷ []) ops.new.items before refused.new.items) }
+    ensures { OnOk result ((start : ℕ) (taken : List Frame) (before : List RefusedModel)
+        → origin.now.number ≡ start + length taken
+        → IsChecked origin.now.prefer.now origin.now.library.now start taken ops.old.items before refused.old.items
+        → IsChecked origin.now.prefer.now origin.now.library.now start (taken ++ (cut, frame.now) ∷ [])
+        ops.new.items before refused.new.items) }
 {
     match check_frame(alloc, cut, frame) {
         Ok(rec) => {
-            let asked = op_of(alloc, library, rec)?;
+            let asked = op_of(alloc, origin.prefer, origin.library, rec)?;
             ops.push(asked)?;
             Ok(())
         }
         Err(Refusal::Rule { rule, place }) => {
             refused.push(RefusedFrame {
-                frame: number,
+                frame: origin.number,
                 rule,
                 place,
             })?;

@@ -6,12 +6,12 @@ use Rattle.std.proofs.lemmas.List.Elements.{filter-append}
 use Rattle.std.proofs.lemmas.Bool.{cond-true, leb-true}
 use Rattle.catalogue_core.specs.Histories.{MapOf, after_op, after_batch, outcomes}
 use Rattle.catalogue_editions.specs.declared.op.Op.{Op}
-use Rattle.catalogue_editions.specs.declared.op.TheConstants.{LARGEST_BATCH}
 use Rattle.std.specs.Cmp.{first_so, second_so}
 use Rattle.catalogue_editions.specs.declared.batch.Batch.{Batch}
 use Rattle.catalogue_editions.specs.declared.edition.Edition.{Edition}
 use Rattle.catalogue_editions.specs.declared.outcome.Outcome.{Outcome}
 use Rattle.catalogue_lock.specs.History.{changes_of, IsPrefix}
+use Rattle.library_batches.specs.Batches.{block_size}
 use Rattle.load_sessions.specs.Entries.{history_of, gives}
 use Rattle.load_sessions.specs.Tallies.{found_from, found}
 
@@ -84,5 +84,5 @@ length-outcomes library all [] = refl
 length-outcomes library all (op ∷ ops) = ap suc (length-outcomes library (after_op library all op) ops)
 
 -- a batch has so many operations at most
-pub few_ops : (batch : Batch) → length batch.ops ≤ LARGEST_BATCH
-few_ops batch = leb-true (length batch.ops) LARGEST_BATCH (second_so _ _ (first_so _ _ batch.fits))
+pub few_ops : (batch : Batch) → length batch.ops ≤ block_size
+few_ops batch = leb-true (length batch.ops) block_size (second_so _ _ (first_so _ _ batch.fits))

@@ -18,13 +18,13 @@ module _ {S : Type 0} (name : S → List ℕ) (left : S → Option (List ℕ)) (
   -- they stopped, when the reader had handed out what the pass had turned
   pub Turns-stopped : (desk : TableId) (before now : Session S) (reader between : Batching) (rest : Option (List ℕ)) (counts : OutcomeCounts)
       (result : Result (Unit {0}) Stop) (stop : Stop) → result ≡ Err stop → IsSameSession name desk before now
-      → HandsOut before.library before.limit (left before.source) (view now.pass).own between rest
+      → HandsOut before.prefer before.library before.limit (left before.source) (view now.pass).own between rest
       → (stop ≡ TooLong → IfSome (left before.source) (λ bytes. before.limit < length bytes))
       → (stop ≡ Failed → Rose (faults before.source) (faults now.source)) → (stop ≢ Failed → faults now.source ≡ faults before.source)
       → Turns name left faults desk before now reader counts result
   Turns-stopped desk before now reader between rest counts result stop is keeps handed long fault calm = record {
     keeps = keeps;
-    gained = HandsOut-first before.library before.limit (left before.source) rest (view now.pass).own between handed;
+    gained = HandsOut-first before.prefer before.library before.limit (left before.source) rest (view now.pass).own between handed;
     done = rw is tt;
     counts_are = rw is tt;
     long = λ e. long (cc (is, e));

@@ -1,12 +1,12 @@
 -- What is asked of a session, and what it did.
 use Rattle.std.specs.Prelude.{◌≡◌, ◌≢◌, ℕ, ◌<◌, ◌≤◌, List, [], length, take, Option, IfSome, slice_index_or}
 use Rattle.iso2709_frame.specs.Frames.{frames}
-use Rattle.library_stream.specs.declared.frame_reader.TheConstants.{LARGEST_SOURCE}
 use Rattle.union_io.specs.Causes.{Rose}
 use Rattle.catalogue_lock.specs.Tokens.{view, IsSamePass}
 use Rattle.library_batches.specs.Refused.{refused}
 use Rattle.library_batches.specs.Batches.{AreBatches, AreFirstBatches}
 use Rattle.library_batches.specs.Outcomes.{AreCounted}
+use Rattle.library_batches.specs.Reading.{most_bytes}
 use Rattle.library_batches.specs.declared.outcome_counts.OutcomeCounts.{OutcomeCounts}
 use Rattle.catalogue_editions.specs.declared.batch.Batch.{Batch}
 use Rattle.load_sessions.specs.Tallies.{found}
@@ -31,9 +31,10 @@ counts_of report =
 
 -- the report has the frames of the whole source and the refused ones of them, and the batches are those of the source, which is
 -- within the limit
-pub record IsLoaded (library : List ℕ) (limit : ℕ) (bytes : List ℕ) (batches : List Batch) (report : Report) : Type 0 where
+pub record IsLoaded (prefer : List (List ℕ)) (library : List ℕ) (limit : ℕ) (bytes : List ℕ) (batches : List Batch) (report : Report)
+    : Type 0 where
   pub fits : length bytes ≤ limit
-  pub all : AreBatches library (frames bytes) batches
+  pub all : AreBatches prefer library (frames bytes) batches
   pub frames_are : report.frames ≡ length (frames bytes)
   pub refused_are : report.refused.items ≡ refused (frames bytes)
 
@@ -44,7 +45,7 @@ module _ {S : Type 0} where
     pub pass : session.pass.place.table_id ≡ desk
     pub own : (view session.pass).own ≡ []
     pub least : 1 ≤ session.limit
-    pub most : session.limit ≤ LARGEST_SOURCE
+    pub most : session.limit ≤ most_bytes
     pub end : session.end ≡ NotRun
     pub report : IsBlank session.report
 
@@ -53,6 +54,7 @@ module _ {S : Type 0} where
     pub number : now.number ≡ before.number
     pub library : now.library ≡ before.library
     pub limit : now.limit ≡ before.limit
+    pub prefer : now.prefer ≡ before.prefer
     pub source : name now.source ≡ name before.source
     pub desk_is : now.pass.place.table_id ≡ desk
     pub pass : IsSamePass before.pass now.pass
@@ -63,9 +65,11 @@ module _ {S : Type 0} where
       pub keeps : IsSameSession name desk before now
       pub run : now.end ≢ NotRun
       -- it made turns of the first batches of the bytes within the limit
-      pub gained : IfSome (left before.source) (λ bytes. AreFirstBatches before.library (frames (take before.limit bytes)) (view now.pass).own)
+      pub gained : IfSome (left before.source)
+          (λ bytes. AreFirstBatches before.prefer before.library (frames (take before.limit bytes)) (view now.pass).own)
       -- Done: of all its batches, and the report is that of the source and of the history that the pass has seen
-      pub done : now.end ≡ Done → IfSome (left before.source) (λ bytes. IsLoaded before.library before.limit bytes (view now.pass).own now.report)
+      pub done : now.end ≡ Done → IfSome (left before.source)
+          (λ bytes. IsLoaded before.prefer before.library before.limit bytes (view now.pass).own now.report)
       pub counts : now.end ≡ Done → AreCounted (found (view now.pass).seen (view now.pass).number) (counts_of now.report)
       pub long : now.end ≡ TooLong → IfSome (left before.source) (λ bytes. before.limit < length bytes)
       pub fault : now.end ≡ ReadFault → Rose (faults before.source) (faults now.source)

@@ -20,10 +20,13 @@ use Rattle.load_sessions.specs.declared.session.Session.{Session}
 module _ {S : Type 0} (name : S → List ℕ) (left : S → Option (List ℕ)) (faults : S → ℕ) where
   -- the pass made turns of the first batches, and where nothing stopped it, of all; then its reader has the frames and the refused
   -- ones, and the counts are of what came of them
-  pub record Turns (desk : TableId) (before now : Session S) (reader : Batching) (counts : OutcomeCounts) (result : Result (Unit {0}) Stop) : Type 0 where
+  pub record Turns (desk : TableId) (before now : Session S) (reader : Batching) (counts : OutcomeCounts)
+      (result : Result (Unit {0}) Stop) : Type 0 where
     pub keeps : IsSameSession name desk before now
-    pub gained : IfSome (left before.source) (λ bytes. AreFirstBatches before.library (frames (take before.limit bytes)) (view now.pass).own)
-    pub done : OnOk result (IfSome (left before.source) (λ bytes. IsRead before.library before.limit bytes (view now.pass).own reader))
+    pub gained : IfSome (left before.source)
+        (λ bytes. AreFirstBatches before.prefer before.library (frames (take before.limit bytes)) (view now.pass).own)
+    pub done : OnOk result (IfSome (left before.source)
+        (λ bytes. IsRead before.prefer before.library before.limit bytes (view now.pass).own reader))
     pub counts_are : OnOk result (AreCounted (found (view now.pass).seen (view now.pass).number) counts)
     pub long : result ≡ Err TooLong → IfSome (left before.source) (λ bytes. before.limit < length bytes)
     pub fault : result ≡ Err Failed → Rose (faults before.source) (faults now.source)

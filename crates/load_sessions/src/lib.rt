@@ -16,6 +16,7 @@ pub mod asker;
 pub mod asking;
 pub mod end;
 pub mod preparing;
+pub mod questions;
 pub mod report;
 pub mod running;
 pub mod served;

@@ -65,7 +65,7 @@ fn run_reader<R: Threads + Wait + Sync, S: Source, G: Gate>(
     requires some { 1 ≤ workers }
     requires most { workers ≤ 64 }
     requires ready { IsReady desk.now.board.shared.table_id session.old }
-    requires reader { reader ≡ begun session.old.library session.old.limit }
+    requires reader { reader ≡ begun session.old.prefer session.old.library session.old.limit }
     ensures { Runs S.name S.left S.faults desk.now.board.shared.table_id session.old session.new }
 {
     let mut counts = OutcomeCounts::new();
@@ -83,7 +83,7 @@ fn run_reader<R: Threads + Wait + Sync, S: Source, G: Gate>(
     session.end = end_of(turned);
 }
 
-/// Runs a session: reads its source, and makes a turn for each of its batches, which so many workers prepare.
+/// Runs a session: reads its source, and makes a turn for each of its batches, which `workers` workers prepare.
 pub(crate) fn run_session<R: Threads + Wait + Sync, S: Source, G: Gate>(
     rt: &R,
     alloc: Global,
@@ -97,7 +97,7 @@ pub(crate) fn run_session<R: Threads + Wait + Sync, S: Source, G: Gate>(
     requires ready { IsReady desk.now.board.shared.table_id session.old }
     ensures { Runs S.name S.left S.faults desk.now.board.shared.table_id session.old session.new }
 {
-    match BatchReader::open(alloc, &session.library, session.limit) {
+    match BatchReader::open(alloc, &session.prefer, &session.library, session.limit) {
         Ok(reader) => run_reader(rt, alloc, desk, gate, reader, session, workers),
         Err(Memory) => session.end = End::Memory,
     }
@@ -119,8 +119,8 @@ fn run_in_order<R: Threads + Wait + Sync, S: Source, G: Gate>(
     }
 }
 
-/// How many workers prepare the batches of each of so many sessions: all of them where there is one session. Else there is one
-/// for each, since the sessions themselves are in threads of their own, and while one waits for its turn the others prepare.
+/// How many workers prepare the batches of each session: all of them where there is one session. Else there is one for each,
+/// since the sessions themselves are in threads of their own, and while one waits for its turn the others prepare.
 fn preparers(workers: u32, sessions: usize) -> u32
     requires some { 1 ≤ workers }
     requires most { workers ≤ 64 }
@@ -130,7 +130,7 @@ fn preparers(workers: u32, sessions: usize) -> u32
     if sessions == 1 { workers } else { 1 }
 }
 
-/// Runs the sessions on so many threads.
+/// Runs the sessions on `workers` threads.
 fn run_at_once<R: Threads + Wait + Sync, S: Source + Send, G: Gate>(
     rt: &R,
     alloc: Global,
@@ -173,7 +173,7 @@ fn run_alone<R: Threads + Wait + Sync, S: Source + Send, G: Gate>(
     }
 }
 
-/// Runs the sessions on so many threads, and the asker beside them.
+/// Runs the sessions on `workers` threads, and the asker beside them.
 fn run_beside<R: Threads + Wait + Sync, S: Source + Send, G: Gate>(
     rt: &R,
     alloc: Global,
@@ -229,10 +229,10 @@ fn run_with_asker<R: Threads + Wait + Sync, S: Source + Send, G: Gate>(
 ///
 /// Each session reads its source, cuts and checks its frames, and makes a turn with its pass for each batch of accepted
 /// operations; `gate` is told before and after each turn. With one worker the sessions run in their order and the asker runs
-/// last. With more they run on so many threads, each of which has neighbouring sessions, and the asker runs beside them.
+/// last. With more they run on `workers` threads, each of which has neighbouring sessions, and the asker runs beside them.
 ///
 /// A session ends with `ReadFault` only where a read of its source failed, with `TooLong` where its source gave `limit` bytes
-/// and at least one more, with `Memory` where memory ran out, and else with `Done`. The batches that a session turned are the
+/// and at least one more, with `Memory` where allocation failed, and else with `Done`. The batches that a session turned are the
 /// first ones of its source whatever its end, and all of them where it is `Done`.
 pub fn run_sessions<R: Threads + Wait + Sync, S: Source + Send, G: Gate>(
     rt: &R,

@@ -7,17 +7,19 @@ use crate::end::End;
 use crate::report::Report;
 use crate::served::Served;
 use catalogue_lock::pass::Pass;
+use field_merge::preference::Preference;
 use std::alloc::Global;
 use union_base::library_code::LibraryCode;
 
-/// The loading of one library: its source, of which so many bytes are read, and the pass that makes its turns. The report and
-/// the end are told when it was run.
+/// The loading of one library: its source, of which `limit` bytes are read, the preference by which its records are loaded, and the
+/// pass that makes its turns. The report and the end are told when it was run.
 #[derive(Drop)]
 pub struct Session<S> {
     pub number: u32,
     pub library: LibraryCode,
     pub source: S,
     pub limit: u64,
+    pub prefer: Preference,
     pub pass: Pass<Served>,
     pub report: Report,
     pub end: End,
@@ -30,12 +32,14 @@ impl<S> Session<S> {
         library: LibraryCode,
         source: S,
         limit: u64,
+        prefer: &Preference,
         pass: Pass<Served>,
     ) -> Session<S>
         ensures number { result.number ≡ (view pass).number }
         ensures library { result.library ≡ library }
         ensures source { result.source ≡ source }
         ensures limit { result.limit ≡ limit }
+        ensures prefer { result.prefer ≡ prefer.now }
         ensures pass { result.pass ≡ pass }
         ensures report { IsBlank result.report }
         ensures end { result.end ≡ End.NotRun }
@@ -45,6 +49,7 @@ impl<S> Session<S> {
             library,
             source,
             limit,
+            prefer: *prefer,
             pass,
             report: Report::blank(alloc),
             end: End::NotRun,

@@ -1,9 +1,9 @@
 //! The turns of one session.
 ghost use Rattle.std.specs.Prelude.{◌≡◌, ◌≤◌, ◌++◌, ◌∷◌, [], length, IfOk, OnOk, OnErr};
 ghost use Rattle.catalogue_lock.specs.Tokens.{view, IsPassOf, IsSamePass};
-ghost use Rattle.library_stream.specs.declared.frame_reader.TheConstants.{LARGEST_SOURCE};
+ghost use Rattle.library_batches.specs.Batches.{block_size};
 ghost use Rattle.library_batches.specs.Outcomes.{AreCounted, counted};
-ghost use Rattle.library_batches.specs.Reading.{begun};
+ghost use Rattle.library_batches.specs.Reading.{begun, most_bytes};
 ghost use Rattle.load_sessions.specs.Tallies.{found};
 ghost use Rattle.load_sessions.specs.Turning.{Turns};
 
@@ -11,7 +11,6 @@ use crate::preparing::prepare;
 use crate::served::Served;
 use crate::session::Session;
 use catalogue_core::batch::Batch;
-use catalogue_core::op::LARGEST_BATCH;
 use catalogue_core::outcome::Outcome;
 use catalogue_lock::desk::{Desk, Turned};
 use catalogue_lock::pass::Pass;
@@ -25,7 +24,7 @@ use union_base::memory::Memory;
 use union_io::gate::Gate;
 use union_io::source::Source;
 
-/// One turn of the pass, with a batch that so many workers prepare before the turn is asked for, between two calls of the gate.
+/// One turn of the pass, with a batch that `workers` workers prepare before the turn is asked for, between two calls of the gate.
 /// Answers what came of the batch's operations.
 fn turn_batch<R: Threads + Wait + Sync, G: Gate>(
     rt: &R,
@@ -45,7 +44,7 @@ fn turn_batch<R: Threads + Wait + Sync, G: Gate>(
     ensures own { OnOk result ((view pass.new).own ≡ (view pass.old).own ++ batch ∷ []) }
     ensures found { IfOk result (λ outcomes. found (view pass.new).seen (view pass.new).number
         ≡ found (view pass.old).seen (view pass.old).number ++ outcomes.items) }
-    ensures few { IfOk result (λ outcomes. length outcomes.items ≤ LARGEST_BATCH) }
+    ensures few { IfOk result (λ outcomes. length outcomes.items ≤ block_size) }
     ensures memory { OnErr result ((view pass.new).own ≡ (view pass.old).own) }
 {
     let prepared = prepare(rt, alloc, batch, workers)?;
@@ -56,7 +55,7 @@ fn turn_batch<R: Threads + Wait + Sync, G: Gate>(
     Ok(outcome)
 }
 
-/// A turn for each batch of the session's source, as the reader hands them out and so many workers prepare them, and the counts
+/// A turn for each batch of the session's source, as the reader hands them out and `workers` workers prepare them, and the counts
 /// of what came of them.
 pub(crate) fn turn_batches<R: Threads + Wait + Sync, S: Source, G: Gate>(
     rt: &R,
@@ -72,8 +71,8 @@ pub(crate) fn turn_batches<R: Threads + Wait + Sync, S: Source, G: Gate>(
     requires most { workers ≤ 64 }
     requires desk { IsPassOf session.old.pass desk.now }
     requires own { (view session.old.pass).own ≡ [] }
-    requires limit { session.old.limit ≤ LARGEST_SOURCE }
-    requires reader { reader.old ≡ begun session.old.library session.old.limit }
+    requires limit { session.old.limit ≤ most_bytes }
+    requires reader { reader.old ≡ begun session.old.prefer session.old.library session.old.limit }
     requires counts { AreCounted [] counts.old × (counted counts.old ≡ 0) }
     ensures { Turns S.name S.left S.faults desk.now.board.shared.table_id session.old session.new reader.new counts.new result }
 {

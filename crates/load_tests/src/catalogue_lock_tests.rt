@@ -191,7 +191,7 @@ fn a_held_turn_is_busy(rt: HostRuntime) -> Result<(), Fail> {
     Ok(())
 }
 
-/// So many turns with the changes from `from` on, with a question after each tenth. It answers how many turns and good answers there were.
+/// `turns` turns with the changes from `from` on, with a question after each tenth. It answers how many turns and good answers there were.
 fn work<R: Wait>(
     rt: &R,
     alloc: Global,

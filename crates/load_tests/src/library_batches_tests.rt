@@ -5,6 +5,7 @@ ghost use Rattle.std.specs.Prelude.{◌≤◌};
 use catalogue_core::batch::Batch;
 use catalogue_core::op::Op;
 use catalogue_core::outcome::Outcome;
+use field_merge::preference::Preference;
 use library_batches::batch_reader::BatchReader;
 use library_batches::outcome_counts::OutcomeCounts;
 use library_batches::refused::RefusedFrame;
@@ -36,7 +37,7 @@ fn batches_of<S: Source>(
 ) -> Result<(Vec<Batch>, BatchReader), Stop>
     requires { limit ≤ LARGEST_SOURCE }
 {
-    let mut reader = BatchReader::open(alloc, library, limit)?;
+    let mut reader = BatchReader::open(alloc, &Preference::none(), library, limit)?;
     let mut batches = Vec::new(alloc);
     loop {
         match reader.next(alloc, source)? {
@@ -69,7 +70,7 @@ fn shown(alloc: Global, batches: &[Batch]) -> Result<Vec<u8>, Memory> {
     Ok(text)
 }
 
-/// So many records, and a text after them.
+/// `times` records, and a text after them.
 fn records(alloc: Global, times: usize, tail: &[u8]) -> Result<Bytes, Memory> {
     let mut stream = Vec::new(alloc);
     for _ in 0..times {
@@ -102,7 +103,7 @@ fn a_refused_frame_is_between_two_operations(rt: HostRuntime) -> Result<(), Fail
 }
 
 #[test]
-fn a_second_batch_begins_behind_256_frames(rt: HostRuntime) -> Result<(), Fail> {
+fn a_second_batch_begins_after_256_frames(rt: HostRuntime) -> Result<(), Fail> {
     let alloc = rt.alloc();
     let library = LibraryCode::read(b"LIBA").ok_or("a library code")?;
     let mut source = SureSource::of(records(alloc, 257, b"")?, 4096);

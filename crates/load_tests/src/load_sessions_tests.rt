@@ -6,6 +6,7 @@ ghost use Rattle.load_sessions.specs.Sessions.{IsReady};
 use catalogue_lock::desk::Desk;
 use catalogue_lock::root::Root;
 use catalogue_query::query::Query;
+use field_merge::preference::Preference;
 use load_sessions::asker::Asker;
 use load_sessions::end::End;
 use load_sessions::running::run_sessions;
@@ -13,12 +14,13 @@ use load_sessions::served::Served;
 use load_sessions::session::Session;
 use std::alloc::Global;
 use std::sync::Wait;
+use std::sync::atomic::{AtomicU64, Ordering};
 use std::test::Fail;
 use std::thread::Threads;
 use union_base::bytes::Bytes;
 use union_base::library_code::LibraryCode;
 use union_base::memory::Memory;
-use union_io::gate::OpenGate;
+use union_io::gate::{Gate, OpenGate};
 use union_io::sure_source::SureSource;
 
 /// A record with the control number `id`, a frame that is too short, and a withdrawal of the record `b1`.
@@ -41,14 +43,15 @@ fn session_at(
     requires desk { IsRootOf root.old desk.now }
     requires few { (root_of root.old).made ≤ 10 }
     requires least { 1 ≤ limit }
-    requires most { limit ≤ 1000 }
+    requires most { limit ≤ 100000 }
     ensures desk { IsRootOf root.new desk.now }
     ensures made { (root_of root.new).made ≤ (root_of root.old).made + 1 }
     ensures ready { IfOk result (λ session. IsReady desk.now.board.shared.table_id session) }
 {
     let pass = desk.make_pass(root);
     let source = SureSource::of(Bytes::of(alloc, content)?, 50);
-    Ok(Session::new(alloc, library, source, limit, pass))
+    let prefer = Preference::none();
+    Ok(Session::new(alloc, library, source, limit, &prefer, pass))
 }
 
 /// Whether the session ended with Done and has the report of the stream.
@@ -61,7 +64,7 @@ fn is_done(session: &Session<SureSource>) -> bool {
         && counts == (1, 0, 0, 1)
 }
 
-/// Whether two libraries are loaded by so many workers, beside an asker with one question.
+/// Whether two libraries are loaded by `workers` workers, beside an asker with one question.
 fn are_loaded<R: Threads + Wait + Sync>(
     rt: &R,
     alloc: Global,
@@ -106,7 +109,7 @@ fn two_libraries_are_loaded(rt: HostRuntime) -> Result<(), Fail> {
     Ok(())
 }
 
-/// The session of a library on so many copies of the record, of which 228 bytes are read, run alone by four workers.
+/// The session of a library on `copies` copies of the record, of which 228 bytes are read, run alone by four workers.
 fn limited<R: Threads + Wait + Sync>(
     rt: &R,
     alloc: Global,
@@ -135,5 +138,63 @@ fn source_is_read_to_the_limit(rt: HostRuntime) -> Result<(), Fail> {
     assert!(rt; report.added == 1 && report.replaced == 1);
     let thrice = limited(&rt, alloc, library, 3)?;
     assert!(rt; thrice.end == End::TooLong);
+    Ok(())
+}
+
+/// Adds 100 and the turn's number to one sum before each turn, and to another after it.
+#[derive(Drop)]
+struct CountingGate {
+    before: AtomicU64,
+    after: AtomicU64,
+}
+
+impl Gate for CountingGate {
+    fn before_turn(&self, _session: u32, turn: u64) {
+        self.before
+            .fetch_add(turn.wrapping_add(100), Ordering::SeqCst);
+    }
+
+    fn after_turn(&self, _session: u32, turn: u64) {
+        self.after
+            .fetch_add(turn.wrapping_add(100), Ordering::SeqCst);
+    }
+}
+
+/// What the gate is told of a session on 513 copies of the record, which are three batches.
+fn told<R: Threads + Wait + Sync>(
+    rt: &R,
+    alloc: Global,
+    library: LibraryCode,
+) -> Result<(u64, u64), Memory> {
+    let mut content = Vec::new(alloc);
+    for _ in 0..513 {
+        content.extend_from_slice(ONE)?;
+    }
+    let (desk, mut root) = Desk::open(alloc, Served::empty(alloc)?)?;
+    let session = session_at(
+        alloc,
+        &desk,
+        &mut root,
+        library,
+        content.as_slice(),
+        100_000,
+    )?;
+    let mut sessions = [session];
+    let gate = CountingGate {
+        before: AtomicU64::new(0),
+        after: AtomicU64::new(0),
+    };
+    run_sessions(rt, alloc, &desk, &mut sessions, None, 1, &gate);
+    let before = gate.before.load(Ordering::SeqCst);
+    let after = gate.after.load(Ordering::SeqCst);
+    Ok((before, after))
+}
+
+#[test]
+fn the_gate_is_told_the_number_of_each_turn(rt: HostRuntime) -> Result<(), Fail> {
+    let alloc = rt.alloc();
+    let library = LibraryCode::read(b"LIBA").ok_or("a library code")?;
+    let told = told(&rt, alloc, library)?;
+    assert!(rt; told == (303, 303));
     Ok(())
 }

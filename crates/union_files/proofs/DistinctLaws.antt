@@ -33,11 +33,11 @@ distinct-words (word ∷ rest) h =
     let parts = both_true (not (list_any (name_one_library word) rest)) (have_distinct_codes rest) h in
     (none-named word rest (not-false _ parts.0), distinct-words rest parts.1)
 
-codes-of_files : (contents : List ℕ → List ℕ) (libraries : List LibraryFile) → codes_of (deliveries contents libraries) ≡ map (λ file. file.library) libraries
-codes-of_files contents [] = refl
-codes-of_files contents (file ∷ rest) = ap (λ (codes : List (List ℕ)). file.library ∷ codes) (codes-of_files contents rest)
+codes-of_files : (prefer : List (List ℕ)) (contents : List ℕ → List ℕ) (libraries : List LibraryFile) → codes_of (deliveries prefer contents libraries) ≡ map (λ file. file.library) libraries
+codes-of_files prefer contents [] = refl
+codes-of_files prefer contents (file ∷ rest) = ap (λ (codes : List (List ℕ)). file.library ∷ codes) (codes-of_files prefer contents rest)
 
 -- so what their files deliver is of distinct libraries
-pub distinct_deliveries : (words : List (List ℕ)) (contents : List ℕ → List ℕ) → have_distinct_codes words ≡ true
-    → AreDistinct (codes_of (deliveries contents (libraries_of words)))
-distinct_deliveries words contents distinct = subst AreDistinct (sym (codes-of_files contents (libraries_of words))) (distinct-words words distinct)
+pub distinct_deliveries : (words prefer : List (List ℕ)) (contents : List ℕ → List ℕ) → have_distinct_codes words ≡ true
+    → AreDistinct (codes_of (deliveries prefer contents (libraries_of words)))
+distinct_deliveries words prefer contents distinct = subst AreDistinct (sym (codes-of_files prefer contents (libraries_of words))) (distinct-words words distinct)

@@ -6,17 +6,17 @@ use Rattle.std.specs.Cmp.Lexicographic.{pointwise, bytes_decides}
 use Rattle.std.proofs.lemmas.Option.{slice_get_within, get_or_from_slice_get}
 use Rattle.std.proofs.lemmas.List.{drop_more}
 use Rattle.std.proofs.lemmas.Bool.Decides.{nat_tests}
-use Rattle.library_stream.specs.declared.frame_reader.TheConstants.{LARGEST_SOURCE}
 use Rattle.union_io.specs.Files.{told_of}
 use Rattle.union_io.specs.Causes.{Rose}
 use Rattle.union_io.specs.Counts.{SameCounts, SameElsewhere}
+use Rattle.union_io.specs.Names.{AddsName}
 use Rattle.union_words.specs.Words.{LibraryFile}
 use Rattle.union_words.specs.declared.input.Input.{Input}
 use Rattle.union_words.specs.declared.input.Input.TheVariants.{Library}
 use Rattle.union_words.specs.declared.status.Status.{Status}
 use Rattle.union_words.specs.declared.status.Status.TheVariants.{Done, DoneWithRefusals, Usage, OpenFault, ReadFault, WriteFault, TooLong, Memory}
 use Rattle.union_words.specs.Flows.{ShelfFlow, FailsAt}
-use Rattle.union_files.specs.Inputs.{input_of, inputs_of, IsTooLongAt, StopsAt, StopsOpening}
+use Rattle.union_files.specs.Inputs.{input_of, inputs_of, IsTooLongAt, StopsAt, StopsOpening, OpensInOrder, is_open_fault}
 
 -- the counts of a shelf
 abbrev Counts : Type 0
@@ -62,6 +62,30 @@ opens_behind Done file rest files a b c d before after stops = absurd stops
 opens_behind DoneWithRefusals file rest files a b c d before after stops = absurd stops
 opens_behind Usage file rest files a b c d before after stops = absurd stops
 opens_behind WriteFault file rest files a b c d before after stops = absurd stops
+
+-- one file more was opened before
+pub opens_later : (status : Status) (file : LibraryFile) (rest : List LibraryFile) (before between after : List (List ℕ))
+    → AddsName before between file.path → OpensInOrder status rest between after → OpensInOrder status (file ∷ rest) before after
+opens_later (OpenFault input) file rest before between after adds opens = inr (between, adds, opens)
+opens_later Memory file rest before between after adds opens = tt
+opens_later (ReadFault input) file rest before between after adds opens = tt
+opens_later (TooLong input) file rest before between after adds opens = tt
+opens_later Done file rest before between after adds opens = tt
+opens_later DoneWithRefusals file rest before between after adds opens = tt
+opens_later Usage file rest before between after adds opens = tt
+opens_later WriteFault file rest before between after adds opens = tt
+
+-- nothing is said of another status
+pub opens_none : (status : Status) (libraries : List LibraryFile) (before after : List (List ℕ)) → is_open_fault status ≡ false
+    → OpensInOrder status libraries before after
+opens_none (OpenFault input) libraries before after is = cc
+opens_none Memory libraries before after is = tt
+opens_none (ReadFault input) libraries before after is = tt
+opens_none (TooLong input) libraries before after is = tt
+opens_none Done libraries before after is = tt
+opens_none DoneWithRefusals libraries before after is = tt
+opens_none Usage libraries before after is = tt
+opens_none WriteFault libraries before after is = tt
 
 -- the list from a place on
 pub drop_at : {X : Type 0} (xs : List X) (place : ℕ) (x : X) → slice_get xs place ≡ Some x → drop place xs ≡ x ∷ drop (place + 1) xs

@@ -1,2 +1,5 @@
 pub mod InputLaws
 pub mod DistinctLaws
+pub mod OwnLaws
+pub mod InterleavingLaws
+pub mod UnionLaws

@@ -8,13 +8,14 @@ use Rattle.library_batches.specs.Refused.{refused}
 use Rattle.library_batches.specs.Streams.{Frame}
 use Rattle.union_reports.specs.Reports.{report_text}
 
--- the frames of a library's source
+-- the frames of a library's source, and the preference by which their records are loaded: the list of its codes, the best first
 pub record Delivery : Type 0 where
+  pub prefer : List (List ℕ)
   pub library : List ℕ
   pub frames : List Frame
 
-abbrev pub delivery : List ℕ → List Frame → Delivery
-delivery library frames = record { library = library; frames = frames }
+abbrev pub delivery : List (List ℕ) → List ℕ → List Frame → Delivery
+delivery prefer library frames = record { prefer = prefer; library = library; frames = frames }
 
 -- the libraries' codes
 abbrev pub codes_of : List Delivery → List (List ℕ)
@@ -31,13 +32,14 @@ has_refused d = nat_lt 0 (length (refused d.frames))
 
 -- a delivery and its batches
 pub record Stream : Type 0 where
+  pub prefer : List (List ℕ)
   pub library : List ℕ
   pub frames : List Frame
   pub batches : List Batch
-  pub are : AreBatches library frames batches
+  pub are : AreBatches prefer library frames batches
 
 abbrev pub delivered : Stream → Delivery
-delivered s = delivery s.library s.frames
+delivered s = delivery s.prefer s.library s.frames
 
 abbrev pub batches_of : Stream → List Batch
 batches_of s = s.batches

@@ -1,14 +1,14 @@
 -- The inputs of a run: the files of libraries in the order of the command, as a shelf has them.
-use Rattle.std.specs.Prelude.{◌≡◌, ◌≢◌, ◌⊎◌, ℕ, Bool, nat_lt, List, [], ◌∷◌, length, map, Ok, Err, Some, None, IfSome, IsTrue}
+use Rattle.std.specs.Prelude.{◌≡◌, ◌≢◌, ◌⊎◌, ⊤, ℕ, Bool, true, false, nat_lt, List, [], ◌∷◌, length, map, Ok, Err, Some, None, IfSome, IsTrue}
 use Rattle.std.specs.List.{find, AllByRecursion}
 use Rattle.std.specs.Option.{option_map}
 use Rattle.std.specs.declared.option.Option.{Option}
 use Rattle.std.specs.declared.result.Result.{Result}
 use Rattle.iso2709_frame.specs.Frames.{frames}
-use Rattle.library_stream.specs.declared.frame_reader.TheConstants.{LARGEST_SOURCE}
+use Rattle.library_batches.specs.Reading.{most_bytes}
 use Rattle.union_io.specs.Causes.{Rose}
 use Rattle.union_io.specs.Files.{told_of}
-use Rattle.union_io.specs.Names.{is_among}
+use Rattle.union_io.specs.Names.{is_among, AddsName}
 use Rattle.union_words.specs.Flows.{ShelfFlow, IsCalm, InputFile, FailsAt}
 use Rattle.union_words.specs.Words.{LibraryFile}
 use Rattle.union_words.specs.declared.input.Input.{Input}
@@ -27,7 +27,7 @@ inputs_of libraries = map input_of libraries
 
 -- the file has more bytes than are read
 abbrev pub is_overfull : (List ℕ → List ℕ) → LibraryFile → Bool
-is_overfull contents file = nat_lt LARGEST_SOURCE (length (contents file.path))
+is_overfull contents file = nat_lt most_bytes (length (contents file.path))
 
 -- the first of the files that has
 abbrev pub first_overfull : (List ℕ → List ℕ) → List LibraryFile → Option LibraryFile
@@ -41,9 +41,9 @@ AreWithin contents libraries = first_overfull contents libraries ≡ None
 abbrev pub IsTooLongAt : (List ℕ → List ℕ) → List LibraryFile → Input → Type 0
 IsTooLongAt contents libraries input = option_map (λ file. Library file.library) (first_overfull contents libraries) ≡ Some input
 
--- what the files deliver
-abbrev pub deliveries : (List ℕ → List ℕ) → List LibraryFile → List Delivery
-deliveries contents libraries = map (λ file. delivery file.library (frames (contents file.path))) libraries
+-- what the files deliver, where the records are loaded by that preference
+abbrev pub deliveries : List (List ℕ) → (List ℕ → List ℕ) → List LibraryFile → List Delivery
+deliveries prefer contents libraries = map (λ file. delivery prefer file.library (frames (contents file.path))) libraries
 
 -- no file of these has that name
 abbrev pub IsElsewhere : List ℕ → List InputFile → Type 0
@@ -85,6 +85,24 @@ StopsOpening Done libraries shelf = ⊥
 StopsOpening DoneWithRefusals libraries shelf = ⊥
 StopsOpening Usage libraries shelf = ⊥
 StopsOpening WriteFault libraries shelf = ⊥
+
+-- the files were opened in their order, each after the one before it, up to that of the input, and none after that. A file that could not
+-- be opened is among the names of the shelf too
+abbrev pub OpensUpTo : Input → List LibraryFile → List (List ℕ) → List (List ℕ) → Type 0
+OpensUpTo input [] before after = ⊥
+OpensUpTo input (file ∷ rest) before after =
+    ((input ≡ Library file.library) × AddsName before after file.path)
+    ⊎ ((between : List (List ℕ)) × AddsName before between file.path × OpensUpTo input rest between after)
+
+-- the names that were opened, where a run ends with that status since a file could not be opened; of another status nothing is said
+abbrev pub OpensInOrder : Status → List LibraryFile → List (List ℕ) → List (List ℕ) → Type 0
+OpensInOrder (OpenFault input) libraries before after = OpensUpTo input libraries before after
+OpensInOrder status libraries before after = ⊤
+
+-- an input could not be opened
+abbrev pub is_open_fault : Status → Bool
+is_open_fault (OpenFault input) = true
+is_open_fault status = false
 
 -- each of the files was read to its end, or the run stops there. What was found is so of all their contents
 abbrev pub Gathers : {T : Type 0} → Result T Status → List LibraryFile → ShelfFlow → (T → (List ℕ → List ℕ) → Type 0) → Type 0

@@ -1,5 +1,5 @@
 -- The union catalogue of what libraries deliver.
-use Rattle.std.specs.Prelude.{◌≡◌, List, map}
+use Rattle.std.specs.Prelude.{◌≡◌, List, map, Contains}
 use Rattle.std.specs.List.{list_any}
 use Rattle.catalogue_core.specs.Histories.{AreEditionsOf}
 use Rattle.catalogue_editions.specs.declared.edition.Edition.{Edition}
@@ -15,6 +15,11 @@ pub record IsUnion (all : List Delivery) (streams : List Stream) (editions : Lis
   pub history : List HistoryEntry
   pub interleaving : IsInterleaving (map batches_of streams) history
   pub resolved : AreEditionsOf history editions
+
+-- the same deliveries, in whatever order
+pub record AreSameDeliveries (all other : List Delivery) : Type 0 where
+  pub there : (d : Delivery) → Contains all d → Contains other d
+  pub back : (d : Delivery) → Contains other d → Contains all d
 
 -- the batches of the deliveries were applied, and no others, and the reports are theirs
 pub record HasLoaded (all : List Delivery) (loaded : Loaded) : Type 0 where

@@ -7,6 +7,7 @@
 //! Cost: of memory a place for each library.
 #![tactic(auto)]
 
+pub mod laws;
 pub mod loaded;
 pub mod opened_file;
 pub mod opening;

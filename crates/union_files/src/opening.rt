@@ -5,10 +5,10 @@
 //! names.
 ghost use Rattle.std.specs.Prelude.{◌≡◌, ◌≤◌, ◌∷◌, ℕ, List, length, drop, IsTrue, IfOk, IfErr, OnOk};
 ghost use Rattle.union_io.specs.Counts.{SameCounts};
-ghost use Rattle.union_io.specs.Names.{is_among};
+ghost use Rattle.union_io.specs.Names.{is_among, AddsName};
 ghost use Rattle.union_words.specs.Meanings.{file_meaning, libraries_meaning};
 ghost use Rattle.union_words.specs.Words;
-ghost use Rattle.union_files.specs.Inputs.{StopsOpening, IsFresh, AreFresh, state_of, states_of, file_of, files_of};
+ghost use Rattle.union_files.specs.Inputs.{StopsOpening, OpensInOrder, IsFresh, AreFresh, state_of, states_of, file_of, files_of};
 
 use crate::opened_file::OpenedFile;
 use std::alloc::Global;
@@ -45,6 +45,9 @@ fn open_file<F: Shelf>(
     ensures file { IfOk result (λ opened. file_of (state_of F.Src.name F.Src.left F.Src.faults opened) ≡ file_meaning file.now) }
     ensures fresh { IfOk result (λ opened. IsFresh (F.files shelf.new) (F.opened shelf.new) (state_of F.Src.name F.Src.left F.Src.faults opened)) }
     ensures calm { OnOk result (SameCounts (F.faults shelf.old) (F.faults shelf.new)) }
+    ensures opened { IfOk result (λ _. AddsName (F.opened shelf.old) (F.opened shelf.new) (file_meaning file.now).path) }
+    ensures in_order { IfErr result (λ status. (rest : List Words.LibraryFile)
+        → OpensInOrder status (file_meaning file.now ∷ rest) (F.opened shelf.old) (F.opened shelf.new)) }
     ensures stops { IfErr result (λ status. (rest : List Words.LibraryFile) → StopsOpening status (file_meaning file.now ∷ rest)
         (record { files = F.files shelf.old; before = F.faults shelf.old; after = F.faults shelf.new })) }
 {
@@ -86,6 +89,11 @@ fn put_first<F: Shelf>(
 }
 
 /// Opens the files of the libraries from this place on, in their order.
+///
+/// # Errors
+///
+/// - `OpenFault`: this file could not be opened; those before it were opened, in their order, and none after it.
+/// - `Memory`: allocation failed.
 pub fn open_rest<F: Shelf>(
     alloc: Global,
     libraries: &Libraries<'_>,
@@ -98,6 +106,8 @@ pub fn open_rest<F: Shelf>(
     ensures opened { IfOk result (λ opened. files_of (states_of F.Src.name F.Src.left F.Src.faults opened.items) ≡ drop place (libraries_meaning libraries.now)) }
     ensures fresh { IfOk result (λ opened. AreFresh (F.files shelf.new) (F.opened shelf.new) (states_of F.Src.name F.Src.left F.Src.faults opened.items)) }
     ensures calm { OnOk result (SameCounts (F.faults shelf.old) (F.faults shelf.new)) }
+    ensures in_order { IfErr result (λ status. OpensInOrder status (drop place (libraries_meaning libraries.now))
+        (F.opened shelf.old) (F.opened shelf.new)) }
     ensures stops { IfErr result (λ status. StopsOpening status (drop place (libraries_meaning libraries.now))
         (record { files = F.files shelf.old; before = F.faults shelf.old; after = F.faults shelf.new })) }
 {

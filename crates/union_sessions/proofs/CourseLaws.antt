@@ -10,7 +10,7 @@ use Rattle.catalogue_lock.specs.Ended.{Ended}
 use Rattle.catalogue_lock.specs.History.{changes_of, IsPrefix}
 use Rattle.catalogue_lock.specs.Rule.{EndedOk}
 use Rattle.iso2709_frame.specs.Frames.{frames}
-use Rattle.library_batches.specs.Batches.{AreBatches, IsBatchOf}
+use Rattle.library_batches.specs.Batches.{AreBatches}
 use Rattle.library_batches.specs.Outcomes.{found_in}
 use Rattle.library_batches.specs.Streams.{Frame}
 use Rattle.load_sessions.specs.Entries.{entries_of}
@@ -21,8 +21,9 @@ use Rattle.union_words.specs.Words.{LibraryFile}
 use Rattle.union_sessions.proofs.OwnLaws.{IsApart, found-apart}
 use Rattle.union_files.specs.Deliveries.{Delivery, delivery, codes_of, AreDistinct, has_refused, Stream, delivered, batches_of, report_of, reports_of}
 use Rattle.union_files.specs.Inputs.{deliveries}
+use Rattle.union_files.proofs.InterleavingLaws.{each-at, mapped-at, apart-at, own-batches}
 use Rattle.union_files.specs.Interleavings.{batches_under, IsInterleaving}
-use Rattle.union_sessions.specs.Sessions.{Course, file_of_course, ended_of, AreNumbered, IsWhole, course_text}
+use Rattle.union_sessions.specs.Sessions.{Course, file_of_course, delivery_of, ended_of, AreNumbered, IsWhole, course_text}
 use Rattle.union_files.specs.Unions.{HasLoaded, HasUnited}
 use Rattle.union_files.specs.declared.loaded.Loaded.{Loaded}
 
@@ -33,19 +34,6 @@ abbrev Entries : Type 0
 Entries = List (ℕ × Batch)
 
 -- ---- lists
-
-pub each_at : {A : Type 0} (P : A → Type 0) (xs : List A) (n : ℕ) (x : A) → AllByRecursion P xs → slice_get xs n ≡ Some x → P x
-each_at P [] n x all at = absurd (none_some at)
-  where
-    none_some : None ≡ Some x → ⊥
-    none_some at = cc
-each_at P (y ∷ xs) zero x all at = subst P (same_Some y x at) all.0
-each_at P (y ∷ xs) (suc n) x all at = each_at P xs n x all.1 at
-
-get_mapped : {A B : Type 0} (f : A → B) (xs : List A) (n : ℕ) (x : A) → slice_get xs n ≡ Some x → slice_get (map f xs) n ≡ Some (f x)
-get_mapped f [] n x at = cc
-get_mapped f (y ∷ xs) zero x at = ap (λ z. Some (f z)) (same_Some y x at)
-get_mapped f (y ∷ xs) (suc n) x at = get_mapped f xs n x at
 
 pub element : {A : Type 0} (xs : List A) (n : ℕ) → n < length xs → (x : A) × (slice_get xs n ≡ Some x)
 element [] n below = absurd (omega (arith, below))
@@ -81,25 +69,6 @@ number_at k (first ∷ courses) (suc n) c numbers at = number_at (suc k) courses
 place_is : (courses : List Course) (n : ℕ) (c : Course) → AreNumbered 0 courses → slice_get courses n ≡ Some c → c.number ≡ n
 place_is courses n c numbers at = number_at 0 courses n c numbers at ∙ omega arith
 
--- different places, different libraries
-apart_at : (courses : List Course) (i j : ℕ) (c d : Course) → AreDistinct (map (λ (c : Course). c.library) courses) → slice_get courses i ≡ Some c
-    → slice_get courses j ≡ Some d → i ≢ j → c.library ≢ d.library
-apart_at [] i j c d distinct at_i at_j differ = absurd (none_some at_i)
-  where
-    none_some : None ≡ Some c → ⊥
-    none_some at = cc
-apart_at (first ∷ courses) zero zero c d distinct at_i at_j differ = absurd (differ refl)
-apart_at (first ∷ courses) zero (suc j) c d distinct at_i at_j differ =
-    subst (λ (c : Course). c.library ≢ d.library) (same_Some first c at_i)
-    (each_at (λ code. first.library ≢ code) (map (λ (c : Course). c.library) courses) j d.library distinct.0
-    (get_mapped (λ (c : Course). c.library) courses j d at_j))
-apart_at (first ∷ courses) (suc i) zero c d distinct at_i at_j differ =
-    subst (λ (d : Course). c.library ≢ d.library) (same_Some first d at_j)
-    (λ same. each_at (λ code. first.library ≢ code) (map (λ (c : Course). c.library) courses) i c.library distinct.0
-    (get_mapped (λ (c : Course). c.library) courses i c at_i) (sym same))
-apart_at (first ∷ courses) (suc i) (suc j) c d distinct at_i at_j differ =
-    apart_at courses i j c d distinct.1 at_i at_j (λ same. differ (ap suc same))
-
 -- ---- whose an entry is
 
 -- the batch is of the library at the place that is the entry's number
@@ -107,13 +76,6 @@ pub record IsOwned (courses : List Course) (entry : ℕ × Batch) : Type 0 where
   pub course : Course
   pub at : slice_get courses entry.0 ≡ Some course
   pub library : entry.1.library ≡ course.library
-
-batches-own : (library : List ℕ) (blocks : List (List Frame)) (batches : List Batch) → AllZip (IsBatchOf library) blocks batches
-    → AllByRecursion (λ batch. batch.library ≡ library) batches
-batches-own library [] [] zip = tt
-batches-own library [] (batch ∷ batches) zip = absurd zip
-batches-own library (block ∷ blocks) [] zip = absurd zip
-batches-own library (block ∷ blocks) (batch ∷ batches) zip = (zip.0.library_is, batches-own library blocks batches zip.1)
 
 -- entries of that number are of the library
 own_entries : (library : List ℕ) (number : ℕ) (entries : Entries) → AllByRecursion (λ batch. batch.library ≡ library) (changes_of number entries)
@@ -147,7 +109,7 @@ apart_entries courses n c [] distinct at owned = tt
 apart_entries courses n c (entry ∷ entries) distinct at owned = (
   record {
     own = λ is. owned.0.library ∙ ap (λ (c : Course). c.library) (same_Some owned.0.course c (sym owned.0.at ∙ (ap (slice_get courses) is ∙ at)));
-    other = λ differ same. apart_at courses entry.0 n owned.0.course c distinct owned.0.at at differ (sym owned.0.library ∙ same);
+    other = λ differ same. apart-at (λ (c : Course). c.library) courses entry.0 n owned.0.course c distinct owned.0.at at differ (sym owned.0.library ∙ same);
   },
   apart_entries courses n c entries distinct at owned.1,
 )
@@ -158,13 +120,13 @@ apart_entries courses n c (entry ∷ entries) distinct at owned = (
 abbrev pub streams_of : (contents : Contents) (courses : List Course) → AllByRecursion (IsWhole contents) courses → List Stream
 streams_of contents [] whole = []
 streams_of contents (c ∷ courses) whole =
-    record { library = c.library; frames = frames (contents c.path); batches = c.own; are = whole.0 } ∷ streams_of contents courses whole.1
+    record { prefer = c.prefer; library = c.library; frames = frames (contents c.path); batches = c.own; are = whole.0 } ∷ streams_of contents courses whole.1
 
 streams-delivered : (contents : Contents) (courses : List Course) (whole : AllByRecursion (IsWhole contents) courses)
-    → map delivered (streams_of contents courses whole) ≡ deliveries contents (map file_of_course courses)
+    → map delivered (streams_of contents courses whole) ≡ map (delivery_of contents) courses
 streams-delivered contents [] whole = refl
 streams-delivered contents (c ∷ courses) whole =
-    ap (λ (all : List Delivery). delivery c.library (frames (contents c.path)) ∷ all) (streams-delivered contents courses whole.1)
+    ap (λ (all : List Delivery). delivery_of contents c ∷ all) (streams-delivered contents courses whole.1)
 
 streams-batches : (contents : Contents) (courses : List Course) (whole : AllByRecursion (IsWhole contents) courses)
     → map batches_of (streams_of contents courses whole) ≡ map (λ (c : Course). c.own) courses
@@ -179,8 +141,16 @@ streams-reports contents (c ∷ courses) whole brought =
     ap (λ outcomes. report_text c.library (frames (contents c.path)) outcomes ++ flat_map (course_text contents) courses) brought.0
     ∙ ap (λ (rest : List ℕ). report_text c.library (frames (contents c.path)) (found_in [] c.own) ++ rest) (streams-reports contents courses whole.1 brought.1)
 
+-- what the files deliver of which these are the courses
+pub delivered-files : (prefer : List (List ℕ)) (contents : Contents) (courses : List Course) → AllByRecursion (λ c. c.prefer ≡ prefer) courses
+    → map (delivery_of contents) courses ≡ deliveries prefer contents (map file_of_course courses)
+delivered-files prefer contents [] all = refl
+delivered-files prefer contents (c ∷ courses) all =
+    ap (λ p. delivery p c.library (frames (contents c.path)) ∷ map (delivery_of contents) courses) all.0
+    ∙ ap (λ (more : List Delivery). delivery prefer c.library (frames (contents c.path)) ∷ more) (delivered-files prefer contents courses all.1)
+
 codes-same : (contents : Contents) (courses : List Course)
-    → codes_of (deliveries contents (map file_of_course courses)) ≡ map (λ (c : Course). c.library) courses
+    → codes_of (map (delivery_of contents) courses) ≡ map (λ (c : Course). c.library) courses
 codes-same contents [] = refl
 codes-same contents (c ∷ courses) = ap (λ (codes : List (List ℕ)). c.library ∷ codes) (codes-same contents courses)
 
@@ -215,10 +185,10 @@ each_place P (x ∷ xs) holds = (holds 0 x refl, each_place P xs (λ n y at. hol
 pub united : (contents : Contents) (courses : List Course) (loaded : Loaded) → AreNumbered 0 courses
     → AllByRecursion (EndedOk (entries_of loaded.catalogue)) (map ended_of courses)
     → AllByRecursion (λ (e : ℕ × Batch). e.0 < length courses) (entries_of loaded.catalogue)
-    → AreDistinct (codes_of (deliveries contents (map file_of_course courses))) → AllByRecursion (IsWhole contents) courses
+    → AreDistinct (codes_of (map (delivery_of contents) courses)) → AllByRecursion (IsWhole contents) courses
     → loaded.reports.items ≡ flat_map (course_text contents) courses
-    → loaded.refused ≡ list_any has_refused (deliveries contents (map file_of_course courses))
-    → HasUnited (deliveries contents (map file_of_course courses)) loaded
+    → loaded.refused ≡ list_any has_refused (map (delivery_of contents) courses)
+    → HasUnited (map (delivery_of contents) courses) loaded
 united contents courses loaded numbers ended low distinct whole reports refused =
     let entries = entries_of loaded.catalogue in
     let codes = map (λ (c : Course). c.library) courses in
@@ -228,12 +198,12 @@ united contents courses loaded numbers ended low distinct whole reports refused 
     let owned : AllByRecursion (IsOwned courses) entries = owned_entries courses entries
     (λ n c at. own_entries c.library n entries
     (subst (λ m. AllByRecursion (λ batch. batch.library ≡ c.library) (changes_of m entries)) (place_is courses n c numbers at)
-    (subst (AllByRecursion (λ batch. batch.library ≡ c.library)) (sym (each_at (λ c. EndedOk entries (ended_of c)) courses n c ends at).own)
-    (batches-own c.library _ c.own (each_at (IsWhole contents) courses n c whole at)))))
+    (subst (AllByRecursion (λ batch. batch.library ≡ c.library)) (sym (each-at (λ c. EndedOk entries (ended_of c)) courses n c ends at).own)
+    (own-batches c.prefer c.library _ c.own (each-at (IsWhole contents) courses n c whole at)))))
     low in
     let brought : AllByRecursion (λ c. found c.seen c.number ≡ found_in [] c.own) courses = each_place (λ c. found c.seen c.number ≡ found_in [] c.own) courses
     (λ n c at.
-    let end : EndedOk entries (ended_of c) = each_at (λ c. EndedOk entries (ended_of c)) courses n c ends at in
+    let end : EndedOk entries (ended_of c) = each-at (λ c. EndedOk entries (ended_of c)) courses n c ends at in
     let is : c.number ≡ n = place_is courses n c numbers at in
     let seen : AllByRecursion (IsOwned courses) c.seen =
     first_of_both (IsOwned courses) c.seen end.seen.0 (subst (AllByRecursion (IsOwned courses)) (sym end.seen.1) owned) in
@@ -249,7 +219,7 @@ united contents courses loaded numbers ended low distinct whole reports refused 
               (numbers-below (length courses) loaded.catalogue low);
           each = λ n batches at.
               let c = course_at courses n batches at in
-              let end : EndedOk entries (ended_of c.0) = each_at (λ c. EndedOk entries (ended_of c)) courses n c.0 ends c.1 in
+              let end : EndedOk entries (ended_of c.0) = each-at (λ c. EndedOk entries (ended_of c)) courses n c.0 ends c.1 in
               under-entries n loaded.catalogue
               ∙ (ap (λ m. changes_of m entries) (sym (place_is courses n c.0 numbers c.1)) ∙ (end.own ∙ c.2));
         });

@@ -14,7 +14,8 @@ use Rattle.catalogue_query.specs.declared.answer.Answer.{Answer}
 use Rattle.catalogue_query.specs.declared.query.Query.{Query}
 use Rattle.load_sessions.specs.Askers.{Replied}
 use Rattle.load_sessions.specs.Entries.{entries_of, tells}
-use Rattle.union_sessions.proofs.CourseLaws.{each_at, each_place, element, first_of_both}
+use Rattle.union_sessions.proofs.CourseLaws.{each_place, element, first_of_both}
+use Rattle.union_files.proofs.InterleavingLaws.{each-at}
 use Rattle.union_sessions.specs.Replies.{AreReplies, HasAsked}
 use Rattle.union_sessions.specs.Sessions.{Course, AreNumbered, ended_of}
 
@@ -68,7 +69,7 @@ unnumbered n (entry ∷ entries) none =
 ended_idle : (history : Entries) (left : Ended Batch) (place : ℕ) (entry : ℕ × Batch) → EndedOk history left → left.own ≡ [] → slice_get history place ≡ Some entry
     → entry.0 ≢ left.number
 ended_idle history left place entry ended idle at =
-    each_at (λ entry. entry.0 ≢ left.number) history place entry (unnumbered left.number history (ended.own ∙ idle)) at
+    each-at (λ entry. entry.0 ≢ left.number) history place entry (unnumbered left.number history (ended.own ∙ idle)) at
 
 changes-both : (n : ℕ) (front back : Entries) → changes_of n (front ++ back) ≡ changes_of n front ++ changes_of n back
 changes-both n [] back = refl
@@ -83,7 +84,7 @@ nothing-behind (x ∷ xs) ys same = nothing-behind xs ys (cc)
 
 behind_seen : (n : ℕ) (seen rest : Entries) (place : ℕ) (entry : ℕ × Batch) → slice_get (seen ++ rest) place ≡ Some entry → length seen ≤ place
     → AllByRecursion (λ entry. entry.0 ≢ n) rest → entry.0 ≢ n
-behind_seen n [] rest place entry at behind all = each_at (λ entry. entry.0 ≢ n) rest place entry all at
+behind_seen n [] rest place entry at behind all = each-at (λ entry. entry.0 ≢ n) rest place entry all at
 behind_seen n (first ∷ seen) rest zero entry at behind all = absurd (omega (arith, behind))
 behind_seen n (first ∷ seen) rest (suc place) entry at behind all = behind_seen n seen rest place entry at (omega (arith, behind)) all
 
@@ -142,7 +143,7 @@ is-closed history done beside late made known ended made_by numbers few seen idl
     let ends_late : EndedOk history late = (last_of_both (EndedOk history) (done ++ beside ∷ []) (late ∷ []) ends).0 in
     let low : AllByRecursion (λ (entry : ℕ × Batch). entry.0 < made + 1) history = recursion_from_All (λ entry. entry.0 < made + 1) history made_by in
     let below : (place : ℕ) (entry : ℕ × Batch) → slice_get history place ≡ Some entry → entry.0 + 1 < made = λ place entry at.
-    of_any (λ (left : Ended Batch). left.number ≡ entry.0) (entry.0 + 1 < made) all (numbers entry.0 (each_at (λ entry. entry.0 < made + 1) history place entry low at))
+    of_any (λ (left : Ended Batch). left.number ≡ entry.0) (entry.0 + 1 < made) all (numbers entry.0 (each-at (λ entry. entry.0 < made + 1) history place entry low at))
     (all_both (λ (left : Ended Batch). left.number ≡ entry.0 → entry.0 + 1 < made) (done ++ beside ∷ []) (late ∷ [])
     (all_both (λ (left : Ended Batch). left.number ≡ entry.0 → entry.0 + 1 < made) done (beside ∷ [])
     (each_weaker (λ (left : Ended Batch). left.number + 1 < made) (λ left. left.number ≡ entry.0 → entry.0 + 1 < made) done (λ left h is. subst (λ n. n + 1 < made) is h) few)
@@ -154,7 +155,7 @@ is-closed history done beside late made known ended made_by numbers few seen idl
       late_ended = ends_late;
       numbers = each_place (λ entry. entry.0 + 1 < made) history below;
       whole = at_most (nat_le (length history) known) refl
-          (λ entry at. of_any (λ (left : Ended Batch). left.number ≡ entry.0) ⊥ all (numbers entry.0 (each_at (λ entry. entry.0 < made + 1) history known entry low at))
+          (λ entry at. of_any (λ (left : Ended Batch). left.number ≡ entry.0) ⊥ all (numbers entry.0 (each-at (λ entry. entry.0 < made + 1) history known entry low at))
           (all_both (λ (left : Ended Batch). left.number ≡ entry.0 → ⊥) (done ++ beside ∷ []) (late ∷ [])
           (both_each (EndedOk history) (λ (left : Ended Batch). length left.seen ≤ known) (λ left. left.number ≡ entry.0 → ⊥) (done ++ beside ∷ [])
           (λ left end behind is. ended_behind history left known entry end behind at (sym is)) ends_front seen)

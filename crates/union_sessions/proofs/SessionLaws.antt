@@ -8,7 +8,7 @@ use Rattle.std.proofs.lemmas.Option.{IfSome_then}
 use Rattle.atomic_table.specs.Seated.{TableId}
 use Rattle.catalogue_lock.specs.Tokens.{view}
 use Rattle.iso2709_frame.specs.Frames.{frames}
-use Rattle.library_stream.specs.declared.frame_reader.TheConstants.{LARGEST_SOURCE}
+use Rattle.library_batches.specs.Reading.{most_bytes}
 use Rattle.load_sessions.specs.Sessions.{IsReady, IsLoaded, Runs, RunsEach}
 use Rattle.load_sessions.specs.declared.end.End.{End}
 use Rattle.load_sessions.specs.declared.end.End.TheVariants.{ReadFault as EndFault}
@@ -18,9 +18,9 @@ use Rattle.union_io.specs.Counts.{SameCounts}
 use Rattle.union_io.specs.Files.{told_of}
 use Rattle.union_io.specs.Names.{is_among}
 use Rattle.union_files.proofs.InputLaws.{flow, same_more}
-use Rattle.union_files.specs.Deliveries.{delivery, has_refused}
-use Rattle.union_files.specs.Inputs.{Gathers, inputs_of, is_overfull, first_overfull, AreWithin, IsTooLongAt, IsEarliest, StopsAt, IsFresh, AreFresh, files_of, deliveries}
-use Rattle.union_sessions.specs.Sessions.{is_fault, Course, file_of_course, AreNumbered, course_text, AreReported, StopsBehind, Closes, IsReadyAs, AreReady, courses_of, session_state, session_states, HasRun, HaveRun}
+use Rattle.union_files.specs.Deliveries.{has_refused}
+use Rattle.union_files.specs.Inputs.{Gathers, inputs_of, is_overfull, first_overfull, AreWithin, IsTooLongAt, IsEarliest, StopsAt, IsFresh, AreFresh, files_of}
+use Rattle.union_sessions.specs.Sessions.{is_fault, Course, file_of_course, delivery_of, AreNumbered, course_text, AreReported, StopsBehind, Closes, IsReadyAs, AreReady, courses_of, session_state, session_states, HasRun, HaveRun}
 use Rattle.union_sessions.specs.declared.reports.Reports.{Reports}
 use Rattle.union_words.specs.Flows.{InputFile}
 use Rattle.union_words.specs.Words.{LibraryFile}
@@ -81,8 +81,8 @@ reported_both contents course courses before between now one more = record {
   text = more.text ∙ (ap (λ t. t ++ flat_map (course_text contents) courses) one.text
       ∙ (append_assoc before.text.items (course_text contents course ++ []) (flat_map (course_text contents) courses)
       ∙ ap (λ t. before.text.items ++ (t ++ flat_map (course_text contents) courses)) (append-nil (course_text contents course))));
-  refused = more.refused ∙ (ap (λ r. r || list_any has_refused (deliveries contents (map file_of_course courses))) one.refused
-      ∙ or_assoc before.refused (has_refused (delivery course.library (frames (contents course.path)))) (list_any has_refused (deliveries contents (map file_of_course courses))));
+  refused = more.refused ∙ (ap (λ r. r || list_any has_refused (map (delivery_of contents) courses)) one.refused
+      ∙ or_assoc before.refused (has_refused (delivery_of contents course)) (list_any has_refused (map (delivery_of contents) courses)));
 }
 
 -- ---- sessions that are run
@@ -95,62 +95,69 @@ fault_is EndFault is = refl
 fault_is end is = cc
 
 module _ {S : Type 0} where
-  pub ready_pushed : (desk : TableId) (number : ℕ) (sessions : List (Session S)) (session : Session S) → AreReady desk number sessions
-      → IsReadyAs desk (number + length sessions) session → AreReady desk number (sessions ++ session ∷ [])
-  ready_pushed desk number [] session all one =
-      (let here : number + 0 ≡ number = omega arith in (subst (λ n. IsReadyAs desk n session) here one, tt))
-  ready_pushed desk number (first ∷ sessions) session all one =
+  pub ready_pushed : (desk : TableId) (prefer : List (List ℕ)) (number : ℕ) (sessions : List (Session S)) (session : Session S)
+      → AreReady desk prefer number sessions → IsReadyAs desk prefer (number + length sessions) session
+      → AreReady desk prefer number (sessions ++ session ∷ [])
+  ready_pushed desk prefer number [] session all one =
+      (let here : number + 0 ≡ number = omega arith in (subst (λ n. IsReadyAs desk prefer n session) here one, tt))
+  ready_pushed desk prefer number (first ∷ sessions) session all one =
       (let here : number + length (first ∷ sessions) ≡ suc number + length sessions = omega arith in
-      (all.0, ready_pushed desk (suc number) sessions session all.1 (subst (λ n. IsReadyAs desk n session) here one)))
+      (all.0, ready_pushed desk prefer (suc number) sessions session all.1 (subst (λ n. IsReadyAs desk prefer n session) here one)))
 
-  pub ready_all : (desk : TableId) (number : ℕ) (sessions : List (Session S)) → AreReady desk number sessions → All (IsReady desk) sessions
-  ready_all desk number sessions all = All-from_recursion (IsReady desk) sessions (each number sessions all)
+  pub ready_all : (desk : TableId) (prefer : List (List ℕ)) (number : ℕ) (sessions : List (Session S)) → AreReady desk prefer number sessions
+      → All (IsReady desk) sessions
+  ready_all desk prefer number sessions all = All-from_recursion (IsReady desk) sessions (each number sessions all)
     where
-      each : (number : ℕ) (sessions : List (Session S)) → AreReady desk number sessions → AllByRecursion (IsReady desk) sessions
+      each : (number : ℕ) (sessions : List (Session S)) → AreReady desk prefer number sessions → AllByRecursion (IsReady desk) sessions
       each number [] all = tt
       each number (session ∷ sessions) all = (all.0.ready, each (suc number) sessions all.1)
 
   module _ (name : S → List ℕ) (left : S → Option (List ℕ)) (faults : S → ℕ) where
-    has_run : (desk : TableId) (number : ℕ) (files : Option Contents) (names : List (List ℕ)) (before now : Session S) → IsReadyAs desk number before
+    has_run : (desk : TableId) (prefer : List (List ℕ)) (number : ℕ) (files : Option Contents) (names : List (List ℕ)) (before now : Session S)
+        → IsReadyAs desk prefer number before
         → IsFresh files names (session_state name left faults before) → Runs name left faults desk before now → HasRun name faults desk files names now
-    has_run desk number files names before now ready fresh runs =
+    has_run desk prefer number files names before now ready fresh runs =
         let told : left before.source ≡ told_of files (name now.source) = fresh.left ∙ ap (told_of files) (sym runs.keeps.source) in
         record {
           desk_is = runs.keeps.desk_is;
           listed = subst (λ n. IsTrue (is_among n names)) (sym runs.keeps.source) fresh.listed;
-          done = λ is. subst (λ t. IfSome t (λ bytes. IsLoaded now.library LARGEST_SOURCE bytes (view now.pass).own now.report)) told
-              (subst (λ limit. IfSome (left before.source) (λ bytes. IsLoaded now.library limit bytes (view now.pass).own now.report)) ready.limit
-              (subst (λ library. IfSome (left before.source) (λ bytes. IsLoaded library before.limit bytes (view now.pass).own now.report)) (sym runs.keeps.library)
-              (runs.done is)));
+          done = λ is. subst (λ t. IfSome t (λ bytes. IsLoaded now.prefer now.library most_bytes bytes (view now.pass).own now.report)) told
+              (subst (λ limit. IfSome (left before.source) (λ bytes. IsLoaded now.prefer now.library limit bytes (view now.pass).own now.report)) ready.limit
+              (subst (λ library. IfSome (left before.source) (λ bytes. IsLoaded now.prefer library before.limit bytes (view now.pass).own now.report)) (sym runs.keeps.library)
+              (subst (λ prefer. IfSome (left before.source) (λ bytes. IsLoaded prefer before.library before.limit bytes (view now.pass).own now.report)) (sym runs.keeps.prefer)
+              (runs.done is))));
           counts = runs.counts;
-          long = λ is. subst (λ t. IfSome t (λ bytes. LARGEST_SOURCE < length bytes)) told
+          long = λ is. subst (λ t. IfSome t (λ bytes. most_bytes < length bytes)) told
               (subst (λ limit. IfSome (left before.source) (λ bytes. limit < length bytes)) ready.limit (runs.long is));
           fault = λ is. some_fault (faults before.source) (faults now.source) fresh.faults (runs.fault (fault_is now.end is));
           calm = λ none. runs.calm (λ is. (let clash : true ≡ false = sym (ap is_fault is) ∙ none in cc)) ∙ fresh.faults;
         }
 
     -- what the run of sessions leaves
-    pub record HaveEnded (desk : TableId) (number : ℕ) (files : Option Contents) (names : List (List ℕ)) (before now : List (Session S)) : Type 0 where
+    pub record HaveEnded (desk : TableId) (prefer : List (List ℕ)) (number : ℕ) (files : Option Contents) (names : List (List ℕ)) (before now : List (Session S)) : Type 0 where
+      pub prefers : AllByRecursion (λ c. c.prefer ≡ prefer) (courses_of name now)
       pub ran : HaveRun name faults desk files names now
       pub files_are : map file_of_course (courses_of name now) ≡ files_of (session_states name left faults before)
       pub numbers : AreNumbered number (courses_of name now)
       pub long : length (courses_of name now) ≡ length before
 
-    pub have_run : (desk : TableId) (number : ℕ) (files : Option Contents) (names : List (List ℕ)) (before now : List (Session S)) → AreReady desk number before
+    pub have_run : (desk : TableId) (prefer : List (List ℕ)) (number : ℕ) (files : Option Contents) (names : List (List ℕ)) (before now : List (Session S))
+        → AreReady desk prefer number before
         → AreFresh files names (session_states name left faults before) → RunsEach name left faults desk before now
-        → HaveEnded desk number files names before now
-    have_run desk number files names [] [] ready fresh runs = record { ran = tt; files_are = refl; numbers = tt; long = refl }
-    have_run desk number files names [] (session ∷ now) ready fresh runs = absurd (omega (arith, runs.long))
-    have_run desk number files names (session ∷ before) [] ready fresh runs = absurd (omega (arith, runs.long))
-    have_run desk number files names (first ∷ before) (session ∷ now) ready fresh runs =
+        → HaveEnded desk prefer number files names before now
+    have_run desk prefer number files names [] [] ready fresh runs = record { prefers = tt; ran = tt; files_are = refl; numbers = tt; long = refl }
+    have_run desk prefer number files names [] (session ∷ now) ready fresh runs = absurd (omega (arith, runs.long))
+    have_run desk prefer number files names (session ∷ before) [] ready fresh runs = absurd (omega (arith, runs.long))
+    have_run desk prefer number files names (first ∷ before) (session ∷ now) ready fresh runs =
         let one : Runs name left faults desk first session = runs.each 0 first (omega arith) in
         let rest : RunsEach name left faults desk before now = record {
           long = omega (arith, runs.long);
           each = λ place other below. runs.each (suc place) other (omega (arith, below));
         } in
-        let more = have_run desk (suc number) files names before now ready.1 fresh.1 rest in
+        let more = have_run desk prefer (suc number) files names before now ready.1 fresh.1 rest in
         record {
-          ran = (has_run desk number files names first session ready.0 fresh.0 one, more.ran);
+          prefers = (one.keeps.prefer ∙ ready.0.prefer_is, more.prefers);
+          ran = (has_run desk prefer number files names first session ready.0 fresh.0 one, more.ran);
           files_are = ap (λ path. record { library = session.library; path = path } ∷ map file_of_course (courses_of name now)) one.keeps.source
               ∙ (ap (λ library. record { library = library; path = name first.source } ∷ map file_of_course (courses_of name now)) one.keeps.library
               ∙ ap (λ files. record { library = first.library; path = name first.source } ∷ files) more.files_are);

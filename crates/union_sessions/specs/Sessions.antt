@@ -10,7 +10,7 @@ use Rattle.catalogue_lock.specs.declared.view.View.{View}
 use Rattle.iso2709_frame.specs.Frames.{frames}
 use Rattle.library_batches.specs.Batches.{AreBatches}
 use Rattle.library_batches.specs.Outcomes.{AreCounted}
-use Rattle.library_stream.specs.declared.frame_reader.TheConstants.{LARGEST_SOURCE}
+use Rattle.library_batches.specs.Reading.{most_bytes}
 use Rattle.load_sessions.specs.Sessions.{IsReady, IsLoaded, counts_of}
 use Rattle.load_sessions.specs.Tallies.{found}
 use Rattle.load_sessions.specs.declared.end.End.{End}
@@ -20,8 +20,8 @@ use Rattle.union_io.specs.Causes.{Rose}
 use Rattle.union_io.specs.Files.{told_of}
 use Rattle.union_io.specs.Names.{is_among}
 use Rattle.union_reports.specs.Reports.{report_text}
-use Rattle.union_files.specs.Deliveries.{has_refused}
-use Rattle.union_files.specs.Inputs.{AreWithin, IsTooLongAt, OpenedState, deliveries}
+use Rattle.union_files.specs.Deliveries.{Delivery, delivery, has_refused}
+use Rattle.union_files.specs.Inputs.{AreWithin, IsTooLongAt, OpenedState}
 use Rattle.union_sessions.specs.declared.reports.Reports.{Reports}
 use Rattle.union_words.specs.Words.{LibraryFile}
 use Rattle.union_words.specs.declared.status.Status.{Status}
@@ -32,9 +32,10 @@ abbrev pub is_fault : End → Bool
 is_fault EndFault = true
 is_fault end = false
 
--- what a session came to: its library, the name of its file, whether a read of it failed, the number of its pass, the batches of
--- its turns, and the history that it has seen
+-- what a session came to: the preference by which it loaded, its library, the name of its file, whether a read of it failed, the
+-- number of its pass, the batches of its turns, and the history that it has seen
 pub record Course : Type 0 where
+  pub prefer : List (List ℕ)
   pub library : List ℕ
   pub path : List ℕ
   pub failed : Bool
@@ -54,9 +55,13 @@ abbrev pub AreNumbered : ℕ → List Course → Type 0
 AreNumbered number [] = ⊤
 AreNumbered number (course ∷ courses) = (course.number ≡ number) × AreNumbered (suc number) courses
 
+-- what the library delivers
+abbrev pub delivery_of : (List ℕ → List ℕ) → Course → Delivery
+delivery_of contents course = delivery course.prefer course.library (frames (contents course.path))
+
 -- its batches are all those of its file
 abbrev pub IsWhole : (List ℕ → List ℕ) → Course → Type 0
-IsWhole contents course = AreBatches course.library (frames (contents course.path)) course.own
+IsWhole contents course = AreBatches course.prefer course.library (frames (contents course.path)) course.own
 
 -- the report on it, by what came of its batches in the history that it has seen
 abbrev pub course_text : (List ℕ → List ℕ) → Course → List ℕ
@@ -66,7 +71,7 @@ course_text contents course = report_text course.library (frames (contents cours
 pub record AreReported (contents : List ℕ → List ℕ) (courses : List Course) (before now : Reports) : Type 0 where
   pub whole : AllByRecursion (IsWhole contents) courses
   pub text : now.text.items ≡ before.text.items ++ flat_map (course_text contents) courses
-  pub refused : now.refused ≡ (before.refused || list_any has_refused (deliveries contents (map file_of_course courses)))
+  pub refused : now.refused ≡ (before.refused || list_any has_refused (map (delivery_of contents) courses))
 
 -- each of the files was read to its end by its session; or one is too long, or memory ran out. What was found is so of all their
 -- contents
@@ -108,20 +113,23 @@ pub record HasEnded (more : List (Ended Batch)) (before now : View (Unit {0}) Ba
   pub known : AllByRecursion (λ left. length left.seen ≤ now.floor) more
 
 module _ {S : Type 0} where
-  -- a session that is to be run, with this number
-  pub record IsReadyAs (desk : TableId) (number : ℕ) (session : Session S) : Type 0 where
+  -- a session that is to be run, by that preference and with this number
+  pub record IsReadyAs (desk : TableId) (prefer : List (List ℕ)) (number : ℕ) (session : Session S) : Type 0 where
     pub ready : IsReady desk session
     pub number_is : (view session.pass).number ≡ number
-    pub limit : session.limit ≡ LARGEST_SOURCE
+    pub prefer_is : session.prefer ≡ prefer
+    pub limit : session.limit ≡ most_bytes
 
-  -- sessions that are to be run, with these numbers one after the other
-  abbrev pub AreReady : TableId → ℕ → List (Session S) → Type 0
-  AreReady desk number [] = ⊤
-  AreReady desk number (session ∷ sessions) = IsReadyAs desk number session × AreReady desk (suc number) sessions
+  -- sessions that are to be run, by that preference and with these numbers one after the other
+  abbrev pub AreReady : TableId → List (List ℕ) → ℕ → List (Session S) → Type 0
+  AreReady desk prefer number [] = ⊤
+  AreReady desk prefer number (session ∷ sessions) =
+      IsReadyAs desk prefer number session × AreReady desk prefer (suc number) sessions
 
   module _ (name : S → List ℕ) where
     abbrev pub course_of : Session S → Course
     course_of session = record {
+      prefer = session.prefer;
       library = session.library;
       path = name session.source;
       failed = is_fault session.end;
@@ -148,9 +156,11 @@ module _ {S : Type 0} where
         pub desk_is : session.pass.place.table_id ≡ desk
         pub listed : IsTrue (is_among (name session.source) names)
         pub done : session.end ≡ EndDone → IfSome (told_of files (name session.source))
-            (λ bytes. IsLoaded session.library LARGEST_SOURCE bytes (view session.pass).own session.report)
-        pub counts : session.end ≡ EndDone → AreCounted (found (view session.pass).seen (view session.pass).number) (counts_of session.report)
-        pub long : session.end ≡ EndTooLong → IfSome (told_of files (name session.source)) (λ bytes. LARGEST_SOURCE < length bytes)
+            (λ bytes. IsLoaded session.prefer session.library most_bytes bytes (view session.pass).own session.report)
+        pub counts : session.end ≡ EndDone
+            → AreCounted (found (view session.pass).seen (view session.pass).number) (counts_of session.report)
+        pub long : session.end ≡ EndTooLong
+            → IfSome (told_of files (name session.source)) (λ bytes. most_bytes < length bytes)
         pub fault : is_fault session.end ≡ true → 0 < faults session.source
         pub calm : is_fault session.end ≡ false → faults session.source ≡ 0
 

@@ -45,7 +45,7 @@ pub fn start_asker(
 ///
 /// # Errors
 ///
-/// `Memory`: it ran out before each question had a reply.
+/// `Memory`: allocation failed before each question had a reply.
 pub fn end_asker(
     desk: &Desk<Served>,
     root: &mut Root<Served>,
@@ -74,7 +74,7 @@ pub fn end_asker(
 ///
 /// # Errors
 ///
-/// `Memory`: it ran out before each question had a reply.
+/// `Memory`: allocation failed before each question had a reply.
 pub fn ask_late<R: Wait>(
     rt: &R,
     alloc: Global,

@@ -3,10 +3,10 @@
 //!
 //! A file that could not be read is named before one that is too long, and that before want of memory; of two of a kind the first
 //! in the order of the command. Memory grows with the reports.
-ghost use Rattle.std.specs.Prelude.{◌≡◌, ◌∷◌, [], map};
+ghost use Rattle.std.specs.Prelude.{◌≡◌, ◌∷◌, [], false, map, IfErr};
 ghost use Rattle.catalogue_lock.specs.Tokens.{root_of, IsRootOf};
 ghost use Rattle.union_words.specs.Meanings.{libraries_meaning};
-ghost use Rattle.union_files.specs.Inputs.{Gathers};
+ghost use Rattle.union_files.specs.Inputs.{Gathers, is_open_fault};
 ghost use Rattle.union_sessions.specs.Sessions.{AreReported, Closes, HasEnded, HasRun, HaveRun, NoneFailed, RaisesFailed, course_of, courses_of, ended_of, file_of_course};
 
 use crate::faults::first_failed;
@@ -32,11 +32,13 @@ fn end_session<F: Shelf>(
     shelf: &mut F,
 ) -> Result<(), Status>
     requires desk { IsRootOf root.old desk.now }
-    requires ran { HasRun F.Src.name F.Src.faults desk.now.board.shared.table_id (F.files shelf.old) (F.opened shelf.old) session }
+    requires ran { HasRun F.Src.name F.Src.faults desk.now.board.shared.table_id (F.files shelf.old) (F.opened shelf.old)
+        session }
     ensures desk { IsRootOf root.new desk.now }
     ensures root { HasEnded (ended_of (course_of F.Src.name session) ∷ []) (root_of root.old) (root_of root.new) }
     ensures files { F.files shelf.new ≡ F.files shelf.old }
     ensures names { F.opened shelf.new ≡ F.opened shelf.old }
+    ensures status { IfErr result (λ status. is_open_fault status ≡ false) }
     ensures counts { RaisesFailed (course_of F.Src.name session ∷ []) (F.faults shelf.old) (F.faults shelf.new) }
     ensures closes { NoneFailed (course_of F.Src.name session ∷ [])
         → Closes result (file_of_course (course_of F.Src.name session) ∷ []) (F.files shelf.old)
@@ -47,6 +49,7 @@ fn end_session<F: Shelf>(
         library,
         source,
         limit: _,
+        prefer: _,
         pass,
         report,
         end,
@@ -73,11 +76,13 @@ fn end_sessions<F: Shelf>(
     shelf: &mut F,
 ) -> Result<(), Status>
     requires desk { IsRootOf root.old desk.now }
-    requires ran { HaveRun F.Src.name F.Src.faults desk.now.board.shared.table_id (F.files shelf.old) (F.opened shelf.old) sessions.old.items }
+    requires ran { HaveRun F.Src.name F.Src.faults desk.now.board.shared.table_id (F.files shelf.old) (F.opened shelf.old)
+        sessions.old.items }
     ensures desk { IsRootOf root.new desk.now }
     ensures root { HasEnded (map ended_of (courses_of F.Src.name sessions.old.items)) (root_of root.old) (root_of root.new) }
     ensures files { F.files shelf.new ≡ F.files shelf.old }
     ensures names { F.opened shelf.new ≡ F.opened shelf.old }
+    ensures status { IfErr result (λ status. is_open_fault status ≡ false) }
     ensures counts { RaisesFailed (courses_of F.Src.name sessions.old.items) (F.faults shelf.old) (F.faults shelf.new) }
     ensures closes { NoneFailed (courses_of F.Src.name sessions.old.items)
         → Closes result (map file_of_course (courses_of F.Src.name sessions.old.items)) (F.files shelf.old)
@@ -104,10 +109,12 @@ pub fn end_all<F: Shelf>(
     shelf: &mut F,
 ) -> Result<(), Status>
     requires desk { IsRootOf root.old desk.now }
-    requires ran { HaveRun F.Src.name F.Src.faults desk.now.board.shared.table_id (F.files shelf.old) (F.opened shelf.old) sessions.items }
+    requires ran { HaveRun F.Src.name F.Src.faults desk.now.board.shared.table_id (F.files shelf.old) (F.opened shelf.old)
+        sessions.items }
     requires libraries { map file_of_course (courses_of F.Src.name sessions.items) ≡ libraries_meaning libraries.now }
     ensures desk { IsRootOf root.new desk.now }
     ensures root { HasEnded (map ended_of (courses_of F.Src.name sessions.items)) (root_of root.old) (root_of root.new) }
+    ensures status { IfErr result (λ status. is_open_fault status ≡ false) }
     ensures gathers { Gathers result (libraries_meaning libraries.now)
         (record { files = F.files shelf.old; before = F.faults shelf.old; after = F.faults shelf.new })
         (λ done contents. AreReported contents (courses_of F.Src.name sessions.items) reports.old reports.new) }

@@ -1,11 +1,11 @@
 //! The loading of the files of a command's libraries by sessions at one desk, with questions beside the sessions and after them.
 //!
 //! The files are opened in the order of the command, before any of them is read. Then there is a session for each, which makes
-//! its turns under the library's place as its number, and so many workers run them; an asker stands beside them. When all of
+//! its turns under the library's place as its number, and the workers run them; an asker stands beside them. When all of
 //! these have ended, one pass more asks the late questions. Whatever the order of the turns, the catalogue's history has the
 //! batches of each library in their order and no others, and the reports stand in the order of the command. Each source is
 //! given back to its shelf. Memory grows with what is loaded.
-ghost use Rattle.std.specs.Prelude.{◌≡◌, ◌<◌, ◌≤◌, ◌+◌, ◌==◌, ◌&&◌, [], IfOk, All, length, not};
+ghost use Rattle.std.specs.Prelude.{◌≡◌, ◌<◌, ◌≤◌, ◌+◌, ◌==◌, ◌&&◌, [], IfOk, IfErr, All, length, not};
 ghost use Rattle.std.specs.List.{AllByRecursion};
 ghost use Rattle.catalogue_lock.specs.Rule.{EndedOk};
 ghost use Rattle.catalogue_lock.specs.Tokens.{root_of, view, IsPassOf, IsRootOf};
@@ -13,7 +13,7 @@ ghost use Rattle.union_words.specs.Meanings.{libraries_meaning};
 ghost use Rattle.load_sessions.specs.Askers.{Asks, IsAsker};
 ghost use Rattle.load_sessions.specs.Entries.{entries_of};
 ghost use Rattle.load_sessions.specs.Sessions.{IsReady, RunsEach};
-ghost use Rattle.union_files.specs.Inputs.{Gathers, deliveries};
+ghost use Rattle.union_files.specs.Inputs.{Gathers, OpensInOrder, deliveries};
 ghost use Rattle.union_sessions.specs.Replies.{AreReplies, HasAsked, left_by};
 ghost use Rattle.union_files.specs.Unions.{HasUnited};
 
@@ -27,6 +27,7 @@ use catalogue_lock::root::Root;
 use catalogue_query::query::Query;
 use load_sessions::asker::Asker;
 use load_sessions::end::End;
+use load_sessions::questions::Questions;
 use load_sessions::running::run_sessions;
 use load_sessions::served::Served;
 use load_sessions::session::Session;
@@ -38,14 +39,14 @@ use union_files::loaded::Loaded;
 use union_io::gate::Gate;
 use union_io::shelf::Shelf;
 use union_io::source::Source;
-use union_words::libraries::Libraries;
+use union_words::loading::Loading;
 use union_words::status::Status;
 
 /// Whether there is a question at all.
-fn are_some(beside: &[Query], late: &[Query]) -> bool
-    ensures { result ≡ not (length beside.now == 0 && length late.now == 0) }
+fn are_some(questions: &Questions) -> bool
+    ensures { result ≡ not (length questions.now.beside.items == 0 && length questions.now.late.items == 0) }
 {
-    !(beside.is_empty() && late.is_empty())
+    !(questions.beside.is_empty() && questions.late.is_empty())
 }
 
 /// An empty catalogue, which keeps its works where questions will be asked.
@@ -68,7 +69,7 @@ fn open_desk(alloc: Global, is_asked: bool) -> Result<(Desk<Served>, Root<Served
     Desk::open(alloc, served(alloc, is_asked)?)
 }
 
-/// Runs the sessions, by so many workers, and the asker beside them.
+/// Runs the sessions, by `workers` workers, and the asker beside them.
 fn run_all<R: Threads + Wait + Sync, S: Source + Send, G: Gate>(
     rt: &R,
     alloc: Global,
@@ -100,27 +101,31 @@ fn run_all<R: Threads + Wait + Sync, S: Source + Send, G: Gate>(
 fn close_desk<R: Wait>(
     rt: &R,
     alloc: Global,
-    desk: Desk<Served>,
-    mut root: Root<Served>,
+    opened: (Desk<Served>, Root<Served>),
     asker: Asker,
     reports: Reports,
     late: Vec<Query>,
 ) -> Result<Watched, Memory>
-    requires desk { IsRootOf root desk }
-    requires made { (root_of root).made ≡ length (root_of root).ended + 1 }
-    requires few { (root_of root).made < 4294967295 }
-    requires numbers { AllByRecursion (λ left. left.number + 1 < (root_of root).made) (root_of root).ended }
-    requires known { AllByRecursion (λ left. length left.seen ≤ (root_of root).floor) (root_of root).ended }
-    requires asker { IsPassOf asker.pass desk }
+    requires desk { IsRootOf opened.1 opened.0 }
+    requires made { (root_of opened.1).made ≡ length (root_of opened.1).ended + 1 }
+    requires few { (root_of opened.1).made < 4294967295 }
+    requires numbers { AllByRecursion (λ left. left.number + 1 < (root_of opened.1).made) (root_of opened.1).ended }
+    requires known { AllByRecursion (λ left. length left.seen ≤ (root_of opened.1).floor) (root_of opened.1).ended }
+    requires asker { IsPassOf asker.pass opened.0 }
     requires idle { (view asker.pass).own ≡ [] }
     requires asked { asker.end ≡ End.Done → HasAsked 0 asker.questions.items asker.replies.items (left_by asker) }
     ensures reports { IfOk result (λ watched. watched.loaded.reports ≡ reports.text) }
     ensures refused { IfOk result (λ watched. watched.loaded.refused ≡ reports.refused) }
-    ensures ended { IfOk result (λ watched. AllByRecursion (EndedOk (entries_of watched.loaded.catalogue)) (root_of root).ended) }
-    ensures numbers { IfOk result (λ watched. AllByRecursion (λ entry. entry.0 + 1 < (root_of root).made) (entries_of watched.loaded.catalogue)) }
-    ensures beside { IfOk result (λ watched. AreReplies watched.loaded.catalogue 0 asker.questions.items watched.beside.items) }
-    ensures late { IfOk result (λ watched. AreReplies watched.loaded.catalogue (length watched.loaded.catalogue) late.items watched.late.items) }
+    ensures ended { IfOk result (λ watched. AllByRecursion (EndedOk (entries_of watched.loaded.catalogue))
+        (root_of opened.1).ended) }
+    ensures numbers { IfOk result (λ watched. AllByRecursion (λ entry. entry.0 + 1 < (root_of opened.1).made)
+        (entries_of watched.loaded.catalogue)) }
+    ensures beside { IfOk result (λ watched. AreReplies watched.loaded.catalogue 0
+        asker.questions.items watched.beside.items) }
+    ensures late { IfOk result (λ watched. AreReplies watched.loaded.catalogue (length watched.loaded.catalogue)
+        late.items watched.late.items) }
 {
+    let (desk, mut root) = opened;
     let beside = end_asker(&desk, &mut root, asker)?;
     let late = ask_late(rt, alloc, &desk, &mut root, late)?;
     let Served { catalogue } = desk.close(root);
@@ -135,75 +140,91 @@ fn close_desk<R: Wait>(
     })
 }
 
-/// Opens the files of the libraries, loads them by a session each, run by so many workers, and asks.
+/// Opens the files of the libraries, loads them by a session each, by the preference and with the workers of `loading`, and asks.
 ///
 /// The questions `beside` are asked in their order beside the sessions, or after them with one worker; those in `late` when all
-/// sessions have ended. There is a reply to each: the replies `beside` are over beginnings of the catalogue's history that never
+/// sessions have ended. There is a reply to each: the replies `beside` are over prefixes of the catalogue's history that never
 /// get shorter, and the late ones over all of it.
 ///
 /// # Errors
 ///
-/// - `OpenFault`: this file, the first such, could not be opened. No later one was tried, and none was read.
+/// - `OpenFault`: this file, the first such, could not be opened. Those before it were opened, in their order, and none after it;
+///   none was read.
 /// - `ReadFault`: a read of this file failed, the first such in the order of the command.
 /// - `TooLong`: this file, the first such, has more bytes than are read, and no read failed.
-/// - `Memory`: it ran out, also where it did so for a question.
+/// - `Memory`: allocation failed, also where it did so for a question.
 pub fn load_and_ask<R: Threads + Wait + Sync, F: Shelf, G: Gate>(
     rt: &R,
     alloc: Global,
-    libraries: &Libraries<'_>,
-    workers: u32,
-    beside: Vec<Query>,
-    late: Vec<Query>,
+    loading: &Loading<'_>,
+    questions: Questions,
     shelf: &mut F,
     gate: &G,
 ) -> Result<Watched, Status>
-    requires least { 1 ≤ workers }
-    requires most { workers ≤ 64 }
-    ensures gathers { Gathers result (libraries_meaning libraries.now)
+    ensures gathers { Gathers result (libraries_meaning loading.now.libraries)
         (record { files = F.files shelf.old; before = F.faults shelf.old; after = F.faults shelf.new })
-        (λ watched contents. HasUnited (deliveries contents (libraries_meaning libraries.now)) watched.loaded) }
-    ensures beside { IfOk result (λ watched. AreReplies watched.loaded.catalogue 0 beside.items watched.beside.items) }
-    ensures late { IfOk result (λ watched. AreReplies watched.loaded.catalogue (length watched.loaded.catalogue) late.items watched.late.items) }
+        (λ watched contents. HasUnited
+        (deliveries loading.now.prefer contents (libraries_meaning loading.now.libraries)) watched.loaded) }
+    ensures in_order { IfErr result (λ status. OpensInOrder status (libraries_meaning loading.now.libraries)
+        (F.opened shelf.old) (F.opened shelf.new)) }
+    ensures beside { IfOk result (λ watched. AreReplies watched.loaded.catalogue 0
+        questions.beside.items watched.beside.items) }
+    ensures late { IfOk result (λ watched. AreReplies watched.loaded.catalogue (length watched.loaded.catalogue)
+        questions.late.items watched.late.items) }
 {
-    let Ok((desk, mut root)) = open_desk(alloc, are_some(&beside, &late)) else {
+    let Ok((desk, mut root)) = open_desk(alloc, are_some(&questions)) else {
         return Err(Status::Memory);
     };
-    let mut sessions = start_sessions(alloc, &desk, &mut root, libraries, shelf)?;
+    let Questions { beside, late } = questions;
+    let mut sessions = start_sessions(alloc, &desk, &mut root, loading, shelf)?;
     let mut asker = start_asker(alloc, &desk, &mut root, beside);
-    run_all(rt, alloc, &desk, &mut sessions, &mut asker, workers, gate);
+    run_all(
+        rt,
+        alloc,
+        &desk,
+        &mut sessions,
+        &mut asker,
+        loading.workers.number(),
+        gate,
+    );
     let mut reports = Reports::none(alloc);
-    end_all(&desk, &mut root, libraries, sessions, &mut reports, shelf)?;
-    match close_desk(rt, alloc, desk, root, asker, reports, late) {
+    end_all(
+        &desk,
+        &mut root,
+        &loading.libraries,
+        sessions,
+        &mut reports,
+        shelf,
+    )?;
+    match close_desk(rt, alloc, (desk, root), asker, reports, late) {
         Ok(watched) => Ok(watched),
         Err(Memory) => Err(Status::Memory),
     }
 }
 
-/// Opens the files of the libraries, and loads them by a session each, run by so many workers: `load_and_ask` with no question.
+/// Opens the files of the libraries, and loads them by a session each: `load_and_ask` with no question.
+///
+/// # Errors
+///
+/// As those of `load_and_ask`.
 pub fn load_by_sessions<R: Threads + Wait + Sync, F: Shelf, G: Gate>(
     rt: &R,
     alloc: Global,
-    libraries: &Libraries<'_>,
-    workers: u32,
+    loading: &Loading<'_>,
     shelf: &mut F,
     gate: &G,
 ) -> Result<Loaded, Status>
-    requires least { 1 ≤ workers }
-    requires most { workers ≤ 64 }
-    ensures gathers { Gathers result (libraries_meaning libraries.now)
+    ensures gathers { Gathers result (libraries_meaning loading.now.libraries)
         (record { files = F.files shelf.old; before = F.faults shelf.old; after = F.faults shelf.new })
-        (λ loaded contents. HasUnited (deliveries contents (libraries_meaning libraries.now)) loaded) }
+        (λ loaded contents. HasUnited
+        (deliveries loading.now.prefer contents (libraries_meaning loading.now.libraries)) loaded) }
+    ensures in_order { IfErr result (λ status. OpensInOrder status (libraries_meaning loading.now.libraries)
+        (F.opened shelf.old) (F.opened shelf.new)) }
 {
-    let none = Vec::new(alloc);
-    let watched = load_and_ask(
-        rt,
-        alloc,
-        libraries,
-        workers,
-        none,
-        Vec::new(alloc),
-        shelf,
-        gate,
-    )?;
+    let none = Questions {
+        beside: Vec::new(alloc),
+        late: Vec::new(alloc),
+    };
+    let watched = load_and_ask(rt, alloc, loading, none, shelf, gate)?;
     Ok(watched.loaded)
 }

@@ -71,7 +71,7 @@ impl<M: Machine> Desk<M> {
     ///
     /// - `Busy`: the word was odd, or the compare and exchange found another word than the load. The two words that it
     ///   carries are those of this call. The change comes back, and the pass has seen no more than before.
-    /// - `Memory`: the machine found none. No entry is appended, and the change is dropped.
+    /// - `Memory`: the machine found none, after the one compare and exchange. No entry is appended, and the change is dropped.
     pub fn try_turn(
         &self,
         alloc: Global,

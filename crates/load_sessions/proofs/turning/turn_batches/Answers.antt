@@ -21,10 +21,10 @@ loop-batch-init g c =
     let pass = view session.pass in
     let room = ap (λ (reader : Batching). most_ahead reader.stream) c.requires.reader in
     record {
-      keeps = record { number = refl; library = refl; limit = refl; source = refl; desk_is = c.requires.desk; pass = (refl, refl) };
+      keeps = record { number = refl; library = refl; limit = refl; prefer = refl; source = refl; desk_is = c.requires.desk; pass = (refl, refl) };
       calm = refl;
-      handed = subst (λ own. HandsOut session.library session.limit left own c.args.reader.now left) (sym c.requires.own)
-          (subst (λ reader. HandsOut session.library session.limit left [] reader left) (sym c.requires.reader) (HandsOut-none session.library session.limit left));
+      handed = subst (λ own. HandsOut session.prefer session.library session.limit left own c.args.reader.now left) (sym c.requires.own)
+          (subst (λ reader. HandsOut session.prefer session.library session.limit left [] reader left) (sym c.requires.reader) (HandsOut-none session.prefer session.library session.limit left));
       brought = subst (λ outcomes. AreCounted outcomes c.args.counts.now) (sym (found-none pass.number pass.seen pass.own session.pass.rests.own c.requires.own))
           c.requires.counts.0;
       few = omega (arith, room, c.requires.counts.1, c.requires.limit);
@@ -46,11 +46,12 @@ returns-in_err-batch g c =
       number = before.keeps.number;
       library = before.keeps.library;
       limit = before.keeps.limit;
+      prefer = before.keeps.prefer;
       source = c.next.ensures.name ∙ before.keeps.source;
       desk_is = before.keeps.desk_is;
       pass = before.keeps.pass;
     }) before.handed
-    (λ is. HandsOut-long start.library start.limit left told later (view c.loop-batch.session.pass).own c.loop-batch.reader c.next.new.self before.handed
+    (λ is. HandsOut-long start.prefer start.library start.limit left told later (view c.loop-batch.session.pass).own c.loop-batch.reader c.next.new.self before.handed
     (subst (λ why. Answers (Err why) c.loop-batch.reader told c.next.new.self later) is c.in_err-batch.ensures.answers))
     (λ is. subst (λ count. Rose count (g.S.Source.faults c.next.new.source)) before.calm (c.in_err-batch.ensures.failed (ap Err is)))
     (λ other. c.in_err-batch.ensures.calm (λ is. other (cc)) ∙ before.calm)
@@ -67,11 +68,12 @@ returns-in_err-outcomes-in-Some g c =
       number = before.keeps.number;
       library = before.keeps.library;
       limit = before.keeps.limit;
+      prefer = before.keeps.prefer;
       source = c.next.ensures.name ∙ before.keeps.source;
       desk_is = c.turn_batch.ensures.desk;
       pass = (c.turn_batch.ensures.same.0 ∙ before.keeps.pass.0, c.turn_batch.ensures.same.1 ∙ before.keeps.pass.1);
     })
-    (subst (λ own. HandsOut start.library start.limit (g.S.Source.left start.source) own c.loop-batch.reader told) (sym c.in_err-outcomes-in-Some.ensures.memory) before.handed)
+    (subst (λ own. HandsOut start.prefer start.library start.limit (g.S.Source.left start.source) own c.loop-batch.reader told) (sym c.in_err-outcomes-in-Some.ensures.memory) before.handed)
     (λ wrong. absurd (cc)) (λ wrong. absurd (cc)) (λ other. c.in_ok-batch.ensures.calm (λ wrong. cc) ∙ before.calm)
 
 pub loop-batch-preserved : goal.loop-batch-preserved
@@ -88,13 +90,14 @@ loop-batch-preserved g c =
         number = before.keeps.number;
         library = before.keeps.library;
         limit = before.keeps.limit;
+        prefer = before.keeps.prefer;
         source = c.next.ensures.name ∙ before.keeps.source;
         desk_is = c.turn_batch.ensures.desk;
         pass = (c.turn_batch.ensures.same.0 ∙ before.keeps.pass.0, c.turn_batch.ensures.same.1 ∙ before.keeps.pass.1);
       };
       calm = c.in_ok-batch.ensures.calm (λ wrong. cc) ∙ before.calm;
-      handed = subst (λ own. HandsOut start.library start.limit (g.S.Source.left start.source) own c.next.new.self (g.S.Source.left c.next.new.source)) (sym turned.own)
-          (HandsOut-batch start.library start.limit (g.S.Source.left start.source) (g.S.Source.left c.loop-batch.session.source) (g.S.Source.left c.next.new.source)
+      handed = subst (λ own. HandsOut start.prefer start.library start.limit (g.S.Source.left start.source) own c.next.new.self (g.S.Source.left c.next.new.source)) (sym turned.own)
+          (HandsOut-batch start.prefer start.library start.limit (g.S.Source.left start.source) (g.S.Source.left c.loop-batch.session.source) (g.S.Source.left c.next.new.source)
           pass.own c.in-Some.batch c.loop-batch.reader c.next.new.self before.handed answers);
       brought = subst (λ outcomes. AreCounted outcomes c.count.new.self) (ap (λ outcomes. found pass.seen pass.number ++ outcomes) c.as_slice.ensures.value ∙ sym turned.found)
           (c.count.ensures.more (found pass.seen pass.number) before.brought);

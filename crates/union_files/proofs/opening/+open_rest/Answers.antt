@@ -2,8 +2,8 @@ use Rattle.std.proofs.Common.{◌+◌, ◌∷◌, sym, ap, subst, ◌∙◌}
 use Rattle.std.specs.Prelude.{drop}
 use Rattle.std.proofs.lemmas.Result.{IfOk-weaker}
 use Rattle.union_words.specs.Meanings.{file_meaning, libraries_meaning}
-use Rattle.union_files.specs.Inputs.{StopsOpening, files_of, states_of}
-use Rattle.union_files.proofs.InputLaws.{flow, opens_behind, drop_at}
+use Rattle.union_files.specs.Inputs.{StopsOpening, OpensInOrder, files_of, states_of}
+use Rattle.union_files.proofs.InputLaws.{flow, opens_behind, opens_later, drop_at}
 use Rattle.union_files.proofs.opening.+open_rest.Goals as goal
 
 pub returns-in-Ok-open_rest-clause-opened : goal.returns-in-Ok-open_rest-clause-opened
@@ -31,6 +31,24 @@ returns-in-Err-open_rest-clause-stops g t c =
     (opens_behind status file rest files (g.F.Shelf.faults c.args.shelf.now) (g.F.Shelf.faults c.open_file.new.shelf)
     (g.F.Shelf.faults c.open_rest.new.shelf) (g.F.Shelf.faults c.give_back.new.self) c.in-Ok-open_file.ensures.calm
     (c.give_back.ensures.calm c.in-Ok-open_file.ensures.fresh.faults) stops)
+
+pub returns-in-Err-open_rest-clause-in_order : goal.returns-in-Err-open_rest-clause-in_order
+returns-in-Err-open_rest-clause-in_order g t c =
+    let libraries = libraries_meaning c.args.libraries.now in
+    let file = file_meaning c.at.result in
+    let status = c.in-Err-open_rest.status in
+    subst (λ all. OpensInOrder status all (g.F.Shelf.opened c.args.shelf.now) (g.F.Shelf.opened c.give_back.new.self))
+    (sym (drop_at libraries c.args.place file c.at.ensures))
+    (subst (OpensInOrder status (file ∷ drop (c.args.place + 1) libraries) (g.F.Shelf.opened c.args.shelf.now)) (sym c.give_back.ensures.names)
+    (opens_later status file (drop (c.args.place + 1) libraries) (g.F.Shelf.opened c.args.shelf.now) (g.F.Shelf.opened c.open_file.new.shelf)
+    (g.F.Shelf.opened c.open_rest.new.shelf) c.in-Ok-open_file.ensures.opened c.in-Err-open_rest.ensures.in_order))
+
+pub returns-in-Err-open_file-clause-in_order : goal.returns-in-Err-open_file-clause-in_order
+returns-in-Err-open_file-clause-in_order g t c =
+    let libraries = libraries_meaning c.args.libraries.now in
+    subst (λ all. OpensInOrder c.in-Err-open_file.status all (g.F.Shelf.opened c.args.shelf.now) (g.F.Shelf.opened c.open_file.new.shelf))
+    (sym (drop_at libraries c.args.place (file_meaning c.at.result) c.at.ensures))
+    (c.in-Err-open_file.ensures.in_order (drop (c.args.place + 1) libraries))
 
 pub returns-in-Err-open_file-clause-stops : goal.returns-in-Err-open_file-clause-stops
 returns-in-Err-open_file-clause-stops g t c =

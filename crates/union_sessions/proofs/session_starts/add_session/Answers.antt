@@ -8,5 +8,6 @@ returns-clause-ready g c =
     let desk = c.args.desk.now.board.shared.table_id in
     let sessions = c.args.sessions.now.items in
     let place : c.args.root.now.place.me.0.made ≡ 0 + length sessions = c.requires.numbers ∙ omega arith in
-    subst (AreReady desk 0) (sym c.in-Ok.ensures.items)
-    (ready_pushed desk 0 sessions c.session_of.result c.requires.ready (subst (λ n. IsReadyAs desk n c.session_of.result) place c.session_of.ensures.ready))
+    let prefer = c.args.prefer.now in
+    subst (AreReady desk prefer 0) (sym c.in-Ok.ensures.items)
+    (ready_pushed desk prefer 0 sessions c.session_of.result c.requires.ready (subst (λ n. IsReadyAs desk prefer n c.session_of.result) place c.session_of.ensures.ready))

@@ -15,7 +15,7 @@ pub returns : goal.returns
 returns g c =
     let history = c.close-catalogue.result.catalogue in
     let entries = entries_of history in
-    let first = root_of c.args.root in
+    let first = root_of c.args.opened.1 in
     let between = root_of c.end_asker.new.root in
     let beside = left_by c.args.asker in
     let asked = c.in_ok-late.ensures.asked in

@@ -8,14 +8,14 @@ use Rattle.catalogue_lock.specs.Tokens.{root_of, view}
 use Rattle.load_sessions.specs.Askers.{Replied}
 use Rattle.load_sessions.specs.Entries.{entries_of}
 use Rattle.union_base.specs.Both.{both_true}
-use Rattle.union_sessions.proofs.CourseLaws.{united}
+use Rattle.union_sessions.proofs.CourseLaws.{united, delivered-files}
 use Rattle.union_files.proofs.DistinctLaws.{distinct_deliveries}
 use Rattle.union_files.proofs.InputLaws.{same_more}
 use Rattle.union_sessions.proofs.ReplyLaws.{each_weaker, numbered_below, replied_over}
 use Rattle.union_sessions.proofs.SessionLaws.{HaveEnded, have_run, ready_all}
 use Rattle.union_files.specs.Deliveries.{codes_of, AreDistinct, has_refused}
 use Rattle.union_files.specs.Inputs.{AreWithin, deliveries}
-use Rattle.union_sessions.specs.Sessions.{AreReported, course_text, courses_of, ended_of, file_of_course}
+use Rattle.union_sessions.specs.Sessions.{AreReported, course_text, courses_of, delivery_of, ended_of, file_of_course}
 use Rattle.union_files.specs.Unions.{HasUnited}
 use Rattle.union_words.specs.Meanings.{libraries_meaning}
 use Rattle.union_words.specs.Words.{LibraryFile, is_library_word, have_distinct_codes, most_libraries}
@@ -23,23 +23,23 @@ use Rattle.union_sessions.proofs.sessions.load_and_ask.Goals as goal
 
 pub run_all-requires-clause-ready : goal.run_all-requires-clause-ready
 run_all-requires-clause-ready g c κs within =
-    ready_all c.in-Ok.desk.board.shared.table_id 0 c.in_ok-sessions.sessions.items c.in_ok-sessions.ensures.ready
+    ready_all c.in-Ok.desk.board.shared.table_id c.args.loading.now.prefer 0 c.in_ok-sessions.sessions.items c.in_ok-sessions.ensures.ready
 
 pub end_all-requires-clause-ran : goal.end_all-requires-clause-ran
 end_all-requires-clause-ran g c κs within =
-    (have_run g.F.Src.Source.name g.F.Src.Source.left g.F.Src.Source.faults c.in-Ok.desk.board.shared.table_id 0
+    (have_run g.F.Src.Source.name g.F.Src.Source.left g.F.Src.Source.faults c.in-Ok.desk.board.shared.table_id c.args.loading.now.prefer 0
     (g.F.Shelf.files c.start_sessions.new.shelf) (g.F.Shelf.opened c.start_sessions.new.shelf) c.in_ok-sessions.sessions.items c.run_all.new.sessions.items
     c.in_ok-sessions.ensures.ready c.in_ok-sessions.ensures.fresh c.run_all.ensures.sessions).ran
 
 pub end_all-requires-clause-libraries : goal.end_all-requires-clause-libraries
 end_all-requires-clause-libraries g c κs within =
-    (have_run g.F.Src.Source.name g.F.Src.Source.left g.F.Src.Source.faults c.in-Ok.desk.board.shared.table_id 0
+    (have_run g.F.Src.Source.name g.F.Src.Source.left g.F.Src.Source.faults c.in-Ok.desk.board.shared.table_id c.args.loading.now.prefer 0
     (g.F.Shelf.files c.start_sessions.new.shelf) (g.F.Shelf.opened c.start_sessions.new.shelf) c.in_ok-sessions.sessions.items c.run_all.new.sessions.items
     c.in_ok-sessions.ensures.ready c.in_ok-sessions.ensures.fresh c.run_all.ensures.sessions).files_are ∙ c.in_ok-sessions.ensures.opened
 
 pub close_desk-requires-clause-numbers : goal.close_desk-requires-clause-numbers
 close_desk-requires-clause-numbers g c =
-    let have = have_run g.F.Src.Source.name g.F.Src.Source.left g.F.Src.Source.faults c.in-Ok.desk.board.shared.table_id 0
+    let have = have_run g.F.Src.Source.name g.F.Src.Source.left g.F.Src.Source.faults c.in-Ok.desk.board.shared.table_id c.args.loading.now.prefer 0
     (g.F.Shelf.files c.start_sessions.new.shelf) (g.F.Shelf.opened c.start_sessions.new.shelf) c.in_ok-sessions.sessions.items c.run_all.new.sessions.items
     c.in_ok-sessions.ensures.ready c.in_ok-sessions.ensures.fresh c.run_all.ensures.sessions in
     let courses = courses_of g.F.Src.Source.name c.run_all.new.sessions.items in
@@ -65,12 +65,13 @@ close_desk-requires-clause-asked g c =
 pub returns-in-Ok-close_desk-clause-gathers : goal.returns-in-Ok-close_desk-clause-gathers
 returns-in-Ok-close_desk-clause-gathers g c =
     let name = g.F.Src.Source.name in
-    let have = have_run g.F.Src.Source.name g.F.Src.Source.left g.F.Src.Source.faults c.in-Ok.desk.board.shared.table_id 0
+    let prefer = c.args.loading.now.prefer in
+    let have = have_run g.F.Src.Source.name g.F.Src.Source.left g.F.Src.Source.faults c.in-Ok.desk.board.shared.table_id c.args.loading.now.prefer 0
     (g.F.Shelf.files c.start_sessions.new.shelf) (g.F.Shelf.opened c.start_sessions.new.shelf) c.in_ok-sessions.sessions.items c.run_all.new.sessions.items
     c.in_ok-sessions.ensures.ready c.in_ok-sessions.ensures.fresh c.run_all.ensures.sessions in
     let courses = courses_of name c.run_all.new.sessions.items in
-    let words = c.args.libraries.now.words.now in
-    let libraries = libraries_meaning c.args.libraries.now in
+    let words = c.args.loading.now.libraries.words.now in
+    let libraries = libraries_meaning c.args.loading.now.libraries in
     let loaded = c.in-Ok-close_desk.watched.loaded in
     let entries = entries_of loaded.catalogue in
     let reports = c.end_all.new.reports in
@@ -84,17 +85,19 @@ returns-in-Ok-close_desk-clause-gathers g c =
     each_weaker (λ (e : ℕ × Batch). e.0 + 1 < (root_of c.end_all.new.root).made) (λ e. e.0 < length courses) entries (λ e low. omega (arith, low, made)) closed.numbers in
     let distinct : have_distinct_codes words ≡ true =
     (both_true (list_all is_library_word words) (have_distinct_codes words)
-    (both_true (nat_le 1 (length words) && nat_le (length words) most_libraries) (list_all is_library_word words && have_distinct_codes words) c.args.libraries.now.words_are_libraries).1).1 in (
+    (both_true (nat_le 1 (length words) && nat_le (length words) most_libraries) (list_all is_library_word words && have_distinct_codes words) c.args.loading.now.libraries.words_are_libraries).1).1 in (
       same_more (g.F.Shelf.faults c.args.shelf.now) (g.F.Shelf.faults c.start_sessions.new.shelf) (g.F.Shelf.faults c.end_all.new.shelf)
           c.in_ok-sessions.ensures.calm c.in_ok-end_all.ensures.gathers.0,
-      subst (λ files. IfSome files (λ contents. AreWithin contents libraries × HasUnited (deliveries contents libraries) loaded)) c.in_ok-sessions.ensures.files
+      subst (λ files. IfSome files (λ contents. AreWithin contents libraries × HasUnited (deliveries prefer contents libraries) loaded)) c.in_ok-sessions.ensures.files
           (IfSome_then (g.F.Shelf.files c.start_sessions.new.shelf) c.in_ok-end_all.ensures.gathers.1 (λ contents read. (
             read.0,
-            subst (λ all. HasUnited (deliveries contents all) loaded) same
+            let all : map (delivery_of contents) courses ≡ deliveries prefer contents libraries
+                = delivered-files prefer contents courses have.prefers ∙ ap (deliveries prefer contents) same in
+                subst (λ all. HasUnited all loaded) all
                 (united contents courses loaded have.numbers ended below
-                (subst (λ all. AreDistinct (codes_of (deliveries contents all))) (sym same) (distinct_deliveries words contents distinct)) read.1.whole
+                (subst (λ all. AreDistinct (codes_of all)) (sym all) (distinct_deliveries words prefer contents distinct)) read.1.whole
                 (ap vec_items closed.reports ∙ (read.1.text ∙ ap (λ text. text ++ flat_map (course_text contents) courses) c.none-reports.ensures.text))
                 (closed.refused ∙ (read.1.refused
-                ∙ ap (λ refused. refused || list_any has_refused (deliveries contents (map file_of_course courses))) c.none-reports.ensures.refused))),
+                ∙ ap (λ refused. refused || list_any has_refused (map (delivery_of contents) courses)) c.none-reports.ensures.refused))),
           ))),
     )

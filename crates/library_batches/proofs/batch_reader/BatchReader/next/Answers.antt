@@ -11,7 +11,7 @@ invariant_of-result g c =
     let ops = c.in_ok-ops.field-0.ops in
     let some : 0 < length ops.items = grind (arith, nat_tests, c.if-not-is_empty.ensures, ops.ok) in
     let code : c.loop-ops.self.library ≡ c.self.inside.library = sym (ap (λ (a : Batching). a.library) c.self.view_is ∙ c.read_block.ensures.library) in
-    record { fits = rw (c.from.ensures, ← code) (is_batch-block c.loop-ops.self.library _ block.taken ops.items _ _ block.checked block.most some) }
+    record { fits = rw (c.from.ensures, ← code) (is_batch-block c.loop-ops.self.prefer c.loop-ops.self.library _ block.taken ops.items _ _ block.checked block.most some) }
 
 pub returns-then-not-is_empty-clause-answers : goal.returns-then-not-is_empty-clause-answers
 returns-then-not-is_empty-clause-answers g c =
@@ -19,7 +19,7 @@ returns-then-not-is_empty-clause-answers g c =
     let some : 0 < length ops.items = grind (arith, nat_tests, c.if-not-is_empty.ensures, ops.ok) in
     let code : c.self.inside.library ≡ c.loop-ops.self.library = ap (λ (a : Batching). a.library) c.self.view_is ∙ c.read_block.ensures.library in
     Answers-batch c.args.self.now c.loop-ops.self c.read_block.new.self (g.S.Source.left c.args.source.now) (g.S.Source.left c.loop-ops.source)
-    (g.S.Source.left c.read_block.new.source) c.in_ok-ops.field-0 _ c.loop-ops.invariant.passed c.in_ok-ops.ensures.answers c.read_block.ensures.library code
+    (g.S.Source.left c.read_block.new.source) c.in_ok-ops.field-0 _ c.loop-ops.invariant.passed c.in_ok-ops.ensures.answers c.read_block.ensures.prefer c.read_block.ensures.library code
     c.from.ensures (some_in-more ops.items some)
 
 pub returns-then-ended-clause-answers : goal.returns-then-ended-clause-answers
@@ -27,7 +27,7 @@ returns-then-ended-clause-answers g c =
     let ops = c.in_ok-ops.field-0.ops in
     let none : length ops.items ≡ 0 = grind (arith, nat_tests, c.if-not-is_empty.ensures, ops.ok) in
     Answers-end c.args.self.now c.loop-ops.self c.read_block.new.self (g.S.Source.left c.args.source.now) (g.S.Source.left c.loop-ops.source)
-    (g.S.Source.left c.read_block.new.source) c.in_ok-ops.field-0 c.loop-ops.invariant.passed c.in_ok-ops.ensures.answers c.read_block.ensures.library
+    (g.S.Source.left c.read_block.new.source) c.in_ok-ops.field-0 c.loop-ops.invariant.passed c.in_ok-ops.ensures.answers c.read_block.ensures.prefer c.read_block.ensures.library
     (some_in-none ops.items none) c.if-ended.true
 
 pub loop-ops-preserved : goal.loop-ops-preserved
@@ -37,9 +37,10 @@ loop-ops-preserved g c =
     record {
       name = c.read_block.ensures.name ∙ c.loop-ops.invariant.name;
       faults = c.in_ok-ops.ensures.calm (λ wrong. cc) ∙ c.loop-ops.invariant.faults;
+      prefer = c.read_block.ensures.prefer ∙ c.loop-ops.invariant.prefer;
       library = c.read_block.ensures.library ∙ c.loop-ops.invariant.library;
       passed = Passes-block c.args.self.now c.loop-ops.self c.read_block.new.self (g.S.Source.left c.args.source.now) (g.S.Source.left c.loop-ops.source)
-          (g.S.Source.left c.read_block.new.source) c.in_ok-ops.field-0 c.loop-ops.invariant.passed c.in_ok-ops.ensures.answers c.read_block.ensures.library
+          (g.S.Source.left c.read_block.new.source) c.in_ok-ops.field-0 c.loop-ops.invariant.passed c.in_ok-ops.ensures.answers c.read_block.ensures.prefer c.read_block.ensures.library
           (some_in-none ops.items none);
       fewer = omega (arith, c.in_ok-ops.ensures.answers.fewer, c.loop-ops.invariant.fewer);
     }

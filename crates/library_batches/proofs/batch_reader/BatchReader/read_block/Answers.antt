@@ -42,18 +42,21 @@ loop-frame-preserved g c =
     record {
       name = c.in-Frame.ensures.name ∙ before.name;
       faults = c.in-Frame.ensures.faults ∙ before.faults;
+      prefer = before.prefer;
       library = before.library;
       taken = before.taken ++ frame ∷ [];
       takes = Takes-more c.self.inside.reader c.loop-frame.self-inside.reader c.next.new.self (g.S.Source.left c.args.source.now)
           (g.S.Source.left c.loop-frame.source) (g.S.Source.left c.next.new.source) before.taken (frame ∷ []) before.takes
           c.in-Frame.ensures.answers;
       count = omega (arith, before.count, length-append before.taken (frame ∷ []));
-      checked = subst (λ code. IsChecked code (c.self.inside.frames + 1) (before.taken ++ frame ∷ []) c.check_next.new.ops.items c.self.inside.refused.items c.check_next.new.refused.items)
-          before.library (subst (λ fr. IsChecked c.loop-frame.self-inside.library (c.self.inside.frames + 1) (before.taken ++ (c.in-Frame.cut, fr) ∷ []) c.check_next.new.ops.items
+      checked = subst (λ p. IsChecked p c.self.inside.library (c.self.inside.frames + 1) (before.taken ++ frame ∷ []) c.check_next.new.ops.items c.self.inside.refused.items c.check_next.new.refused.items)
+          before.prefer (subst (λ code. IsChecked c.loop-frame.self-inside.prefer code (c.self.inside.frames + 1) (before.taken ++ frame ∷ []) c.check_next.new.ops.items c.self.inside.refused.items c.check_next.new.refused.items)
+          before.library (subst (λ fr. IsChecked c.loop-frame.self-inside.prefer c.loop-frame.self-inside.library (c.self.inside.frames + 1) (before.taken ++ (c.in-Frame.cut, fr) ∷ []) c.check_next.new.ops.items
           c.self.inside.refused.items c.check_next.new.refused.items) c.frame.ensures
           (c.in_ok-check_next-in-Frame.ensures (c.self.inside.frames + 1) before.taken c.self.inside.refused.items place
-          (subst (λ code. IsChecked code (c.self.inside.frames + 1) before.taken c.loop-frame.ops.items c.self.inside.refused.items c.loop-frame.self-inside.refused.items)
-          (sym before.library) before.checked)));
+          (subst (λ p. IsChecked p c.loop-frame.self-inside.library (c.self.inside.frames + 1) before.taken c.loop-frame.ops.items c.self.inside.refused.items c.loop-frame.self-inside.refused.items)
+          (sym before.prefer) (subst (λ code. IsChecked c.self.inside.prefer code (c.self.inside.frames + 1) before.taken c.loop-frame.ops.items c.self.inside.refused.items c.loop-frame.self-inside.refused.items)
+          (sym before.library) before.checked)))));
       frames = omega (arith, before.frames, length-append before.taken (frame ∷ []));
       fewer = omega (arith, before.fewer, c.in-Frame.ensures.fewer, length-append before.taken (frame ∷ []));
       within = omega (arith, before.within, c.in-Frame.ensures.fewer);
