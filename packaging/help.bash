@@ -50,6 +50,24 @@ wrong_number() {
     echo "'$1': a number from $3 to $4, in digits without sign and without leading zero"
 }
 
+# What is wrong with the text of a preference among libraries.
+wrong_preference() {
+  local code seen=" " count=0 rest=$1,
+  local LC_ALL=C
+  while [ -n "$rest" ]; do
+    code=${rest%%,*}
+    rest=${rest#*,}
+    count=$((count + 1))
+    if [[ ! $code =~ ^[A-Z0-9]{1,16}$ ]]; then
+      echo "'--prefer=$1': 1 to 64 library codes with one comma between two, each 1 to 16 of A-Z and 0-9"
+      return
+    fi
+    [[ $seen != *" $code "* ]] || { echo "'--prefer=$1': the library $code is named twice"; return; }
+    seen+="$code "
+  done
+  [ "$count" -le 64 ] || echo "'--prefer=..': there are more than 64 libraries"
+}
+
 # Which word of a command line that was refused is wrong, and how it should be.
 wrong_word() {
   local commands=$1 command=${2-} wrong=""
@@ -85,6 +103,10 @@ wrong_word() {
       fi
       if [[ -z $wrong && ${1-} == --workers=* ]]; then
         wrong=$(wrong_number "$1" "${1#--workers=}" 1 64)
+        shift
+      fi
+      if [[ -z $wrong && ${1-} == --prefer=* ]]; then
+        wrong=$(wrong_preference "${1#--prefer=}")
         shift
       fi
       [ "$command" = export ] && [ "${1-}" = --json ] && shift

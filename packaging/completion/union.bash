@@ -21,11 +21,11 @@ _union() {
       ;;
     export | works)
       compopt -o nospace 2>/dev/null
-      mapfile -t COMPREPLY < <(compgen -W "--workers=" -- "$word")
+      mapfile -t COMPREPLY < <(compgen -W "--workers= --prefer=" -- "$word")
       ;;
     watch)
       compopt -o nospace 2>/dev/null
-      mapfile -t COMPREPLY < <(compgen -W "--ask= --workers=" -- "$word")
+      mapfile -t COMPREPLY < <(compgen -W "--ask= --workers= --prefer=" -- "$word")
       ;;
   esac
 }

@@ -9,10 +9,12 @@ use std::sync::Wait;
 use std::sync::atomic::{AtomicBool, Ordering};
 use std::test::Fail;
 use std::thread::Threads;
+use union_base::bytes::Bytes;
 use union_base::memory::Memory;
 use union_io::gate::{Gate, OpenGate};
 use union_sessions::sessions::load_by_sessions;
-use union_words::libraries::Libraries;
+use union_words::job::Job;
+use union_words::loading::Loading;
 use union_words::status::Status;
 
 /// How often a gate looks before it gives up.
@@ -168,6 +170,14 @@ fn is_watched<R: Threads + Wait + Sync, G: Gate>(
     )
 }
 
+/// How the words of `works` say that files are loaded.
+fn loading_of(words: &[Bytes]) -> Option<Loading<'_>> {
+    match Job::read(words) {
+        Some(Job::Works(loading)) => Some(loading),
+        _ => None,
+    }
+}
+
 /// The numbers of the sessions in the order of their turns, when two workers load the two files.
 fn sessions_of_turns<R: Threads + Wait + Sync, G: Gate>(
     rt: &R,
@@ -175,10 +185,12 @@ fn sessions_of_turns<R: Threads + Wait + Sync, G: Gate>(
     gate: &G,
 ) -> Result<Vec<u32>, Fail> {
     let mut shelf = shelf_of(alloc, &files())?;
-    let words = words_between(alloc, b"LIBA=a LIBB=b", b' ')?;
-    let libraries = Libraries::read(words.as_slice()).ok_or("libraries")?;
+    let words = words_between(alloc, b"works --workers=2 LIBA=a LIBB=b", b' ')?;
     let mut sessions = Vec::new(alloc);
-    if let Ok(loaded) = load_by_sessions(rt, alloc, &libraries, 2, &mut shelf, gate) {
+    let Some(loading) = loading_of(words.as_slice()) else {
+        return Ok(sessions);
+    };
+    if let Ok(loaded) = load_by_sessions(rt, alloc, &loading, &mut shelf, gate) {
         for turn in 0..loaded.catalogue.turns() {
             sessions.push(loaded.catalogue.entry(turn).pass)?;
         }

@@ -4,6 +4,7 @@ use crate::texts::joined;
 use catalogue_lock::machine::Machine;
 use catalogue_query::answer::Answer;
 use catalogue_query::query::Query;
+use field_merge::preference::Preference;
 use library_batches::batch_reader::BatchReader;
 use load_sessions::preparing::prepare;
 use load_sessions::served::Served;
@@ -16,7 +17,7 @@ use union_base::memory::Memory;
 use union_io::mem_sink::MemSink;
 use union_io::sure_source::SureSource;
 use union_watch::ask_file::AskFile;
-use union_watch::questions::Questions;
+use union_watch::questions::divide;
 use union_watch::writing::write_watch;
 
 /// A file of questions, of all kinds of lines.
@@ -38,7 +39,7 @@ fn load<R: Threads + Sync>(
 ) -> Result<(), Fail> {
     let library = LibraryCode::read(library).ok_or("a code")?;
     let mut source = SureSource::of(Bytes::of(alloc, stream)?, 100);
-    let mut reader = BatchReader::open(alloc, &library, 1_000)?;
+    let mut reader = BatchReader::open(alloc, &Preference::none(), &library, 1_000)?;
     if let Some(batch) = reader.next(alloc, &mut source)? {
         let prepared = prepare(rt, alloc, batch, 1)?;
         served.apply(alloc, number, prepared)?;
@@ -95,7 +96,7 @@ fn replies_beside_stand_before_late_ones(rt: HostRuntime) -> Result<(), Fail> {
     let mut served = Served::empty(alloc)?;
     let file = AskFile::read(alloc, b"count\ncount")?;
     assert!(rt; !file.has_refusals());
-    let questions = Questions::divide(alloc, 2, file.questions)?;
+    let questions = divide(alloc, 2, file.questions)?;
     let beside = replies(alloc, &served, questions.beside.as_slice(), 0)?;
     load(&rt, alloc, &mut served, 0, b"LIBB", ONE)?;
     let late = replies(alloc, &served, questions.late.as_slice(), 1_234_567)?;
@@ -132,7 +133,7 @@ fn questions_are_divided(rt: HostRuntime) -> Result<(), Fail> {
         for _ in 0..count {
             questions.push(Query::Count)?;
         }
-        let divided = Questions::divide(rt.alloc(), workers, questions)?;
+        let divided = divide(rt.alloc(), workers, questions)?;
         assert_eq!(rt; divided.beside.len(), beside);
         assert_eq!(rt; divided.late.len(), late);
     }

@@ -11,6 +11,7 @@ use union_words::job::Job;
 use union_words::libraries::Libraries;
 use union_words::library_file::LibraryFile;
 use union_words::lines::{Lines, is_skipped};
+use union_words::loading::Loading;
 use union_words::number::{count_of, seed_of, workers_of, workers_word};
 use union_words::script_line::ScriptLine;
 use union_words::status::Status;
@@ -27,6 +28,24 @@ fn tell_file(text: &mut Vec<u8>, file: &LibraryFile<'_>) -> Result<(), AllocErro
 fn tell_libraries(text: &mut Vec<u8>, libraries: &Libraries<'_>) -> Result<(), AllocError> {
     for place in 0..libraries.len() {
         tell_file(text, &libraries.at(place))?;
+    }
+    Ok(())
+}
+
+/// A command and how it loads: its number of workers, the place of LIBB in its preference, and its libraries.
+fn tell_loading(
+    text: &mut Vec<u8>,
+    command: &[u8],
+    loading: &Loading<'_>,
+) -> Result<(), AllocError> {
+    tell_command(text, command, &loading.workers)?;
+    if let Some(library) = LibraryCode::read(b"LIBB") {
+        text.extend_from_slice(match loading.prefer.level(&library) {
+            64 => b" LIBB first".as_slice(),
+            63 => b" LIBB second".as_slice(),
+            0 => b"".as_slice(),
+            _ => b" LIBB later".as_slice(),
+        })?;
     }
     Ok(())
 }
@@ -61,22 +80,22 @@ fn told(alloc: Global, job: &Option<Job<'_>>) -> Result<Vec<u8>, AllocError> {
             text.extend_from_slice(b"from json")?;
             tell_file(&mut text, file)?;
         }
-        Some(Job::Export(workers, form, libraries)) => {
-            tell_command(&mut text, b"export ", workers)?;
+        Some(Job::Export(form, loading)) => {
+            tell_loading(&mut text, b"export ", loading)?;
             if *form == Form::Json {
                 text.extend_from_slice(b" json")?;
             }
-            tell_libraries(&mut text, libraries)?;
+            tell_libraries(&mut text, &loading.libraries)?;
         }
-        Some(Job::Works(workers, libraries)) => {
-            tell_command(&mut text, b"works ", workers)?;
-            tell_libraries(&mut text, libraries)?;
+        Some(Job::Works(loading)) => {
+            tell_loading(&mut text, b"works ", loading)?;
+            tell_libraries(&mut text, &loading.libraries)?;
         }
-        Some(Job::Watch(asks, workers, libraries)) => {
-            tell_command(&mut text, b"watch ", workers)?;
+        Some(Job::Watch(asks, loading)) => {
+            tell_loading(&mut text, b"watch ", loading)?;
             text.extend_from_slice(b" ")?;
             text.extend_from_slice(asks)?;
-            tell_libraries(&mut text, libraries)?;
+            tell_libraries(&mut text, &loading.libraries)?;
         }
         Some(Job::Script(path)) => {
             text.extend_from_slice(b"script ")?;
@@ -102,7 +121,7 @@ fn asks(alloc: Global, line: &[u8], want: &[u8]) -> Result<bool, Fail> {
 }
 
 /// Lines of words, and what each asks for.
-const FORMS: [(&[u8], &[u8]); 21] = [
+const FORMS: [(&[u8], &[u8]); 26] = [
     (b"check LIBA=a", b"check LIBA a"),
     (b"tojson LIBA=a", b"to json LIBA a"),
     (b"tojson LIBA=a=b", b"to json LIBA a=b"),
@@ -125,6 +144,20 @@ const FORMS: [(&[u8], &[u8]); 21] = [
         b"watch --ask=--ask= --workers=1 LIBA=a LIBB=b",
         b"watch 1 --ask= LIBA a LIBB b",
     ),
+    (
+        b"export --prefer=LIBB LIBA=a",
+        b"export 4 LIBB first LIBA a",
+    ),
+    (
+        b"export --workers=1 --prefer=LIBA,LIBB --json LIBA=a",
+        b"export 1 LIBB second json LIBA a",
+    ),
+    (b"works --prefer=LIBB LIBA=a", b"works 4 LIBB first LIBA a"),
+    (
+        b"watch --ask=q --prefer=LIBB LIBA=a",
+        b"watch 4 LIBB first q LIBA a",
+    ),
+    (b"export --prefer=LIBA LIBA=a", b"export 4 LIBA a"),
     (b"script s.txt", b"script s.txt"),
     (b"trial 0 1 1", b"trial 1 least"),
     (b"trial 18446744073709551615 200000 64", b"trial 64 most"),
@@ -133,7 +166,7 @@ const FORMS: [(&[u8], &[u8]); 21] = [
 ];
 
 /// Lines of words that are in no form.
-const NO_FORMS: [&[u8]; 25] = [
+const NO_FORMS: [&[u8]; 40] = [
     b"",
     b"export",
     b"export LIBA=a LIBA=b",
@@ -159,6 +192,21 @@ const NO_FORMS: [&[u8]; 25] = [
     b"exports LIBA=a",
     b"\xFF",
     b"export LIBA=a check",
+    b"export --prefer= LIBA=a",
+    b"export --prefer=LIBB,LIBB LIBA=a",
+    b"export --prefer=libb LIBA=a",
+    b"export --prefer=LIBA, LIBA=a",
+    b"export --prefer=LIBA",
+    b"export --prefer=LIBA --workers=1 LIBA=a",
+    b"export --json --prefer=LIBA LIBA=a",
+    b"works --prefer=LIBA --prefer=LIBA LIBA=a",
+    b"watch --prefer=LIBA --ask=q LIBA=a",
+    b"check --prefer=LIBA LIBA=a",
+    b"script --prefer=LIBA s.txt",
+    b"follow LIBA=a",
+    b"follow --ask=q",
+    b"follow --ask=q --workers=2 LIBA=a",
+    b"follow --ask=q --prefer=LIBA LIBA=a",
 ];
 
 /// Lines of words of MARC in JSON that are in no form.
@@ -272,7 +320,7 @@ fn sixty_four_libraries_at_most(rt: HostRuntime) -> Result<(), Fail> {
     let full = many(rt.alloc(), 64)?;
     let over = many(rt.alloc(), 65)?;
     match Job::read(full.as_slice()) {
-        Some(Job::Export(_, _, libraries)) => assert_eq!(rt; libraries.len(), 64),
+        Some(Job::Export(_, loading)) => assert_eq!(rt; loading.libraries.len(), 64),
         _ => assert!(rt; false),
     }
     assert!(rt; Job::read(over.as_slice()).is_none());
@@ -371,6 +419,7 @@ fn asked(alloc: Global, line: &[u8]) -> Result<Vec<u8>, AllocError> {
         }
         ScriptLine::Export => text.extend_from_slice(b"export")?,
         ScriptLine::Works => text.extend_from_slice(b"works")?,
+        ScriptLine::Notices => text.extend_from_slice(b"notices")?,
         ScriptLine::Ask(line) => {
             text.extend_from_slice(b"ask ")?;
             text.extend_from_slice(line)?;
@@ -381,7 +430,7 @@ fn asked(alloc: Global, line: &[u8]) -> Result<Vec<u8>, AllocError> {
 }
 
 /// Lines of a script, and what each asks for.
-const SCRIPT_LINES: [(&[u8], &[u8]); 19] = [
+const SCRIPT_LINES: [(&[u8], &[u8]); 23] = [
     (b"load LIBA a.mrc", b"load LIBA a.mrc"),
     (b"load LIBA  a b ", b"load LIBA  a b "),
     (b"load  LIBA a", b"word"),
@@ -397,6 +446,10 @@ const SCRIPT_LINES: [(&[u8], &[u8]); 19] = [
     (b"works", b"works"),
     (b"works x", b"word"),
     (b"works\t", b"ask works\t"),
+    (b"notices", b"notices"),
+    (b"notices ", b"notices"),
+    (b"notices on", b"word"),
+    (b"noticesx", b"ask noticesx"),
     (b"Export", b"ask Export"),
     (b"loads LIBA a", b"ask loads LIBA a"),
     (b" export", b"ask  export"),

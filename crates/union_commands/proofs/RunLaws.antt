@@ -7,7 +7,7 @@ use Rattle.std.proofs.lemmas.Option.{same_Some}
 use Rattle.std.specs.Io.KnownBytes.{Appends, Keeps}
 use Rattle.union_io.specs.Writing.{AppendsFront}
 use Rattle.union_io.specs.Causes.{Rose}
-use Rattle.union_words.specs.Words.{LibraryFile}
+use Rattle.union_words.specs.Words.{LibraryFile, Loading}
 use Rattle.union_words.specs.declared.input.Input.{Input}
 use Rattle.union_words.specs.declared.input.Input.TheVariants.{Library}
 use Rattle.union_words.specs.declared.status.Status.{Status}
@@ -15,10 +15,10 @@ use Rattle.union_words.specs.declared.status.Status.TheVariants.{Done, DoneWithR
 use Rattle.union_words.specs.Flows.{ShelfFlow, IsCalm, InputFile, IsOneOf, FailsAt, NoneFails, Outflow, HasFailedAt, IsNoted, IsCutOff}
 use Rattle.union_words.specs.Statuses.{is_done, is_early, is_input_fault, end_by}
 use Rattle.union_words.specs.Texts.{early_text}
-use Rattle.union_files.specs.Inputs.{inputs_of, IsEarliest, FailsEarliest, AreWithin, IsTooLongAt, StopsAt, deliveries}
+use Rattle.union_files.specs.Inputs.{inputs_of, IsEarliest, FailsEarliest, AreWithin, IsTooLongAt, StopsAt}
 use Rattle.union_files.specs.Unions.{HasUnited, IsUnion}
 use Rattle.union_files.specs.declared.loaded.Loaded.{Loaded}
-use Rattle.union_commands.specs.Runs.{end_of_all, Showing, IsUnionRun, IsReported, Written, Shows}
+use Rattle.union_commands.specs.Runs.{deliveries_of, end_of_all, Showing, IsUnionRun, IsReported, Written, Shows}
 
 -- something failed under one of the names, so it is not so that nothing did
 none_at : (shelf : ShelfFlow) (file : InputFile) (libraries : List InputFile) → IsOneOf file libraries → NoneFails libraries shelf
@@ -95,23 +95,23 @@ stops_long Usage libraries shelf contents i stops is found none = absurd stops
 stops_long WriteFault libraries shelf contents i stops is found none = absurd stops
 
 -- a run that stops at its inputs
-pub stopped_run : (showing : Showing) (status : Status) (libraries : List LibraryFile) (shelf : ShelfFlow) (out notes : Outflow)
-    → StopsAt status libraries shelf → Keeps out.old out.new → IsUnionRun showing libraries shelf out notes status
-stopped_run showing status libraries shelf out notes stops keeps =
-    let at : (s : Status) → status ≡ s → StopsAt s libraries shelf = λ s is. subst (λ s. StopsAt s libraries shelf) is stops in
+pub stopped_run : (showing : Showing) (status : Status) (loading : Loading) (shelf : ShelfFlow) (out notes : Outflow)
+    → StopsAt status loading.libraries shelf → Keeps out.old out.new → IsUnionRun showing loading shelf out notes status
+stopped_run showing status loading shelf out notes stops keeps =
+    let at : (s : Status) → status ≡ s → StopsAt s loading.libraries shelf = λ s is. subst (λ s. StopsAt s loading.libraries shelf) is stops in
     record {
       open_fault = λ i is. at (OpenFault i) is;
       read_fault = λ i is. at (ReadFault i) is;
-      calm = λ none. stops_calm status libraries shelf stops none;
+      calm = λ none. stops_calm status loading.libraries shelf stops none;
       write_fault = λ is. absurd (at WriteFault is);
       other = λ is. at Usage is;
       too_long = λ i is. (at (TooLong i) is).1;
-      done = λ done. absurd (stops_early status libraries shelf stops done);
+      done = λ done. absurd (stops_early status loading.libraries shelf stops done);
       untouched = λ early other. keeps;
       memory = λ is. inl keeps;
       part = λ is. absurd (at WriteFault is);
-      too_long_where = λ contents i is found none. stops_long status libraries shelf contents i stops is found none;
-      complete = λ contents is within none sound_out sound_notes. inr (stops_whole status libraries shelf contents stops is within none);
+      too_long_where = λ contents i is found none. stops_long status loading.libraries shelf contents i stops is found none;
+      complete = λ contents is within none sound_out sound_notes. inr (stops_whole status loading.libraries shelf contents stops is within none);
     }
 
 pub on_told : {P Q : (List ℕ → List ℕ) → Type 0} (files : Option (List ℕ → List ℕ)) → ((contents : List ℕ → List ℕ) → P contents → Q contents)
@@ -163,19 +163,19 @@ cut-fault out notes shown noted (inl first) = inl (first.1, first.2)
 cut-fault out notes shown noted (inr second) = inr second.2
 
 -- a run that loaded all its inputs and wrote what they came to
-pub loaded_run : (showing : Showing) (loaded : Loaded) (status : Status) (libraries : List LibraryFile) (shelf : ShelfFlow) (out notes : Outflow)
-    → IsCalm shelf → IfSome shelf.files (λ contents. AreWithin contents libraries × HasUnited (deliveries contents libraries) loaded)
-    → Shows showing loaded out notes status → IsUnionRun showing libraries shelf out notes status
-loaded_run showing loaded status libraries shelf out notes calm united shows =
+pub loaded_run : (showing : Showing) (loaded : Loaded) (status : Status) (loading : Loading) (shelf : ShelfFlow) (out notes : Outflow)
+    → IsCalm shelf → IfSome shelf.files (λ contents. AreWithin contents loading.libraries × HasUnited (deliveries_of contents loading) loaded)
+    → Shows showing loaded out notes status → IsUnionRun showing loading shelf out notes status
+loaded_run showing loaded status loading shelf out notes calm united shows =
     let editions = shows.0 in
     let written = shows.2 in
-    let whole : (contents : List ℕ → List ℕ) (u : HasUnited (deliveries contents libraries) loaded) → IsUnion (deliveries contents libraries) u.union.streams editions = λ contents u. record {
+    let whole : (contents : List ℕ → List ℕ) (u : HasUnited (deliveries_of contents loading) loaded) → IsUnion (deliveries_of contents loading) u.union.streams editions = λ contents u. record {
       delivered = u.union.delivered;
       history = loaded.catalogue;
       interleaving = u.union.interleaving;
       resolved = shows.1;
     } in
-    let end : (contents : List ℕ → List ℕ) → HasUnited (deliveries contents libraries) loaded → end_by loaded.refused ≡ end_of_all (deliveries contents libraries)
+    let end : (contents : List ℕ → List ℕ) → HasUnited (deliveries_of contents loading) loaded → end_by loaded.refused ≡ end_of_all (deliveries_of contents loading)
     = λ contents u. ap end_by u.refused in
     record {
       open_fault = λ i is. absurd (other-end loaded.refused status (OpenFault i) written.kinds refl (λ e. cc) (λ e. cc) is);
@@ -212,9 +212,9 @@ loaded_run showing loaded status libraries shelf out notes calm united shows =
             ),
           ))
           united;
-      too_long_where = λ contents i is found none. absurd (within_none contents libraries i (told (λ contents. AreWithin contents libraries × HasUnited (deliveries contents libraries) loaded) shelf.files contents is united).0 found);
+      too_long_where = λ contents i is found none. absurd (within_none contents loading.libraries i (told (λ contents. AreWithin contents loading.libraries × HasUnited (deliveries_of contents loading) loaded) shelf.files contents is united).0 found);
       complete = λ contents is within none sound_out sound_notes.
-          let u = (told (λ contents. AreWithin contents libraries × HasUnited (deliveries contents libraries) loaded) shelf.files contents is united).1 in
+          let u = (told (λ contents. AreWithin contents loading.libraries × HasUnited (deliveries_of contents loading) loaded) shelf.files contents is united).1 in
           subst (λ s. (status ≡ s) ⊎ (status ≡ Memory)) (end contents u)
           (ends-so loaded.refused status (HasFailedAt out × Keeps notes.old notes.new) (HasFailedAt notes) written.kinds
           (λ is. cut-fault out notes (showing.shown editions) (loaded.reports.items ++ showing.noted editions) (written.part is))

@@ -9,9 +9,9 @@ use Rattle.catalogue_export.specs.WorkLists.{works_text_of}
 use Rattle.catalogue_json.specs.JsonExport.{json_export_text}
 use Rattle.iso2709_frame.specs.Frames.{frames}
 use Rattle.union_io.specs.Writing.{AppendsFront}
+use Rattle.library_batches.specs.Reading.{most_bytes}
 use Rattle.library_batches.specs.Refused.{refused}
 use Rattle.library_batches.specs.declared.refused.RefusedFrame.{RefusedFrame}
-use Rattle.library_stream.specs.declared.frame_reader.TheConstants.{LARGEST_SOURCE}
 use Rattle.union_reports.specs.Reports.{check_text, left_lines}
 use Rattle.union_files.specs.Deliveries.{Delivery, Stream, reports_of, has_refused}
 use Rattle.union_files.specs.Inputs.{inputs_of, FailsEarliest, AreWithin, IsTooLongAt, deliveries}
@@ -20,7 +20,7 @@ use Rattle.union_files.specs.declared.loaded.Loaded.{Loaded}
 use Rattle.union_words.specs.Flows.{ShelfFlow, IsCalm, FailsAt, NoneFails, Inflow, HasFailed, Outflow, HasFailedAt, IsNoted, IsCutOff}
 use Rattle.union_words.specs.Statuses.{is_done, is_early, is_input_fault, end_by}
 use Rattle.union_words.specs.Texts.{early_text}
-use Rattle.union_words.specs.Words.{LibraryFile}
+use Rattle.union_words.specs.Words.{Loading}
 use Rattle.union_words.specs.declared.form.Form.{Form}
 use Rattle.union_words.specs.declared.form.Form.TheVariants.{Iso2709, Json}
 use Rattle.union_words.specs.declared.input.Input.{Input}
@@ -47,7 +47,7 @@ pub record EndsAtInput (input : Input) (flow : Inflow) (status : Status) : Type 
   pub open_fault : (i : Input) → status ≡ OpenFault i → (i ≡ input) × HasFailed flow
   pub read_fault : (i : Input) → status ≡ ReadFault i → (i ≡ input) × HasFailed flow
   pub too_long : (i : Input) → status ≡ TooLong i → (i ≡ input) × IsOverfull flow
-  pub too_long_where : (bytes : List ℕ) → flow.told ≡ Some bytes → LARGEST_SOURCE < length bytes → ¬ HasFailed flow
+  pub too_long_where : (bytes : List ℕ) → flow.told ≡ Some bytes → most_bytes < length bytes → ¬ HasFailed flow
       → (status ≡ TooLong input) ⊎ (status ≡ Memory)
 
 -- `check` of a library's file
@@ -62,7 +62,7 @@ pub record IsCheck (library : List ℕ) (file : Inflow) (out : Outflow) (status 
   pub untouched : IsTrue (is_early status) → Keeps out.old out.new
   pub part : status ≡ WriteFault → IfSome file.told (λ bytes. AppendsFront out.old out.new (check_text library (frames bytes)))
   -- where nothing fails it is done, or memory ran out
-  pub complete : (bytes : List ℕ) → file.told ≡ Some bytes → length bytes ≤ LARGEST_SOURCE → ¬ HasFailed file → ¬ HasFailedAt out
+  pub complete : (bytes : List ℕ) → file.told ≡ Some bytes → length bytes ≤ most_bytes → ¬ HasFailed file → ¬ HasFailedAt out
       → (status ≡ end_of bytes) ⊎ (status ≡ Memory)
 
 -- what is shown of the editions of a catalogue on the output, and what is noted of them after the reports
@@ -108,30 +108,34 @@ abbrev pub IsBegun : Showing → List Delivery → Outflow → Type 0
 IsBegun showing all out =
     (streams : List Stream) × (editions : List Edition) × IsUnion all streams editions × AppendsFront out.old out.new (showing.shown editions)
 
--- what is shown of the union of these libraries' files, and their reports
-pub record IsUnionRun (showing : Showing) (libraries : List LibraryFile) (shelf : ShelfFlow) (out notes : Outflow) (status : Status) : Type 0 where
+-- what the files of a load deliver
+abbrev pub deliveries_of : (List ℕ → List ℕ) → Loading → List Delivery
+deliveries_of contents loading = deliveries loading.prefer contents loading.libraries
+
+-- what is shown of the union of the libraries' files, and their reports
+pub record IsUnionRun (showing : Showing) (loading : Loading) (shelf : ShelfFlow) (out notes : Outflow) (status : Status) : Type 0 where
   -- what failed, where something did
-  pub open_fault : (i : Input) → status ≡ OpenFault i → FailsAt (inputs_of libraries) shelf i
-  pub read_fault : (i : Input) → status ≡ ReadFault i → FailsEarliest (inputs_of libraries) shelf i
+  pub open_fault : (i : Input) → status ≡ OpenFault i → FailsAt (inputs_of loading.libraries) shelf i
+  pub read_fault : (i : Input) → status ≡ ReadFault i → FailsEarliest (inputs_of loading.libraries) shelf i
   pub calm : is_input_fault status ≡ false → IsCalm shelf
   pub write_fault : status ≡ WriteFault → (HasFailedAt out × Keeps notes.old notes.new) ⊎ HasFailedAt notes
   pub other : status ≢ Usage
   -- which file is too long
-  pub too_long : (i : Input) → status ≡ TooLong i → IfSome shelf.files (λ contents. IsTooLongAt contents libraries i)
+  pub too_long : (i : Input) → status ≡ TooLong i → IfSome shelf.files (λ contents. IsTooLongAt contents loading.libraries i)
   -- all of both texts; none of the first; or a prefix of one, where the second is begun only when the first is written whole
-  pub done : IsTrue (is_done status) → IfSome shelf.files (λ contents. AreWithin contents libraries
-      × (status ≡ end_of_all (deliveries contents libraries)) × IsShown showing (deliveries contents libraries) out notes)
+  pub done : IsTrue (is_done status) → IfSome shelf.files (λ contents. AreWithin contents loading.libraries
+      × (status ≡ end_of_all (deliveries_of contents loading)) × IsShown showing (deliveries_of contents loading) out notes)
   pub untouched : IsTrue (is_early status) → status ≢ Memory → Keeps out.old out.new
   pub memory : status ≡ Memory → Keeps out.old out.new
-      ⊎ IfSome shelf.files (λ contents. AreWithin contents libraries × IsBegun showing (deliveries contents libraries) out)
-  pub part : status ≡ WriteFault → IfSome shelf.files (λ contents. AreWithin contents libraries
-      × IsShownInPart showing (deliveries contents libraries) out notes)
+      ⊎ IfSome shelf.files (λ contents. AreWithin contents loading.libraries × IsBegun showing (deliveries_of contents loading) out)
+  pub part : status ≡ WriteFault → IfSome shelf.files (λ contents. AreWithin contents loading.libraries
+      × IsShownInPart showing (deliveries_of contents loading) out notes)
   -- where nothing fails it is so, or memory ran out
-  pub too_long_where : (contents : List ℕ → List ℕ) (i : Input) → shelf.files ≡ Some contents → IsTooLongAt contents libraries i
-      → NoneFails (inputs_of libraries) shelf → (status ≡ TooLong i) ⊎ (status ≡ Memory)
-  pub complete : (contents : List ℕ → List ℕ) → shelf.files ≡ Some contents → AreWithin contents libraries
-      → NoneFails (inputs_of libraries) shelf → ¬ HasFailedAt out → ¬ HasFailedAt notes
-      → (status ≡ end_of_all (deliveries contents libraries)) ⊎ (status ≡ Memory)
+  pub too_long_where : (contents : List ℕ → List ℕ) (i : Input) → shelf.files ≡ Some contents → IsTooLongAt contents loading.libraries i
+      → NoneFails (inputs_of loading.libraries) shelf → (status ≡ TooLong i) ⊎ (status ≡ Memory)
+  pub complete : (contents : List ℕ → List ℕ) → shelf.files ≡ Some contents → AreWithin contents loading.libraries
+      → NoneFails (inputs_of loading.libraries) shelf → ¬ HasFailedAt out → ¬ HasFailedAt notes
+      → (status ≡ end_of_all (deliveries_of contents loading)) ⊎ (status ≡ Memory)
 
 -- a text of the program's own
 pub record IsTold (text : List ℕ) (out : Outflow) (status : Status) : Type 0 where

@@ -48,7 +48,9 @@ fn with_left_lines(
 
 /// Writes the reports, and a line for each edition of which fields were left out. Where memory ran out, the line that says so
 /// is written in their place.
-// The catalogue is not taken apart: the program ends after this, and the system takes all its memory back at once.
+///
+/// Where all was written, the catalogue's memory is not given back: the program ends after this, and the system takes all of it
+/// back at once. With any other status it is.
 pub fn write_reports<N: Sink>(
     alloc: Global,
     loaded: Loaded,
@@ -60,11 +62,12 @@ pub fn write_reports<N: Sink>(
         result }
 {
     let (catalogue, reports, refused) = loaded.into_parts();
-    forget(catalogue);
-    let end = end_by(refused);
     match with_left_lines(alloc, reports, left) {
         Ok(text) => match put_all(notes, text.as_slice()) {
-            Ok(()) => end,
+            Ok(()) => {
+                forget(catalogue);
+                end_by(refused)
+            }
             Err(Failed) => Status::WriteFault,
         },
         Err(Memory) => {

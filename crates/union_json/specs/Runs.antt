@@ -1,7 +1,7 @@
 -- How a run ends that reads one file to its end and then writes two texts.
 use Rattle.std.specs.Prelude.{◌≡◌, ◌≢◌, ℕ, ◌⊎◌, ◌≤◌, false, IsTrue, List, length, Some, IfSome}
 use Rattle.std.specs.Io.KnownBytes.{Appends, Keeps}
-use Rattle.library_stream.specs.declared.frame_reader.TheConstants.{LARGEST_SOURCE}
+use Rattle.library_batches.specs.Reading.{most_bytes}
 use Rattle.union_commands.specs.Runs.{EndsAtInput}
 use Rattle.union_json.specs.FromJson.{IsFromJson}
 use Rattle.union_json.specs.Texts.{Making}
@@ -25,7 +25,7 @@ pub record IsMakingRun (library : List ℕ) (IsOf : List ℕ → Making → Type
   pub part : status ≡ WriteFault → IfSome file.told (λ bytes. (made : Making) × IsOf bytes made
       × IsCutOff out notes made.shown made.noted)
   -- where nothing fails it is done, or memory ran out
-  pub complete : (bytes : List ℕ) → file.told ≡ Some bytes → length bytes ≤ LARGEST_SOURCE → ¬ HasFailed file → ¬ HasFailedAt out
+  pub complete : (bytes : List ℕ) → file.told ≡ Some bytes → length bytes ≤ most_bytes → ¬ HasFailed file → ¬ HasFailedAt out
       → ¬ HasFailedAt notes → ((made : Making) × IsOf bytes made × (status ≡ made.end)) ⊎ (status ≡ Memory)
 
 -- `tojson` of a library's file

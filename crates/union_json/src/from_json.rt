@@ -3,6 +3,7 @@ ghost use Rattle.std.specs.Prelude.{◌≡◌, ◌≤◌, ℕ, List, [], IsTrue,
 ghost use Rattle.json_lines.specs.Converting.{HasTaken};
 ghost use Rattle.json_lines.specs.Counts.{AreCounted, IsConverted};
 ghost use Rattle.json_lines.specs.Outcomes.{Ended};
+ghost use Rattle.library_batches.specs.Reading.{most_bytes};
 ghost use Rattle.union_commands.specs.Readings.{Reads};
 ghost use Rattle.union_json.specs.FromJson.{IsFromJson, end_with, from_json_notes};
 ghost use Rattle.union_json.specs.Runs.{IsFromJsonRun};
@@ -38,7 +39,7 @@ fn take_source<S: Source>(
     ensures name { S.name source.new ≡ S.name source.old }
     ensures reads { Reads result (record { told = S.left source.old; before = S.faults source.old; after = S.faults source.new })
         (λ _ bytes. HasTaken [] converter.old → HasTaken bytes converter.new) }
-    ensures few { OnOk result (converter.new.findings.lines ≤ LARGEST_SOURCE) }
+    ensures few { OnOk result (converter.new.findings.lines ≤ most_bytes) }
 {
     let mut piece = vec![in alloc; 0u8; PIECE]?;
     let mut room = LARGEST_SOURCE;

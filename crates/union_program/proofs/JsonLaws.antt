@@ -1,7 +1,7 @@
 -- A run in JSON that ended early: the line that is noted after it changes nothing of what it says.
 use Rattle.std.proofs.Common.{◌≡◌, ◌≢◌, ℕ, ◌<◌, ◌≤◌, Bool, true, false, IsTrue, List, length, inr, refl, sym, subst, ◌∙◌, arith}
 use Rattle.std.specs.Prelude.{Option, Some, IfSome}
-use Rattle.library_stream.specs.declared.frame_reader.TheConstants.{LARGEST_SOURCE}
+use Rattle.library_batches.specs.Reading.{most_bytes}
 use Rattle.union_words.specs.Flows.{Inflow, HasFailed, Outflow, IsNoted}
 use Rattle.union_words.specs.Texts.{early_text}
 use Rattle.union_words.specs.Statuses.{is_done, is_early}
@@ -27,7 +27,7 @@ early-not_write status early is = let clash : false ≡ true = subst (λ s. is_e
 
 -- where nothing failed and the file is not too long, it is memory
 early-memory : (input : Input) (file : Inflow) (status : Status) (bytes : List ℕ) → EndsAtInput input file status → status ≢ Usage
-    → is_early status ≡ true → file.told ≡ Some bytes → length bytes ≤ LARGEST_SOURCE → ¬ HasFailed file → status ≡ Memory
+    → is_early status ≡ true → file.told ≡ Some bytes → length bytes ≤ most_bytes → ¬ HasFailed file → status ≡ Memory
 early-memory input file Done bytes ends other early told within sound = cc
 early-memory input file DoneWithRefusals bytes ends other early told within sound = cc
 early-memory input file Usage bytes ends other early told within sound = absurd (other refl)
@@ -35,7 +35,7 @@ early-memory input file (OpenFault i) bytes ends other early told within sound =
 early-memory input file (ReadFault i) bytes ends other early told within sound = absurd (sound (ends.read_fault i refl).1)
 early-memory input file WriteFault bytes ends other early told within sound = cc
 early-memory input file (TooLong i) bytes ends other early told within sound =
-    let over : LARGEST_SOURCE < length bytes = subst (λ t. IfSome t (λ bs. LARGEST_SOURCE < length bs)) told (ends.too_long i refl).1 in
+    let over : most_bytes < length bytes = subst (λ t. IfSome t (λ bs. most_bytes < length bs)) told (ends.too_long i refl).1 in
     absurd (omega arith)
 early-memory input file Memory bytes ends other early told within sound = refl
 

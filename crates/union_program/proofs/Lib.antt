@@ -1,1 +1,2 @@
+mod AnsweredLaws
 mod JsonLaws

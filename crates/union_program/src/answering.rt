@@ -1,75 +1,112 @@
 //! The loading of libraries' files, and the answers to the questions of a file beside it.
-ghost use Rattle.std.specs.Prelude.{◌≡◌, ◌≤◌, ◌++◌, map, length, IfOk};
-ghost use Rattle.union_words.specs.Meanings.{libraries_meaning};
-ghost use Rattle.union_files.specs.Inputs.{Gathers, deliveries};
+ghost use Rattle.std.specs.Prelude.{◌≡◌, ◌++◌, map, length, IfOk};
+ghost use Rattle.union_words.specs.Flows.{shelf_flow};
+ghost use Rattle.union_words.specs.Meanings.{libraries_meaning, loading_meaning};
+ghost use Rattle.union_files.specs.Inputs.{Gathers};
 ghost use Rattle.union_files.specs.Unions.{HasUnited};
-ghost use Rattle.union_watch.specs.AskLines.{line_meaning, asked_lines, lines_in, has_refused_line};
-ghost use Rattle.union_watch.specs.Lateness.{AreTimely};
+ghost use Rattle.union_watch.specs.AskLines.{line_meaning, asked_lines, lines_in, questions_in, has_refused_line};
+ghost use Rattle.union_watch.specs.Lateness.{beside, late, AreTimely};
 ghost use Rattle.union_watch.specs.Told.{AreTold, numbers_of, told_of};
+ghost use Rattle.union_commands.specs.Runs.{deliveries_of};
 
-use std::alloc::Global;
+use crate::host::Host;
+use load_sessions::questions::Questions;
+use std::alloc::{AllocError, Global};
 use std::sync::Wait;
 use std::thread::Threads;
+use union_base::memory::Memory;
 use union_io::gate::Gate;
 use union_io::shelf::Shelf;
 use union_sessions::sessions::load_and_ask;
 use union_sessions::watched::Watched;
 use union_watch::answered::Answered;
 use union_watch::ask_file::AskFile;
-use union_watch::questions::Questions;
-use union_words::libraries::Libraries;
+use union_watch::ask_line::AskLine;
+use union_watch::questions::divide;
+use union_words::loading::Loading;
 use union_words::status::Status;
 
-/// Reads the lines of a file of questions, loads the files of the libraries, by so many workers, and asks beside the load and
-/// after it.
+/// The lines of a file of questions, and the questions of those that ask something.
+#[derive(Drop)]
+struct Asked<'a> {
+    lines: Vec<AskLine<'a>>,
+    questions: Questions,
+    /// Whether a line is refused.
+    refused: bool,
+}
+
+/// Reads the lines of a file of questions, and divides the questions for so many workers. Returns `Memory` if allocation fails.
+fn read_asked(alloc: Global, workers: u32, text: &[u8]) -> Result<Asked<'_>, Memory>
+    ensures lines { IfOk result (λ asked. map line_meaning asked.lines.items ≡ lines_in text.now) }
+    ensures beside { IfOk result (λ asked. asked.questions.beside.items ≡ beside workers (questions_in text.now)) }
+    ensures late { IfOk result (λ asked. asked.questions.late.items ≡ late workers (questions_in text.now)) }
+    ensures refused { IfOk result (λ asked. asked.refused ≡ has_refused_line text.now) }
+{
+    let file = AskFile::read(alloc, text)?;
+    let refused = file.has_refusals();
+    let AskFile { lines, questions } = file;
+    match divide(alloc, workers, questions) {
+        Ok(questions) => Ok(Asked {
+            lines,
+            questions,
+            refused,
+        }),
+        Err(AllocError) => Err(Memory),
+    }
+}
+
+/// What was loaded and asked, with the lines of the file of questions.
+fn answered(watched: Watched, lines: Vec<AskLine<'_>>, refused: bool) -> Answered<'_>
+    ensures loaded { result.loaded ≡ watched.loaded }
+    ensures lines { result.lines ≡ lines.entry }
+    ensures beside { result.beside ≡ watched.beside }
+    ensures late { result.late ≡ watched.late }
+    ensures refused { result.refused ≡ refused }
+{
+    let Watched {
+        loaded,
+        beside,
+        late,
+    } = watched;
+    Answered {
+        loaded,
+        lines,
+        beside,
+        late,
+        refused,
+    }
+}
+
+/// Reads the lines of a file of questions, loads the files of the libraries, and asks beside the load and after it.
 ///
 /// # Errors
 ///
 /// As those of `load_and_ask`: the first file that could not be opened, or read to its end, or is too long; or `Memory`.
 pub fn load_and_answer<'a, R: Threads + Wait + Sync, F: Shelf, G: Gate>(
-    rt: &R,
-    alloc: Global,
+    host: &Host<'_, R, G>,
     text: &'a [u8],
-    libraries: &Libraries<'_>,
-    workers: u32,
+    loading: &Loading<'_>,
     shelf: &mut F,
-    gate: &G,
 ) -> Result<Answered<'a>, Status>
-    requires least { 1 ≤ workers }
-    requires most { workers ≤ 64 }
-    ensures gathers { Gathers result (libraries_meaning libraries.now)
-        (record { files = F.files shelf.old; before = F.faults shelf.old; after = F.faults shelf.new })
-        (λ answered contents. HasUnited (deliveries contents (libraries_meaning libraries.now)) answered.loaded) }
+    ensures gathers { Gathers result (libraries_meaning loading.now.libraries) (shelf_flow F.files F.faults shelf.old shelf.new)
+        (λ answered contents. HasUnited (deliveries_of contents (loading_meaning loading.now)) answered.loaded) }
     ensures lines { IfOk result (λ answered. map line_meaning answered.lines.items ≡ lines_in text.now) }
     ensures told { IfOk result (λ answered. AreTold answered.loaded.catalogue (asked_lines text.now)
         (told_of (lines_in text.now) (answered.beside.items ++ answered.late.items))) }
-    ensures timely { IfOk result (λ answered. AreTimely workers (length answered.loaded.catalogue)
+    ensures timely { IfOk result (λ answered. AreTimely loading.now.workers.number (length answered.loaded.catalogue)
         (numbers_of (told_of (lines_in text.now) (answered.beside.items ++ answered.late.items)))) }
     ensures refused { IfOk result (λ answered. answered.refused ≡ has_refused_line text.now) }
 {
-    let Ok(file) = AskFile::read(alloc, text) else {
+    let Ok(asked) = read_asked(host.alloc, loading.workers.number(), text) else {
         return Err(Status::Memory);
     };
-    let refused = file.has_refusals();
-    let AskFile { lines, questions } = file;
-    let Ok(questions) = Questions::divide(alloc, workers, questions) else {
-        return Err(Status::Memory);
-    };
-    let Questions { beside, late } = questions;
-    match load_and_ask(rt, alloc, libraries, workers, beside, late, shelf, gate) {
-        Ok(
-            Watched {
-                loaded,
-                beside,
-                late,
-            },
-        ) => Ok(Answered {
-            loaded,
-            lines,
-            beside,
-            late,
-            refused,
-        }),
+    let Asked {
+        lines,
+        questions,
+        refused,
+    } = asked;
+    match load_and_ask(host.rt, host.alloc, loading, questions, shelf, host.gate) {
+        Ok(watched) => Ok(answered(watched, lines, refused)),
         Err(status) => Err(status),
     }
 }

@@ -1,8 +1,8 @@
 //! `tojson` and `fromjson` of the file of a library, as a shelf has it.
 ghost use Rattle.std.specs.Prelude.{◌≡◌, IsTrue};
 ghost use Rattle.union_io.specs.Counts.{SameElsewhere};
-ghost use Rattle.union_io.specs.Files.{told_of};
 ghost use Rattle.union_json.specs.Runs.{IsToJsonRun, IsFromJsonRun};
+ghost use Rattle.union_words.specs.Flows.{shelf_flow, file_flow, outflow};
 ghost use Rattle.union_words.specs.Statuses.{is_early};
 
 use std::alloc::Global;
@@ -25,13 +25,9 @@ pub fn to_json_file<F: Shelf, O: Sink, N: Sink>(
     out: &mut O,
     notes: &mut N,
 ) -> Status
-    ensures run { IsToJsonRun file.now.library (record {
-      told = told_of (F.files shelf.old) file.now.path.now;
-      before = F.faults shelf.old file.now.path.now;
-      after = F.faults shelf.new file.now.path.now;
-    })
-        (record { old = O.written out.old; new = O.written out.new; before = O.faults out.old; after = O.faults out.new })
-        (record { old = N.written notes.old; new = N.written notes.new; before = N.faults notes.old; after = N.faults notes.new })
+    ensures run { IsToJsonRun file.now.library (file_flow (shelf_flow F.files F.faults shelf.old shelf.new) file.now.path.now)
+        (outflow O.written O.faults out.old out.new)
+        (outflow N.written N.faults notes.old notes.new)
         result }
     ensures others { SameElsewhere (F.faults shelf.old) (F.faults shelf.new) file.now.path.now }
     ensures quiet { IsTrue (is_early result) → notes.new ≡ notes.old }
@@ -50,13 +46,9 @@ pub fn from_json_file<F: Shelf, O: Sink, N: Sink>(
     out: &mut O,
     notes: &mut N,
 ) -> Status
-    ensures run { IsFromJsonRun file.now.library (record {
-      told = told_of (F.files shelf.old) file.now.path.now;
-      before = F.faults shelf.old file.now.path.now;
-      after = F.faults shelf.new file.now.path.now;
-    })
-        (record { old = O.written out.old; new = O.written out.new; before = O.faults out.old; after = O.faults out.new })
-        (record { old = N.written notes.old; new = N.written notes.new; before = N.faults notes.old; after = N.faults notes.new })
+    ensures run { IsFromJsonRun file.now.library (file_flow (shelf_flow F.files F.faults shelf.old shelf.new) file.now.path.now)
+        (outflow O.written O.faults out.old out.new)
+        (outflow N.written N.faults notes.old notes.new)
         result }
     ensures others { SameElsewhere (F.faults shelf.old) (F.faults shelf.new) file.now.path.now }
     ensures quiet { IsTrue (is_early result) → notes.new ≡ notes.old }
@@ -77,9 +69,9 @@ fn open_to_json<F: Shelf, O: Sink, N: Sink>(
     notes: &mut N,
 ) -> Status
     ensures run { IsToJsonRun library.now
-        (record { told = told_of (F.files shelf.old) path.now; before = F.faults shelf.old path.now; after = F.faults shelf.new path.now })
-        (record { old = O.written out.old; new = O.written out.new; before = O.faults out.old; after = O.faults out.new })
-        (record { old = N.written notes.old; new = N.written notes.new; before = N.faults notes.old; after = N.faults notes.new })
+        (file_flow (shelf_flow F.files F.faults shelf.old shelf.new) path.now)
+        (outflow O.written O.faults out.old out.new)
+        (outflow N.written N.faults notes.old notes.new)
         result }
     ensures others { SameElsewhere (F.faults shelf.old) (F.faults shelf.new) path.now }
     ensures quiet { IsTrue (is_early result) → notes.new ≡ notes.old }
@@ -105,9 +97,9 @@ fn open_from_json<F: Shelf, O: Sink, N: Sink>(
     notes: &mut N,
 ) -> Status
     ensures run { IsFromJsonRun library.now
-        (record { told = told_of (F.files shelf.old) path.now; before = F.faults shelf.old path.now; after = F.faults shelf.new path.now })
-        (record { old = O.written out.old; new = O.written out.new; before = O.faults out.old; after = O.faults out.new })
-        (record { old = N.written notes.old; new = N.written notes.new; before = N.faults notes.old; after = N.faults notes.new })
+        (file_flow (shelf_flow F.files F.faults shelf.old shelf.new) path.now)
+        (outflow O.written O.faults out.old out.new)
+        (outflow N.written N.faults notes.old notes.new)
         result }
     ensures others { SameElsewhere (F.faults shelf.old) (F.faults shelf.new) path.now }
     ensures quiet { IsTrue (is_early result) → notes.new ≡ notes.old }

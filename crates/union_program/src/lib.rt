@@ -5,6 +5,7 @@
 #![tactic(auto)]
 
 pub mod answering;
+pub mod host;
 pub mod json;
 pub mod run;
 

@@ -2,23 +2,23 @@
 //!
 //! It does all that the program does, over whatever shelf of files and outputs it is handed. Each answer other than
 //! `Done` and `DoneWithRefusals` has its cause in a clause, and those two have the whole result.
-ghost use Rattle.std.specs.Prelude.{◌≡◌, ◌≢◌, ◌↔◌, ◌⊎◌, ◌≤◌, ℕ, List, IsTrue, Some, None, false};
+ghost use Rattle.std.specs.Prelude.{◌≡◌, ◌≢◌, ◌↔◌, ◌⊎◌, ℕ, List, IsTrue, Some, None, false};
 ghost use Rattle.std.specs.Io.KnownBytes.{Keeps};
 ghost use Rattle.union_io.specs.Counts.{SameElsewhere};
-ghost use Rattle.union_io.specs.Files.{told_of};
-ghost use Rattle.union_words.specs.Meanings.{libraries_meaning};
+ghost use Rattle.union_words.specs.Meanings.{loading_meaning};
 ghost use Rattle.union_words.specs.Texts.{early_text};
 ghost use Rattle.union_words.specs.Words;
-ghost use Rattle.union_words.specs.Flows.{IsNoted};
+ghost use Rattle.union_words.specs.Flows.{shelf_flow, file_flow, outflow, IsNoted};
 ghost use Rattle.union_words.specs.Statuses.{is_early};
 ghost use Rattle.union_words.specs.declared.form.Form.{Form as ExportForm};
 ghost use Rattle.union_script.specs.Runs.{IsScript};
 ghost use Rattle.union_trial.specs.Trials.{IsTrial};
-ghost use Rattle.union_watch.specs.Runs.{IsWatchRun};
+ghost use Rattle.union_watch.specs.Runs.{watch_of, IsWatchRun};
 ghost use Rattle.union_commands.specs.Runs.{exported_as, listed, showing_of, IsCheck, IsUnionRun, IsTold};
 ghost use Rattle.union_json.specs.Runs.{IsToJsonRun, IsFromJsonRun};
 
 use crate::answering::load_and_answer;
+use crate::host::Host;
 use crate::json::{from_json_file, to_json_file};
 use std::alloc::Global;
 use std::sync::Wait;
@@ -38,8 +38,8 @@ use union_script::run::script_run;
 use union_sessions::sessions::load_by_sessions;
 use union_trial::trial::trial_run;
 use union_words::job::Job;
-use union_words::libraries::Libraries;
 use union_words::library_file::LibraryFile;
+use union_words::loading::Loading;
 use union_words::status::Status;
 use union_words::texts::{HELP, VERSION, help_text, version_text};
 use union_words::trial::Trial;
@@ -62,7 +62,7 @@ fn is_early(status: &Status) -> bool
 fn end<N: Sink>(notes: &mut N, status: Status) -> Status
     ensures same { result ≡ status }
     ensures noted { IsTrue (is_early status)
-        → IsNoted (record { old = N.written notes.old; new = N.written notes.new; before = N.faults notes.old; after = N.faults notes.new })
+        → IsNoted (outflow N.written N.faults notes.old notes.new)
         (early_text status) }
     ensures quiet { is_early status ≡ false → Keeps (N.written notes.old) (N.written notes.new) }
     ensures still { is_early status ≡ false → notes.new ≡ notes.old }
@@ -76,7 +76,7 @@ fn end<N: Sink>(notes: &mut N, status: Status) -> Status
 /// Writes a text of the program's own.
 fn tell<O: Sink>(out: &mut O, text: &[u8]) -> Status
     ensures { IsTold text.now
-        (record { old = O.written out.old; new = O.written out.new; before = O.faults out.old; after = O.faults out.new }) result }
+        (outflow O.written O.faults out.old out.new) result }
 {
     match put_all(out, text) {
         Ok(()) => Status::Done,
@@ -91,12 +91,8 @@ fn run_check<F: Shelf, O: Sink>(
     shelf: &mut F,
     out: &mut O,
 ) -> Status
-    ensures run { IsCheck file.now.library (record {
-      told = told_of (F.files shelf.old) file.now.path.now;
-      before = F.faults shelf.old file.now.path.now;
-      after = F.faults shelf.new file.now.path.now;
-    })
-        (record { old = O.written out.old; new = O.written out.new; before = O.faults out.old; after = O.faults out.new })
+    ensures run { IsCheck file.now.library (file_flow (shelf_flow F.files F.faults shelf.old shelf.new) file.now.path.now)
+        (outflow O.written O.faults out.old out.new)
         result }
     ensures others { SameElsewhere (F.faults shelf.old) (F.faults shelf.new) file.now.path.now }
 {
@@ -114,17 +110,13 @@ fn run_to_json<F: Shelf, O: Sink, N: Sink>(
     out: &mut O,
     notes: &mut N,
 ) -> Status
-    ensures run { IsToJsonRun file.now.library (record {
-      told = told_of (F.files shelf.old) file.now.path.now;
-      before = F.faults shelf.old file.now.path.now;
-      after = F.faults shelf.new file.now.path.now;
-    })
-        (record { old = O.written out.old; new = O.written out.new; before = O.faults out.old; after = O.faults out.new })
-        (record { old = N.written notes.old; new = N.written notes.new; before = N.faults notes.old; after = N.faults notes.new })
+    ensures run { IsToJsonRun file.now.library (file_flow (shelf_flow F.files F.faults shelf.old shelf.new) file.now.path.now)
+        (outflow O.written O.faults out.old out.new)
+        (outflow N.written N.faults notes.old notes.new)
         result }
     ensures others { SameElsewhere (F.faults shelf.old) (F.faults shelf.new) file.now.path.now }
     ensures noted { IsTrue (is_early result)
-        → IsNoted (record { old = N.written notes.old; new = N.written notes.new; before = N.faults notes.old; after = N.faults notes.new })
+        → IsNoted (outflow N.written N.faults notes.old notes.new)
         (early_text result) }
 {
     let status = to_json_file(alloc, file, shelf, out, notes);
@@ -139,17 +131,13 @@ fn run_from_json<F: Shelf, O: Sink, N: Sink>(
     out: &mut O,
     notes: &mut N,
 ) -> Status
-    ensures run { IsFromJsonRun file.now.library (record {
-      told = told_of (F.files shelf.old) file.now.path.now;
-      before = F.faults shelf.old file.now.path.now;
-      after = F.faults shelf.new file.now.path.now;
-    })
-        (record { old = O.written out.old; new = O.written out.new; before = O.faults out.old; after = O.faults out.new })
-        (record { old = N.written notes.old; new = N.written notes.new; before = N.faults notes.old; after = N.faults notes.new })
+    ensures run { IsFromJsonRun file.now.library (file_flow (shelf_flow F.files F.faults shelf.old shelf.new) file.now.path.now)
+        (outflow O.written O.faults out.old out.new)
+        (outflow N.written N.faults notes.old notes.new)
         result }
     ensures others { SameElsewhere (F.faults shelf.old) (F.faults shelf.new) file.now.path.now }
     ensures noted { IsTrue (is_early result)
-        → IsNoted (record { old = N.written notes.old; new = N.written notes.new; before = N.faults notes.old; after = N.faults notes.new })
+        → IsNoted (outflow N.written N.faults notes.old notes.new)
         (early_text result) }
 {
     let status = from_json_file(alloc, file, shelf, out, notes);
@@ -159,8 +147,8 @@ fn run_from_json<F: Shelf, O: Sink, N: Sink>(
 /// Runs the script of that name.
 fn run_script<F: Shelf, O: Sink>(alloc: Global, path: &[u8], shelf: &mut F, out: &mut O) -> Status
     ensures { IsScript path.now
-        (record { files = F.files shelf.old; before = F.faults shelf.old; after = F.faults shelf.new })
-        (record { old = O.written out.old; new = O.written out.new; before = O.faults out.old; after = O.faults out.new })
+        (shelf_flow F.files F.faults shelf.old shelf.new)
+        (outflow O.written O.faults out.old out.new)
         result }
 {
     match Bytes::of(alloc, path) {
@@ -177,7 +165,7 @@ fn run_trial<R: Threads + Sync, O: Sink>(
     out: &mut O,
 ) -> Status
     ensures run { IsTrial trial.now.seed trial.now.count
-        (record { old = O.written out.old; new = O.written out.new; before = O.faults out.old; after = O.faults out.new })
+        (outflow O.written O.faults out.old out.new)
         result }
     ensures other { result ≢ Status.Usage }
 {
@@ -185,65 +173,45 @@ fn run_trial<R: Threads + Sync, O: Sink>(
     trial_run(rt, alloc, trial.seed(), trial.count(), workers, out)
 }
 
-/// Fills a catalogue with the files of libraries, which so many workers load, and shows it.
+/// Fills a catalogue with the files of libraries, and shows it.
 fn run_union<R: Threads + Wait + Sync, F: Shelf, O: Sink, N: Sink, G: Gate>(
-    rt: &R,
-    alloc: Global,
+    host: &Host<'_, R, G>,
     shown: Shown,
-    libraries: &Libraries<'_>,
-    workers: u32,
+    loading: &Loading<'_>,
     shelf: &mut F,
     out: &mut O,
     notes: &mut N,
-    gate: &G,
 ) -> Status
-    requires least { 1 ≤ workers }
-    requires most { workers ≤ 64 }
-    ensures run { IsUnionRun (showing_of shown) (libraries_meaning libraries.now)
-        (record { files = F.files shelf.old; before = F.faults shelf.old; after = F.faults shelf.new })
-        (record { old = O.written out.old; new = O.written out.new; before = O.faults out.old; after = O.faults out.new })
-        (record { old = N.written notes.old; new = N.written notes.new; before = N.faults notes.old; after = N.faults notes.new })
-        result }
+    ensures run { IsUnionRun (showing_of shown) (loading_meaning loading.now) (shelf_flow F.files F.faults shelf.old shelf.new)
+        (outflow O.written O.faults out.old out.new) (outflow N.written N.faults notes.old notes.new) result }
     ensures noted { IsTrue (is_early result)
-        → IsNoted (record { old = N.written notes.old; new = N.written notes.new; before = N.faults notes.old; after = N.faults notes.new })
-        (early_text result) }
+        → IsNoted (outflow N.written N.faults notes.old notes.new) (early_text result) }
 {
-    match load_by_sessions(rt, alloc, libraries, workers, shelf, gate) {
-        Ok(loaded) => write_shown(alloc, shown, loaded, out, notes),
+    match load_by_sessions(host.rt, host.alloc, loading, shelf, host.gate) {
+        Ok(loaded) => write_shown(host.alloc, shown, loaded, out, notes),
         Err(status) => end(notes, status),
     }
 }
 
-/// Loads the files of libraries, by so many workers, and shows their turns and the answers to the questions of a file.
+/// Loads the files of libraries, and shows their turns and the answers to the questions of a file.
 fn run_watch<R: Threads + Wait + Sync, F: Shelf, O: Sink, N: Sink, G: Gate>(
-    rt: &R,
-    alloc: Global,
+    host: &Host<'_, R, G>,
     asks: &[u8],
-    libraries: &Libraries<'_>,
-    workers: u32,
+    loading: &Loading<'_>,
     shelf: &mut F,
     out: &mut O,
     notes: &mut N,
-    gate: &G,
 ) -> Status
-    requires least { 1 ≤ workers }
-    requires most { workers ≤ 64 }
-    ensures run { IsWatchRun (record { workers = workers; asks = asks.now; libraries = libraries_meaning libraries.now })
-        (record { files = F.files shelf.old; before = F.faults shelf.old; after = F.faults shelf.new })
-        (record { old = O.written out.old; new = O.written out.new; before = O.faults out.old; after = O.faults out.new })
-        (record { old = N.written notes.old; new = N.written notes.new; before = N.faults notes.old; after = N.faults notes.new })
-        result }
+    ensures run { IsWatchRun (watch_of asks.now (loading_meaning loading.now)) (shelf_flow F.files F.faults shelf.old shelf.new)
+        (outflow O.written O.faults out.old out.new) (outflow N.written N.faults notes.old notes.new) result }
     ensures noted { IsTrue (is_early result)
-        → IsNoted (record { old = N.written notes.old; new = N.written notes.new; before = N.faults notes.old; after = N.faults notes.new })
-        (early_text result) }
+        → IsNoted (outflow N.written N.faults notes.old notes.new) (early_text result) }
 {
-    match read_asks(alloc, asks, shelf) {
-        Ok(text) => {
-            match load_and_answer(rt, alloc, text.as_slice(), libraries, workers, shelf, gate) {
-                Ok(answered) => write_answered(alloc, answered, out, notes),
-                Err(status) => end(notes, status),
-            }
-        }
+    match read_asks(host.alloc, asks, shelf) {
+        Ok(text) => match load_and_answer(host, text.as_slice(), loading, shelf) {
+            Ok(answered) => write_answered(host.alloc, answered, out, notes),
+            Err(status) => end(notes, status),
+        },
         Err(status) => end(notes, status),
     }
 }
@@ -264,7 +232,8 @@ fn run_watch<R: Threads + Wait + Sync, F: Shelf, O: Sink, N: Sink, G: Gate>(
 ///
 /// A run that ends early, for another cause than a failed write, has one line on `notes` that says why. After `export`, `works`
 /// and the file of questions of `watch` the option `--workers=N` says how many workers load the libraries, each by a session of
-/// its own; `gate` is told before and after each turn of a session. Waits for the workers.
+/// its own, and `--prefer=LIB,..` which libraries' records are preferred; `gate` is told before and after each turn of a
+/// session. Waits for the workers.
 pub fn union_run<R: Threads + Wait + Sync, F: Shelf, O: Sink, N: Sink, G: Gate>(
     rt: &R,
     alloc: Global,
@@ -278,76 +247,46 @@ pub fn union_run<R: Threads + Wait + Sync, F: Shelf, O: Sink, N: Sink, G: Gate>(
 
     // what each form of words does
     ensures check { (file : Words.LibraryFile) → Words.job_of words.now ≡ Some (Words.Check file)
-        → IsCheck file.library (record {
-          told = told_of (F.files shelf.old) file.path;
-          before = F.faults shelf.old file.path;
-          after = F.faults shelf.new file.path;
-        })
-        (record { old = O.written out.old; new = O.written out.new; before = O.faults out.old; after = O.faults out.new })
+        → IsCheck file.library (file_flow (shelf_flow F.files F.faults shelf.old shelf.new) file.path)
+        (outflow O.written O.faults out.old out.new)
         result }
     ensures to_json { (file : Words.LibraryFile) → Words.job_of words.now ≡ Some (Words.ToJson file)
-        → IsToJsonRun file.library (record {
-          told = told_of (F.files shelf.old) file.path;
-          before = F.faults shelf.old file.path;
-          after = F.faults shelf.new file.path;
-        })
-        (record { old = O.written out.old; new = O.written out.new; before = O.faults out.old; after = O.faults out.new })
-        (record { old = N.written notes.old; new = N.written notes.new; before = N.faults notes.old; after = N.faults notes.new })
+        → IsToJsonRun file.library (file_flow (shelf_flow F.files F.faults shelf.old shelf.new) file.path)
+        (outflow O.written O.faults out.old out.new)
+        (outflow N.written N.faults notes.old notes.new)
         result }
     ensures from_json { (file : Words.LibraryFile) → Words.job_of words.now ≡ Some (Words.FromJson file)
-        → IsFromJsonRun file.library (record {
-          told = told_of (F.files shelf.old) file.path;
-          before = F.faults shelf.old file.path;
-          after = F.faults shelf.new file.path;
-        })
-        (record { old = O.written out.old; new = O.written out.new; before = O.faults out.old; after = O.faults out.new })
-        (record { old = N.written notes.old; new = N.written notes.new; before = N.faults notes.old; after = N.faults notes.new })
+        → IsFromJsonRun file.library (file_flow (shelf_flow F.files F.faults shelf.old shelf.new) file.path)
+        (outflow O.written O.faults out.old out.new)
+        (outflow N.written N.faults notes.old notes.new)
         result }
-    ensures export { (workers : ℕ) (form : ExportForm) (libraries : List Words.LibraryFile)
-        → Words.job_of words.now ≡ Some (Words.Export workers form libraries)
-        → IsUnionRun (exported_as form) libraries
-        (record { files = F.files shelf.old; before = F.faults shelf.old; after = F.faults shelf.new })
-        (record { old = O.written out.old; new = O.written out.new; before = O.faults out.old; after = O.faults out.new })
-        (record { old = N.written notes.old; new = N.written notes.new; before = N.faults notes.old; after = N.faults notes.new })
-        result }
-    ensures works { (workers : ℕ) (libraries : List Words.LibraryFile) → Words.job_of words.now ≡ Some (Words.Works workers libraries)
-        → IsUnionRun listed libraries
-        (record { files = F.files shelf.old; before = F.faults shelf.old; after = F.faults shelf.new })
-        (record { old = O.written out.old; new = O.written out.new; before = O.faults out.old; after = O.faults out.new })
-        (record { old = N.written notes.old; new = N.written notes.new; before = N.faults notes.old; after = N.faults notes.new })
-        result }
-    ensures watch { (asks : List ℕ) (workers : ℕ) (libraries : List Words.LibraryFile)
-        → Words.job_of words.now ≡ Some (Words.Watch asks workers libraries)
-        → IsWatchRun (record { workers = workers; asks = asks; libraries = libraries })
-        (record { files = F.files shelf.old; before = F.faults shelf.old; after = F.faults shelf.new })
-        (record { old = O.written out.old; new = O.written out.new; before = O.faults out.old; after = O.faults out.new })
-        (record { old = N.written notes.old; new = N.written notes.new; before = N.faults notes.old; after = N.faults notes.new })
-        result }
+    ensures export { (form : ExportForm) (loading : Words.Loading) → Words.job_of words.now ≡ Some (Words.Export form loading)
+        → IsUnionRun (exported_as form) loading (shelf_flow F.files F.faults shelf.old shelf.new)
+        (outflow O.written O.faults out.old out.new) (outflow N.written N.faults notes.old notes.new) result }
+    ensures works { (loading : Words.Loading) → Words.job_of words.now ≡ Some (Words.Works loading)
+        → IsUnionRun listed loading (shelf_flow F.files F.faults shelf.old shelf.new)
+        (outflow O.written O.faults out.old out.new) (outflow N.written N.faults notes.old notes.new) result }
+    ensures watch { (asks : List ℕ) (loading : Words.Loading) → Words.job_of words.now ≡ Some (Words.Watch asks loading)
+        → IsWatchRun (watch_of asks loading) (shelf_flow F.files F.faults shelf.old shelf.new)
+        (outflow O.written O.faults out.old out.new) (outflow N.written N.faults notes.old notes.new) result }
     ensures script { (path : List ℕ) → Words.job_of words.now ≡ Some (Words.Script path) → IsScript path
-        (record { files = F.files shelf.old; before = F.faults shelf.old; after = F.faults shelf.new })
-        (record { old = O.written out.old; new = O.written out.new; before = O.faults out.old; after = O.faults out.new })
+        (shelf_flow F.files F.faults shelf.old shelf.new)
+        (outflow O.written O.faults out.old out.new)
         result }
     ensures trial { (seed count workers : ℕ) → Words.job_of words.now ≡ Some (Words.Trial seed count workers) → IsTrial seed count
-        (record { old = O.written out.old; new = O.written out.new; before = O.faults out.old; after = O.faults out.new })
+        (outflow O.written O.faults out.old out.new)
         result }
     ensures help { Words.job_of words.now ≡ Some Words.Help → IsTold HELP.now
-        (record { old = O.written out.old; new = O.written out.new; before = O.faults out.old; after = O.faults out.new }) result }
+        (outflow O.written O.faults out.old out.new) result }
     ensures version { Words.job_of words.now ≡ Some Words.Version → IsTold VERSION.now
-        (record { old = O.written out.old; new = O.written out.new; before = O.faults out.old; after = O.faults out.new }) result }
+        (outflow O.written O.faults out.old out.new) result }
 
     // the second output, where that is no report
     ensures noted { IsTrue (is_early result)
-        → IsNoted (record { old = N.written notes.old; new = N.written notes.new; before = N.faults notes.old; after = N.faults notes.new })
+        → IsNoted (outflow N.written N.faults notes.old notes.new)
         (early_text result) }
-    ensures quiet { is_early result ≡ false
-        → ((file : Words.LibraryFile) → Words.job_of words.now ≢ Some (Words.ToJson file))
-        → ((file : Words.LibraryFile) → Words.job_of words.now ≢ Some (Words.FromJson file))
-        → ((workers : ℕ) (form : ExportForm) (libraries : List Words.LibraryFile)
-        → Words.job_of words.now ≢ Some (Words.Export workers form libraries))
-        → ((workers : ℕ) (libraries : List Words.LibraryFile) → Words.job_of words.now ≢ Some (Words.Works workers libraries))
-        → ((asks : List ℕ) (workers : ℕ) (libraries : List Words.LibraryFile)
-        → Words.job_of words.now ≢ Some (Words.Watch asks workers libraries))
-        → Keeps (N.written notes.old) (N.written notes.new) }
+    ensures quiet { (job : Words.Job) → Words.job_of words.now ≡ Some job → Words.has_report job ≡ false
+        → is_early result ≡ false → Keeps (N.written notes.old) (N.written notes.new) }
 
     // A run of words in no form writes nothing else. The shelf is left alone where the words name no file; and of files only one
     // that the words name can be at fault: of an export, of works, of watch and of a script their own clauses say which.
@@ -363,6 +302,7 @@ pub fn union_run<R: Threads + Wait + Sync, F: Shelf, O: Sink, N: Sink, G: Gate>(
     ensures from_json_others { (file : Words.LibraryFile) → Words.job_of words.now ≡ Some (Words.FromJson file)
         → SameElsewhere (F.faults shelf.old) (F.faults shelf.new) file.path }
 {
+    let host = Host { rt, alloc, gate };
     match Job::read(words) {
         None => end(notes, Status::Usage),
         Some(Job::Check(file)) => {
@@ -371,39 +311,11 @@ pub fn union_run<R: Threads + Wait + Sync, F: Shelf, O: Sink, N: Sink, G: Gate>(
         }
         Some(Job::ToJson(file)) => run_to_json(alloc, &file, shelf, out, notes),
         Some(Job::FromJson(file)) => run_from_json(alloc, &file, shelf, out, notes),
-        Some(Job::Export(workers, form, libraries)) => run_union(
-            rt,
-            alloc,
-            Shown::Export(form),
-            &libraries,
-            workers.number(),
-            shelf,
-            out,
-            notes,
-            gate,
-        ),
-        Some(Job::Works(workers, libraries)) => run_union(
-            rt,
-            alloc,
-            Shown::Works,
-            &libraries,
-            workers.number(),
-            shelf,
-            out,
-            notes,
-            gate,
-        ),
-        Some(Job::Watch(asks, workers, libraries)) => run_watch(
-            rt,
-            alloc,
-            asks,
-            &libraries,
-            workers.number(),
-            shelf,
-            out,
-            notes,
-            gate,
-        ),
+        Some(Job::Export(form, loading)) => {
+            run_union(&host, Shown::Export(form), &loading, shelf, out, notes)
+        }
+        Some(Job::Works(loading)) => run_union(&host, Shown::Works, &loading, shelf, out, notes),
+        Some(Job::Watch(asks, loading)) => run_watch(&host, asks, &loading, shelf, out, notes),
         Some(Job::Script(path)) => {
             let status = run_script(alloc, path, shelf, out);
             end(notes, status)

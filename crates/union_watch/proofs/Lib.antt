@@ -3,4 +3,5 @@ pub mod DigitLaws
 pub mod PieceLaws
 pub mod TurnLaws
 pub mod RunLaws
+mod TextLaws
 pub mod ToldLaws

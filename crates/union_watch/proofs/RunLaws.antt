@@ -24,7 +24,7 @@ use Rattle.union_script.proofs.LineLaws.{not_over}
 use Rattle.union_script.proofs.ScriptLaws.{none_fails, told, within_none}
 use Rattle.union_script.proofs.TextLaws.{on_files, on_both}
 use Rattle.union_files.specs.Inputs.{input_of, inputs_of, is_overfull, first_overfull, AreWithin, IsTooLongAt, IsElsewhere, IsEarliest, FailsEarliest, StopsAt}
-use Rattle.union_watch.specs.Runs.{Watch, asks_file, inputs_of_watch, IsWatchRun}
+use Rattle.union_watch.specs.Runs.{Order, Watch, asks_file, inputs_of_watch, IsAskedRun}
 
 -- ---- which input is too long
 
@@ -136,9 +136,9 @@ asks-whole DoneWithRefusals watch shelf contents stops is within none = absurd s
 asks-whole Usage watch shelf contents stops is within none = absurd stops
 asks-whole WriteFault watch shelf contents stops is within none = absurd stops
 
-pub stopped_at_asks : (status : Status) (watch : Watch) (shelf : ShelfFlow) (out notes : Outflow) → one.StopsAt status (asks_file watch) shelf
-    → Keeps out.old out.new → IsWatchRun watch shelf out notes status
-stopped_at_asks status watch shelf out notes stops keeps =
+pub stopped_at_asks : (AreTurns : Order) (status : Status) (watch : Watch) (shelf : ShelfFlow) (out notes : Outflow) → one.StopsAt status (asks_file watch) shelf
+    → Keeps out.old out.new → IsAskedRun AreTurns watch shelf out notes status
+stopped_at_asks AreTurns status watch shelf out notes stops keeps =
     let at : (s : Status) → status ≡ s → one.StopsAt s (asks_file watch) shelf = λ s is. subst (λ s. one.StopsAt s (asks_file watch) shelf) is stops in
     record {
       open_fault = λ i is. alone-fails watch shelf i (at (OpenFault i) is);
@@ -259,10 +259,10 @@ whole-behind DoneWithRefusals watch shelf contents stops is within none = absurd
 whole-behind Usage watch shelf contents stops is within none = absurd stops
 whole-behind WriteFault watch shelf contents stops is within none = absurd stops
 
-pub stopped_at_libraries : (status : Status) (watch : Watch) (files : Option Contents) (a b c : Counts) (out notes : Outflow) → SameCounts a b
+pub stopped_at_libraries : (AreTurns : Order) (status : Status) (watch : Watch) (files : Option Contents) (a b c : Counts) (out notes : Outflow) → SameCounts a b
     → IfSome files (λ contents. length (contents watch.asks) ≤ LARGEST_TEXT) → StopsAt status watch.libraries (flow files b c)
-    → Keeps out.old out.new → IsWatchRun watch (flow files a c) out notes status
-stopped_at_libraries status watch files a b c out notes same fits stops keeps =
+    → Keeps out.old out.new → IsAskedRun AreTurns watch (flow files a c) out notes status
+stopped_at_libraries AreTurns status watch files a b c out notes same fits stops keeps =
     let shelf = flow files a c in
     let stopped = stops-behind status watch files a b c same fits stops in
     let at : (s : Status) → status ≡ s → StopsBehind s watch shelf = λ s is. subst (λ s. StopsBehind s watch shelf) is stopped in

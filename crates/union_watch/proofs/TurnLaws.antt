@@ -15,6 +15,10 @@ use Rattle.library_batches.specs.Batches.{IsBatchOf, AreBatches}
 use Rattle.union_words.specs.Alike.{is_text}
 use Rattle.union_files.specs.Deliveries.{Stream, AreDistinct, batches_of}
 use Rattle.union_files.specs.Interleavings.{batches_under, IsInterleaving}
+use Rattle.union_base.specs.LibraryCodes.{is_library_code}
+use Rattle.union_watch.specs.Told.{Told}
+use Rattle.union_watch.specs.WatchTexts.{watch_text}
+use Rattle.union_watch.proofs.TextLaws.{named, AreCoded, named-same, places-named}
 use Rattle.union_watch.specs.TurnLines.{TurnLine, turns_from, first_entry, without_first, dealt, place_of, written}
 
 -- a number is itself
@@ -56,7 +60,7 @@ rest-of : (b : Bool) (P : Batch → Type 0) (x : Batch) (xs : List Batch) → Al
 rest-of true P x xs all = all.1
 rest-of false P x xs all = all
 
-each-entry : (P : ℕ → Batch → Type 0) (history : List HistoryEntry) → ((n : ℕ) → AllByRecursion (P n) (batches_under n history))
+pub each-entry : (P : ℕ → Batch → Type 0) (history : List HistoryEntry) → ((n : ℕ) → AllByRecursion (P n) (batches_under n history))
     → AllByRecursion (λ entry. P entry.pass entry.batch) history
 each-entry P [] all = tt
 each-entry P (entry ∷ history) all =
@@ -67,12 +71,13 @@ each-entry P (entry ∷ history) all =
     )
 
 -- the batches of a stream are its library's
-own-batches : (library : List ℕ) (blocks : List (List Frame)) (batches : List Batch) → AllZip (IsBatchOf library) blocks batches
+pub own-batches : (prefer : List (List ℕ)) (library : List ℕ) (blocks : List (List Frame)) (batches : List Batch)
+    → AllZip (IsBatchOf prefer library) blocks batches
     → AllByRecursion (λ batch. batch.library ≡ library) batches
-own-batches library [] [] are = tt
-own-batches library [] (batch ∷ batches) are = absurd are
-own-batches library (block ∷ blocks) [] are = absurd are
-own-batches library (block ∷ blocks) (batch ∷ batches) are = (are.0.library_is, own-batches library blocks batches are.1)
+own-batches prefer library [] [] are = tt
+own-batches prefer library [] (batch ∷ batches) are = absurd are
+own-batches prefer library (block ∷ blocks) [] are = absurd are
+own-batches prefer library (block ∷ blocks) (batch ∷ batches) are = (are.0.library_is, own-batches prefer library blocks batches are.1)
 
 -- the place of a library that is named once
 same-text : (text : List ℕ) → is_text text text ≡ true
@@ -85,7 +90,7 @@ apart-as false x y is differ = is
 apart : (x y : List ℕ) → x ≢ y → is_text x y ≡ false
 apart x y differ = apart-as (is_text x y) x y refl differ
 
-at-place : (P : List ℕ → Type 0) (texts : List (List ℕ)) (place : ℕ) → AllByRecursion P texts → place < length texts → P (get_or texts place [])
+pub at-place : (P : List ℕ → Type 0) (texts : List (List ℕ)) (place : ℕ) → AllByRecursion P texts → place < length texts → P (get_or texts place [])
 at-place P [] place all within = absurd (omega arith)
 at-place P (text ∷ texts) zero all within = all.0
 at-place P (text ∷ texts) (suc place) all within = at-place P texts place all.1 (omega arith)
@@ -123,7 +128,7 @@ none-under n most (entry ∷ history) below past =
     under-more n entry history ∙ ap (λ b. cond b (entry.batch ∷ batches_under n history) (batches_under n history)) other
     ∙ none-under n most history parts.1 past
 
-under-is : (streams : List (List Batch)) (history : List HistoryEntry) → IsInterleaving streams history → (n : ℕ)
+pub under-is : (streams : List (List Batch)) (history : List HistoryEntry) → IsInterleaving streams history → (n : ℕ)
     → batches_under n history ≡ stream_at streams n
 under-is streams history interleaving n =
     elim ((slice_get_cases streams n).1) [
@@ -131,7 +136,7 @@ under-is streams history interleaving n =
       | inr past ↦ none-under n (length streams) history interleaving.numbers past.0 ∙ sym (get_or_past streams n [] past.0)
     ]
 
-all-so : (P Q : Batch → Type 0) (batches : List Batch) → ((batch : Batch) → P batch → Q batch) → AllByRecursion P batches → AllByRecursion Q batches
+pub all-so : (P Q : Batch → Type 0) (batches : List Batch) → ((batch : Batch) → P batch → Q batch) → AllByRecursion P batches → AllByRecursion Q batches
 all-so P Q [] follows all = tt
 all-so P Q (batch ∷ batches) follows all = (follows batch all.0, all-so P Q batches follows all.1)
 
@@ -151,7 +156,7 @@ own-at streams n distinct =
           let within : n < length libraries = omega (arith, length-map streams (λ (s : Stream). s.library), there.1) in
           let placed : place_of libraries s.library ≡ n = sym (ap (place_of libraries) named) ∙ place-at libraries n distinct within in
           subst OwnAt (sym its) (all-so (λ batch. batch.library ≡ s.library) (λ batch. place_of libraries batch.library ≡ n) s.batches
-          (λ batch is. ap (place_of libraries) is ∙ placed) (own-batches s.library _ s.batches s.are))
+          (λ batch is. ap (place_of libraries) is ∙ placed) (own-batches s.prefer s.library _ s.batches s.are))
       | inr past ↦ subst OwnAt (sym (get_or_past (map batches_of streams) n [] (omega (arith, length-map streams batches_of, past.0)))) tt
     ]
 
@@ -167,3 +172,46 @@ turns-written streams history distinct interleaving =
     = each-entry (λ n batch. place_of libraries batch.library ≡ n) history
     (λ n. subst (AllByRecursion (λ batch. place_of libraries batch.library ≡ n)) (sym (under n)) (own-at streams n distinct)) in
     ap (dealt (stream_at all)) (places-are libraries 1 history owned) ∙ dealt-passes (stream_at all) history under
+
+-- the batches of the stream at a place are of a library with a code
+codes-at : (streams : List Stream) (n : ℕ) → AllByRecursion (λ code. IsTrue (is_library_code code)) (map (λ s. s.library) streams)
+    → AllByRecursion (λ batch. IsTrue (is_library_code batch.library)) (stream_at (map batches_of streams) n)
+codes-at streams n coded =
+    let libraries : List (List ℕ) = map (λ (s : Stream). s.library) streams in
+    let Coded : List Batch → Type 0 = AllByRecursion (λ batch. IsTrue (is_library_code batch.library)) in
+    elim ((slice_get_cases streams n).1) [
+      | inl there ↦
+          let s = there.0 in
+          let named : get_or libraries n [] ≡ s.library
+          = get_or_from_slice_get libraries n s.library [] (slice_get-map (λ (s : Stream). s.library) streams n ∙ ap (option_map (λ (s : Stream). s.library)) there.2) in
+          let its : stream_at (map batches_of streams) n ≡ s.batches
+          = get_or_from_slice_get (map batches_of streams) n s.batches [] (slice_get-map batches_of streams n ∙ ap (option_map batches_of) there.2) in
+          let within : n < length libraries = omega (arith, length-map streams (λ (s : Stream). s.library), there.1) in
+          let code : IsTrue (is_library_code s.library)
+          = subst (λ code. IsTrue (is_library_code code)) named (at-place (λ code. IsTrue (is_library_code code)) libraries n coded within) in
+          subst Coded (sym its) (all-so (λ batch. batch.library ≡ s.library) (λ batch. IsTrue (is_library_code batch.library)) s.batches
+          (λ batch is. subst (λ code. IsTrue (is_library_code code)) (sym is) code) (own-batches s.prefer s.library _ s.batches s.are))
+      | inr past ↦ subst Coded (sym (get_or_past (map batches_of streams) n [] (omega (arith, length-map streams batches_of, past.0)))) tt
+    ]
+
+-- so are those of a history in which the streams interleave
+coded-entries : (streams : List Stream) (history : List HistoryEntry)
+    → AllByRecursion (λ code. IsTrue (is_library_code code)) (map (λ s. s.library) streams) → IsInterleaving (map batches_of streams) history
+    → AreCoded history
+coded-entries streams history coded interleaving =
+    each-entry (λ n batch. IsTrue (is_library_code batch.library)) history
+    (λ n. subst (AllByRecursion (λ batch. IsTrue (is_library_code batch.library))) (sym (under-is (map batches_of streams) history interleaving n))
+    (codes-at streams n coded))
+
+-- the text of `watch` has one history
+pub text-is-history : (streams : List Stream) (one two : List HistoryEntry) (told other : List Told) → AreDistinct (map (λ s. s.library) streams)
+    → AllByRecursion (λ code. IsTrue (is_library_code code)) (map (λ s. s.library) streams) → IsInterleaving (map batches_of streams) one
+    → IsInterleaving (map batches_of streams) two → watch_text one told ≡ watch_text two other → one ≡ two
+text-is-history streams one two told other distinct coded first second is =
+    let libraries : List (List ℕ) = map (λ (s : Stream). s.library) streams in
+    let all : List (List Batch) = map batches_of streams in
+    let same : named one ≡ named two
+    = named-same 1 one two told other (coded-entries streams one coded first) (coded-entries streams two coded second) is in
+    sym (turns-written streams one distinct first)
+    ∙ (ap (dealt (stream_at all)) (places-named libraries 1 one ∙ (ap (map (place_of libraries)) same ∙ sym (places-named libraries 1 two)))
+    ∙ turns-written streams two distinct second)

@@ -1,6 +1,6 @@
 //! The command `watch`: what it writes of a loaded catalogue's history and of a file of questions.
 //!
-//! `ask_file::AskFile::read` reads the lines of a file of questions, `questions::Questions::divide` says which of the questions
+//! `ask_file::AskFile::read` reads the lines of a file of questions, `questions::divide` says which of the questions
 //! are asked beside the load and which after it, and `writing::write_watch` writes a line for each turn of the history and then
 //! what is told of each line of the file. The text is `watch_text` of specs/WatchTexts.antt; what a whole run of `watch` owes is
 //! `IsWatchRun` of specs/Runs.antt.

@@ -1,4 +1,3 @@
-pub mod JobLaws
 pub mod LineLaws
 pub mod NumberLaws
 pub mod PlaceLaws

@@ -5,6 +5,7 @@ use Rattle.std.specs.declared.option.Option.{Option}
 use Rattle.std.specs.Io.KnownBytes.{Appends, Keeps}
 use Rattle.union_io.specs.Causes.{Rose}
 use Rattle.union_io.specs.Counts.{SameCounts, SameElsewhere}
+use Rattle.union_io.specs.Files.{told_of}
 use Rattle.union_io.specs.Writing.{AppendsFront}
 use Rattle.union_words.specs.declared.input.Input.{Input}
 
@@ -13,6 +14,10 @@ pub record ShelfFlow : Type 0 where
   pub files : Option (List ℕ → List ℕ)
   pub before : List ℕ → ℕ
   pub after : List ℕ → ℕ
+
+-- by what is told of a shelf
+abbrev pub shelf_flow : {F : Type 0} → (F → Option (List ℕ → List ℕ)) → (F → List ℕ → ℕ) → F → F → ShelfFlow
+shelf_flow files faults old new = record { files = files old; before = faults old; after = faults new }
 
 -- nothing failed under any name
 abbrev pub IsCalm : ShelfFlow → Type 0
@@ -46,6 +51,10 @@ pub record Inflow : Type 0 where
   pub before : ℕ
   pub after : ℕ
 
+-- the file of that name as a source, where a run opens it and reads it from its start
+abbrev pub file_flow : ShelfFlow → List ℕ → Inflow
+file_flow shelf name = record { told = told_of shelf.files name; before = shelf.before name; after = shelf.after name }
+
 -- something failed there
 abbrev pub HasFailed : Inflow → Type 0
 HasFailed source = Rose source.before source.after
@@ -56,6 +65,10 @@ pub record Outflow : Type 0 where
   pub new : Option (List ℕ)
   pub before : ℕ
   pub after : ℕ
+
+-- by what is told of an output
+abbrev pub outflow : {O : Type 0} → (O → Option (List ℕ)) → (O → ℕ) → O → O → Outflow
+outflow written faults old new = record { old = written old; new = written new; before = faults old; after = faults new }
 
 -- something failed there in the run
 abbrev pub HasFailedAt : Outflow → Type 0

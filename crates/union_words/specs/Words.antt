@@ -1,8 +1,9 @@
 -- The forms of words that the program has, and what each asks for.
-use Rattle.std.specs.Prelude.{ℕ, Bool, true, ◌&&◌, ◌==◌, not, nat_le, List, [], ◌∷◌, length, map, Option, Some, None, if◌then◌else◌, codes}
+use Rattle.std.specs.Prelude.{ℕ, Bool, true, false, ◌&&◌, ◌==◌, not, nat_le, List, [], ◌∷◌, length, map, Option, Some, None, if◌then◌else◌, codes}
 use Rattle.std.specs.List.{list_all, list_any, before_first, after_first}
-use Rattle.std.specs.Option.{option_and_then}
+use Rattle.std.specs.Option.{option_and_then, option_map}
 use Rattle.std.specs.Str.{is_utf8}
+use Rattle.field_merge.specs.Preferences.{preference_of}
 use Rattle.union_base.specs.LibraryCodes.{is_library_code}
 use Rattle.union_words.specs.Numbers.{option_text, workers_word, seed_of, count_of, workers_of}
 use Rattle.union_words.specs.declared.form.Form.{Form}
@@ -14,18 +15,37 @@ pub record LibraryFile : Type 0 where
   pub library : List ℕ
   pub path : List ℕ
 
+-- how files are loaded: by so many workers, with this preference among libraries, the best first, and the libraries
+pub record Loading : Type 0 where
+  pub workers : ℕ
+  pub prefer : List (List ℕ)
+  pub libraries : List LibraryFile
+
 -- what the words ask for
 pub data Job : Type 0 where
   Check : (file : LibraryFile) → Job
   ToJson : (file : LibraryFile) → Job
   FromJson : (file : LibraryFile) → Job
-  Export : (workers : ℕ) (form : Form) (libraries : List LibraryFile) → Job
-  Works : (workers : ℕ) (libraries : List LibraryFile) → Job
-  Watch : (asks : List ℕ) (workers : ℕ) (libraries : List LibraryFile) → Job
+  Export : (form : Form) (loading : Loading) → Job
+  Works : (loading : Loading) → Job
+  Watch : (asks : List ℕ) (loading : Loading) → Job
   Script : (path : List ℕ) → Job
   Trial : (seed : ℕ) (count : ℕ) (workers : ℕ) → Job
   Help : Job
   Version : Job
+
+-- a run of it that comes to its end has a report on the second output
+abbrev pub has_report : Job → Bool
+has_report (Check file) = false
+has_report (ToJson file) = true
+has_report (FromJson file) = true
+has_report (Export form loading) = true
+has_report (Works loading) = true
+has_report (Watch asks loading) = true
+has_report (Script path) = false
+has_report (Trial seed count workers) = false
+has_report Help = false
+has_report Version = false
 
 -- a path is UTF-8 and at least one byte
 abbrev pub is_path : List ℕ → Bool
@@ -101,6 +121,30 @@ abbrev pub workers_in : List (List ℕ) → ℕ × List (List ℕ)
 workers_in [] = (usual_workers, [])
 workers_in (word ∷ rest) = workers_or (workers_word word) rest (word ∷ rest)
 
+-- the preference that a word `--prefer=LIB,..` gives
+abbrev pub prefer_word : List ℕ → Option (List (List ℕ))
+prefer_word word = option_and_then preference_of (option_text (codes "--prefer=") word)
+
+-- this preference, and the words after the option that gives it; or none, and all of the words
+abbrev pub prefer_or : Option (List (List ℕ)) → List (List ℕ) → List (List ℕ) → List (List ℕ) × List (List ℕ)
+prefer_or None rest words = ([], words)
+prefer_or (Some prefer) rest words = (prefer, rest)
+
+-- the preference, by a first word `--prefer=LIB,..` where there is one, and the words after it
+abbrev pub prefer_in : List (List ℕ) → List (List ℕ) × List (List ℕ)
+prefer_in [] = ([], [])
+prefer_in (word ∷ rest) = prefer_or (prefer_word word) rest (word ∷ rest)
+
+-- the options that `export`, `works` and `watch` have in common, and the words after them
+pub record Options : Type 0 where
+  pub workers : ℕ
+  pub prefer : List (List ℕ)
+  pub rest : List (List ℕ)
+
+abbrev pub options_in : List (List ℕ) → Options
+options_in words =
+    record { workers = (workers_in words).0; prefer = (prefer_in (workers_in words).1).0; rest = (prefer_in (workers_in words).1).1 }
+
 -- the word that asks for MARC in JSON
 abbrev pub is_json_word : List ℕ → Bool
 is_json_word word = is_text word (codes "--json")
@@ -110,21 +154,27 @@ abbrev pub form_in : List (List ℕ) → Form × List (List ℕ)
 form_in [] = (Iso2709, [])
 form_in (word ∷ rest) = (if is_json_word word then (Json, rest) else (Iso2709, word ∷ rest))
 
--- one to 64 words `LIB=PATH`
-abbrev pub libraries_job : (List LibraryFile → Job) → List (List ℕ) → Option Job
-libraries_job job words = (if are_libraries words then Some (job (libraries_of words)) else None)
+-- one to 64 words `LIB=PATH`, loaded by so many workers and with this preference
+abbrev pub loading_of : ℕ → List (List ℕ) → List (List ℕ) → Option Loading
+loading_of workers prefer words =
+    (if are_libraries words then Some (record { workers = workers; prefer = prefer; libraries = libraries_of words }) else None)
 
--- after `export` and the option that says how many workers
-abbrev pub export_form_job : ℕ → List (List ℕ) → Option Job
-export_form_job workers words = libraries_job (Export workers (form_in words).0) (form_in words).1
+-- what the options and the words after them say of a load
+abbrev pub loading_by : Options → Option Loading
+loading_by options = loading_of options.workers options.prefer options.rest
+
+-- after `export` and the options that the commands have in common
+abbrev pub export_form_job : Options → Option Job
+export_form_job options =
+    option_map (Export (form_in options.rest).0) (loading_of options.workers options.prefer (form_in options.rest).1)
 
 -- after `export`
 abbrev pub export_job : List (List ℕ) → Option Job
-export_job words = export_form_job (workers_in words).0 (workers_in words).1
+export_job words = export_form_job (options_in words)
 
 -- and after `works`
 abbrev pub works_job : List (List ℕ) → Option Job
-works_job words = libraries_job (Works (workers_in words).0) (workers_in words).1
+works_job words = option_map Works (loading_by (options_in words))
 
 -- the text, where it is a path
 abbrev pub path_of : List ℕ → Option (List ℕ)
@@ -137,7 +187,7 @@ ask_word word = option_and_then path_of (option_text (codes "--ask=") word)
 -- after the word that names the file of questions
 abbrev pub asking_job : Option (List ℕ) → List (List ℕ) → Option Job
 asking_job None words = None
-asking_job (Some asks) words = libraries_job (Watch asks (workers_in words).0) (workers_in words).1
+asking_job (Some asks) words = option_map (Watch asks) (loading_by (options_in words))
 
 -- and after `watch`
 abbrev pub watch_job : List (List ℕ) → Option Job

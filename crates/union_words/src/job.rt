@@ -5,11 +5,11 @@ ghost use Rattle.union_words.specs.Meanings.{job_meaning};
 ghost use Rattle.union_words.specs.Words;
 
 use crate::form::{Form, form_in};
-use crate::libraries::Libraries;
 use crate::library_file::{LibraryFile, is_path};
+use crate::loading::Loading;
 use crate::number::option_text;
+use crate::options::Options;
 use crate::trial::Trial;
-use crate::workers::{Workers, workers_in};
 use union_base::bytes::Bytes;
 
 /// What the program is asked to do. A job borrows the words.
@@ -21,12 +21,12 @@ pub enum Job<'a> {
     ToJson(LibraryFile<'a>),
     /// `fromjson LIB=PATH`: write the records of one file of MARC in JSON as ISO 2709.
     FromJson(LibraryFile<'a>),
-    /// `export [--workers=N] [--json] LIB=PATH ..`: load and export.
-    Export(Workers, Form, Libraries<'a>),
-    /// `works [--workers=N] LIB=PATH ..`: load and list the works.
-    Works(Workers, Libraries<'a>),
-    /// `watch --ask=PATH [--workers=N] LIB=PATH ..`: load, and answer the questions of that file beside.
-    Watch(&'a [u8], Workers, Libraries<'a>),
+    /// `export [--workers=N] [--prefer=LIB,..] [--json] LIB=PATH ..`: load and export.
+    Export(Form, Loading<'a>),
+    /// `works [--workers=N] [--prefer=LIB,..] LIB=PATH ..`: load and list the works.
+    Works(Loading<'a>),
+    /// `watch --ask=PATH [--workers=N] [--prefer=LIB,..] LIB=PATH ..`: load, and answer the questions of that file beside.
+    Watch(&'a [u8], Loading<'a>),
     /// `script PATH`: run a script.
     Script(&'a [u8]),
     /// `trial SEED COUNT WORKERS`: generate records, load them and measure the catalogue.
@@ -128,10 +128,10 @@ fn from_json_job(words: &[Bytes]) -> Option<Job<'_>>
 fn export_job(words: &[Bytes]) -> Option<Job<'_>>
     ensures { option_map job_meaning result ≡ Words.export_job words.now }
 {
-    let (workers, words) = workers_in(words);
-    let (form, words) = form_in(words);
-    match Libraries::read(words) {
-        Some(libraries) => Some(Job::Export(workers, form, libraries)),
+    let options = Options::read(words);
+    let (form, rest) = form_in(options.rest);
+    match Loading::read(options.workers, options.prefer, rest) {
+        Some(loading) => Some(Job::Export(form, loading)),
         None => None,
     }
 }
@@ -139,9 +139,9 @@ fn export_job(words: &[Bytes]) -> Option<Job<'_>>
 fn works_job(words: &[Bytes]) -> Option<Job<'_>>
     ensures { option_map job_meaning result ≡ Words.works_job words.now }
 {
-    let (workers, words) = workers_in(words);
-    match Libraries::read(words) {
-        Some(libraries) => Some(Job::Works(workers, libraries)),
+    let options = Options::read(words);
+    match Loading::read(options.workers, options.prefer, options.rest) {
+        Some(loading) => Some(Job::Works(loading)),
         None => None,
     }
 }
@@ -159,9 +159,9 @@ fn watch_job(words: &[Bytes]) -> Option<Job<'_>>
 fn asking_job<'a>(asks: &'a [u8], words: &'a [Bytes]) -> Option<Job<'a>>
     ensures { option_map job_meaning result ≡ Words.asking_job (Some asks.now) words.now }
 {
-    let (workers, words) = workers_in(words);
-    match Libraries::read(words) {
-        Some(libraries) => Some(Job::Watch(asks, workers, libraries)),
+    let common = Options::read(words);
+    match Loading::read(common.workers, common.prefer, common.rest) {
+        Some(loading) => Some(Job::Watch(asks, loading)),
         None => None,
     }
 }

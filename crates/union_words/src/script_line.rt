@@ -18,9 +18,11 @@ pub enum ScriptLine<'a> {
     Export,
     /// `works`: list the works.
     Works,
+    /// `notices`: each later load writes what its turns changed.
+    Notices,
     /// Any other line: it asks something of the catalogue, or begins with an unknown word.
     Ask(&'a [u8]),
-    /// `load`, `export` or `works` in no form of theirs. The line is refused.
+    /// `load`, `export`, `works` or `notices` in no form of theirs. The line is refused.
     Word,
 }
 
@@ -31,7 +33,7 @@ impl<'a> ScriptLine<'a> {
     /// | First word | Rest |
     /// |---|---|
     /// | `load` | a library code, one blank, and a path, which is all that is left |
-    /// | `export`, `works` | nothing |
+    /// | `export`, `works`, `notices` | nothing |
     ///
     /// A line with one of these words and another rest is `Word`, and a line with none of them is `Ask`. A path is UTF-8 and
     /// at least one byte. Takes no memory.
@@ -45,6 +47,8 @@ impl<'a> ScriptLine<'a> {
             export_line(rest)
         } else if word == b"works".as_slice() {
             works_line(rest)
+        } else if word == b"notices".as_slice() {
+            notices_line(rest)
         } else {
             ScriptLine::Ask(line)
         }
@@ -78,6 +82,16 @@ fn works_line(rest: &[u8]) -> ScriptLine<'_>
 {
     match rest {
         [] => ScriptLine::Works,
+        _ => ScriptLine::Word,
+    }
+}
+
+/// What `notices` with this rest asks for.
+fn notices_line(rest: &[u8]) -> ScriptLine<'_>
+    ensures { line_meaning result ≡ lone_line lines.Notices rest.now }
+{
+    match rest {
+        [] => ScriptLine::Notices,
         _ => ScriptLine::Word,
     }
 }

@@ -17,11 +17,11 @@ USAGE
     union check LIB=PATH         say which records of the file break a rule
     union tojson LIB=PATH        write the file's records as MARC in JSON
     union fromjson LIB=PATH      write a file of MARC in JSON as ISO 2709
-    union export [--workers=N] [--json] LIB=PATH ..
+    union export [--workers=N] [--prefer=LIB,..] [--json] LIB=PATH ..
                                  load the files and export the union catalogue
-    union works [--workers=N] LIB=PATH ..
+    union works [--workers=N] [--prefer=LIB,..] LIB=PATH ..
                                  load the files and list the works
-    union watch --ask=PATH [--workers=N] LIB=PATH ..
+    union watch --ask=PATH [--workers=N] [--prefer=LIB,..] LIB=PATH ..
                                  load the files, and answer the questions of a
                                  file beside
     union script PATH            run a script
@@ -38,6 +38,13 @@ USAGE
     export, works and watch take 1 to 64 libraries, each under a code of its
     own. N workers load them at once, 1 to 64: without the option there are 4.
     With --json the export is MARC in JSON. Options stand in the order above.
+    --prefer has 1 to 64 different codes, the most trusted first. An edition has
+    its leader and 008, and each of 005, 010, 040, 1XX, 240 and 245, of the one
+    record that has it and whose library is named first; a library that is not
+    named comes after all that are. Between records of one library, or of
+    libraries that are not named, the encoding level decides and then 005, as
+    without the option. A library may be named that is not loaded. What matches
+    is the same with any preference, and so is all else that an edition shows.
     A record of status d withdraws the library's record with its control
     number; any other is loaded, in place of an earlier one.
     SEED is 0 to 18446744073709551615, COUNT 1 to 200000 and WORKERS 1 to 64,
@@ -47,6 +54,7 @@ SCRIPT
     load LIB PATH                load the file on top of what was loaded
     export                       write the export of the catalogue
     works                        write the list of works
+    notices                      have each later load tell what it changed
     Any other line is a question. Lines are run one by one.
 
 QUESTIONS
@@ -98,7 +106,12 @@ WHAT GOES WHERE
               each; the others are asked meanwhile.
               Standard error is as with works.
     script    Standard output has what each line writes: a load its report, a
-              question its answer. Standard error has nothing.
+              question its answer. After a line 'notices' each load first has
+              for each of its turns a line 'notice T', the turn's number, and
+              the editions that it closed and opened: a line 'closed LIB.CTL' or
+              'opened LIB.CTL', and for each record a blank, its LIB.CTL and
+              'to LIB.CTL' or 'gone', 'from LIB.CTL' or 'new'.
+              Standard error has nothing.
     trial     Standard output has one line
               'frames F records R editions E works W bytes B': how many records
               were generated, how many of them are current, how many editions
@@ -129,6 +142,8 @@ EXAMPLES
     The records of a file as lines of JSON, and back:
         union tojson LIBA=liba.mrc > liba.jsonl
         union fromjson LIBA=liba.jsonl > again.mrc
+    The same, with the cataloguing of LIBB before that of all others:
+        union export --prefer=LIBB LIBA=liba.mrc LIBB=libb.mrc > union.mrc
     Questions that are answered while two libraries are loaded:
         union watch --ask=questions.txt LIBA=liba.mrc LIBB=libb.mrc
     What a night's script comes to:

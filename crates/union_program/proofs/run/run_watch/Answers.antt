@@ -1,11 +1,13 @@
 use Rattle.std.proofs.Common.{◌≡◌, ◌≤◌, ◌++◌, length, sym, subst}
 use Rattle.std.specs.Prelude.{IfSome}
-use Rattle.union_words.specs.Meanings.{libraries_meaning}
+use Rattle.union_words.specs.Meanings.{loading_meaning}
 use Rattle.union_script.specs.declared.text_file.TheConstants.{LARGEST_TEXT}
 use Rattle.union_script.proofs.FileLaws.{flow}
-use Rattle.union_files.specs.Inputs.{AreWithin, StopsAt, deliveries}
+use Rattle.union_files.specs.Inputs.{AreWithin, StopsAt}
+use Rattle.union_files.specs.Interleavings.{IsInterleaving}
 use Rattle.union_files.specs.Unions.{HasUnited}
 use Rattle.union_watch.specs.AskLines.{lines_in}
+use Rattle.union_watch.specs.Runs.{watch_of, deliveries_of}
 use Rattle.union_watch.specs.Told.{told_of}
 use Rattle.union_watch.proofs.RunLaws.{stopped_at_libraries}
 use Rattle.union_commands.proofs.RunLaws.{keeps_all, on_told}
@@ -15,7 +17,7 @@ use Rattle.union_program.proofs.run.run_watch.Goals as goal
 pub returns-in-Ok-load_and_answer-clause-run : goal.returns-in-Ok-load_and_answer-clause-run
 returns-in-Ok-load_and_answer-clause-run g c =
     let files = g.F.Shelf.files c.args.shelf.now in
-    let libraries = libraries_meaning c.args.libraries.now in
+    let watch = watch_of c.args.asks.now (loading_meaning c.args.loading.now) in
     let text = c.as_slice.result.now in
     let answered = c.in-Ok-load_and_answer.answered in
     let loaded = answered.loaded in
@@ -23,10 +25,10 @@ returns-in-Ok-load_and_answer-clause-run g c =
     let read : IfSome files (λ contents. (length (contents c.args.asks.now) ≤ LARGEST_TEXT) × (text ≡ contents c.args.asks.now))
     = subst (λ t. IfSome files (λ contents. (length (contents c.args.asks.now) ≤ LARGEST_TEXT) × (t ≡ contents c.args.asks.now)))
     (sym c.as_slice.ensures.value) c.in-Ok.ensures.reads.1 in
-    let united : IfSome files (λ contents. AreWithin contents libraries × HasUnited (deliveries contents libraries) loaded)
-    = subst (λ fs. IfSome fs (λ contents. AreWithin contents libraries × HasUnited (deliveries contents libraries) loaded))
+    let united : IfSome files (λ contents. AreWithin contents watch.libraries × HasUnited (deliveries_of contents watch) loaded)
+    = subst (λ fs. IfSome fs (λ contents. AreWithin contents watch.libraries × HasUnited (deliveries_of contents watch) loaded))
     c.in-Ok.ensures.files c.in-Ok-load_and_answer.ensures.gathers.1 in
-    watched_run (record { workers = c.args.workers; asks = c.args.asks.now; libraries = libraries }) text loaded (told_of (lines_in text) replies)
+    watched_run watch text loaded (told_of (lines_in text) replies)
     answered.refused c.write_answered.result files (g.F.Shelf.faults c.args.shelf.now) (g.F.Shelf.faults c.read_asks.new.shelf)
     (g.F.Shelf.faults c.load_and_answer.new.shelf) _ _ c.in-Ok.ensures.reads.0 read c.in-Ok-load_and_answer.ensures.gathers.0 united
     c.in-Ok-load_and_answer.ensures.told c.in-Ok-load_and_answer.ensures.timely c.in-Ok-load_and_answer.ensures.refused
@@ -35,14 +37,14 @@ returns-in-Ok-load_and_answer-clause-run g c =
 pub returns-in-Ok-clause-run : goal.returns-in-Ok-clause-run
 returns-in-Ok-clause-run g c =
     let files = g.F.Shelf.files c.args.shelf.now in
-    let libraries = libraries_meaning c.args.libraries.now in
+    let watch = watch_of c.args.asks.now (loading_meaning c.args.loading.now) in
     let status = c.in-Err-load_and_answer.status in
     let before = g.F.Shelf.faults c.read_asks.new.shelf in
     let after = g.F.Shelf.faults c.load_and_answer.new.shelf in
     let fits : IfSome files (λ contents. length (contents c.args.asks.now) ≤ LARGEST_TEXT)
     = on_told {P = λ contents. (length (contents c.args.asks.now) ≤ LARGEST_TEXT) × (c.in-Ok.text.items ≡ contents c.args.asks.now)} files (λ contents read. read.0) c.in-Ok.ensures.reads.1 in
-    let stops : StopsAt status libraries (flow files before after)
-    = subst (λ fs. StopsAt status libraries (flow fs before after)) c.in-Ok.ensures.files c.in-Err-load_and_answer.ensures.gathers in
+    let stops : StopsAt status watch.libraries (flow files before after)
+    = subst (λ fs. StopsAt status watch.libraries (flow fs before after)) c.in-Ok.ensures.files c.in-Err-load_and_answer.ensures.gathers in
     rw c.end.ensures.same
-    (stopped_at_libraries status (record { workers = c.args.workers; asks = c.args.asks.now; libraries = libraries }) files
+    (stopped_at_libraries IsInterleaving status watch files
     (g.F.Shelf.faults c.args.shelf.now) before after _ _ c.in-Ok.ensures.reads.0 fits stops (keeps_all (g.O.Sink.written c.args.out.now)))

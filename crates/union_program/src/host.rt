@@ -1,0 +1,11 @@
+//! What a run has of its host.
+use std::alloc::Global;
+
+/// What a run has of its host beside files and outputs: its threads, its memory, and the gate that is told before and after
+/// each turn of a session.
+#[derive(Drop)]
+pub struct Host<'a, R, G> {
+    pub rt: &'a R,
+    pub alloc: Global,
+    pub gate: &'a G,
+}

@@ -1,0 +1,32 @@
+//! The options that the commands which load libraries have in common.
+ghost use Rattle.std.specs.Prelude.{◌≡◌};
+ghost use Rattle.union_words.specs.Meanings.{options_meaning};
+ghost use Rattle.union_words.specs.Words;
+
+use crate::prefer::prefer_in;
+use crate::workers::{Workers, workers_in};
+use field_merge::preference::Preference;
+use union_base::bytes::Bytes;
+
+/// How many workers load, whose record is preferred, and the words after the options that say so.
+#[derive(Clone, Copy)]
+pub(crate) struct Options<'a> {
+    pub(crate) workers: Workers,
+    pub(crate) prefer: Preference,
+    pub(crate) rest: &'a [Bytes],
+}
+
+impl<'a> Options<'a> {
+    /// The options at the head of the words: the workers before the preference, each where it stands. Takes no memory.
+    pub(crate) fn read(words: &'a [Bytes]) -> Options<'a>
+        ensures { options_meaning result ≡ Words.options_in words.now }
+    {
+        let (workers, words) = workers_in(words);
+        let (prefer, rest) = prefer_in(words);
+        Options {
+            workers,
+            prefer,
+            rest,
+        }
+    }
+}
