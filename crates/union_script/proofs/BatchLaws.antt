@@ -23,7 +23,7 @@ use Rattle.union_script.specs.Texts.{turns_of}
 
 -- these batches were handed out of a source that had those bytes: they stand before the ones that are still to come
 pub record HandedOut (library : List ℕ) (limit : ℕ) (bytes : List ℕ) (reader : Batching) (rest : List ℕ) (batches : List Batch) : Type 0 where
-  pub all : (later : List Batch) → AreBatches library (ahead reader rest) later → AreBatches library (frames (take limit bytes)) (batches ++ later)
+  pub all : (later : List Batch) → AreBatches [] library (ahead reader rest) later → AreBatches [] library (frames (take limit bytes)) (batches ++ later)
   pub frames_are : reader.frames + length (ahead reader rest) ≡ length (frames (take limit bytes))
   pub refused_are : reader.refused ++ refused_from (reader.frames + 1) (ahead reader rest) ≡ refused (frames (take limit bytes))
   pub long : is_too_long reader.stream rest ≡ passes (Open limit) bytes
@@ -35,7 +35,7 @@ Hands library limit (Some bytes) reader None batches = ⊥
 Hands library limit (Some bytes) reader (Some rest) batches = HandedOut library limit bytes reader rest batches
 
 -- nothing was handed out at first
-pub hands_none : (library : List ℕ) (limit : ℕ) (told : Option (List ℕ)) → Hands library limit told (begun library limit) told []
+pub hands_none : (library : List ℕ) (limit : ℕ) (told : Option (List ℕ)) → Hands library limit told (begun [] library limit) told []
 hands_none library limit None = tt
 hands_none library limit (Some bytes) = record {
   all = λ later are. are;
@@ -46,18 +46,20 @@ hands_none library limit (Some bytes) = record {
 
 -- one batch more
 pub hands_more : (library : List ℕ) (limit : ℕ) (told now then : Option (List ℕ)) (a b : Batching) (batches : List Batch) (batch : Batch)
-    → a.library ≡ library → Hands library limit told a now batches → Answers (Ok (Some batch)) a now b then
+    → a.prefer ≡ [] → a.library ≡ library → Hands library limit told a now batches → Answers (Ok (Some batch)) a now b then
     → Hands library limit told b then (batches ++ batch ∷ [])
-hands_more library limit None now then a b batches batch own hands answers = tt
-hands_more library limit (Some bytes) None then a b batches batch own hands answers = absurd hands
-hands_more library limit (Some bytes) (Some rest) None a b batches batch own hands answers = absurd answers
-hands_more library limit (Some bytes) (Some rest) (Some more) a b batches batch own hands answers =
+hands_more library limit None now then a b batches batch free own hands answers = tt
+hands_more library limit (Some bytes) None then a b batches batch free own hands answers = absurd hands
+hands_more library limit (Some bytes) (Some rest) None a b batches batch free own hands answers = absurd answers
+hands_more library limit (Some bytes) (Some rest) (Some more) a b batches batch free own hands answers =
     let takes = answers.0 in
     record {
       all = λ later are.
-          subst (λ all. AreBatches library (frames (take limit bytes)) all) (sym (append_assoc batches (batch ∷ []) later))
-          (hands.all (batch ∷ later) (subst (λ code. AreBatches code (ahead a rest) (batch ∷ later)) own
-          (takes.all later (subst (λ code. AreBatches code (ahead b more) later) (sym own) are))));
+          subst (λ all. AreBatches [] library (frames (take limit bytes)) all) (sym (append_assoc batches (batch ∷ []) later))
+          (hands.all (batch ∷ later) (subst (λ code. AreBatches [] code (ahead a rest) (batch ∷ later)) own
+          (subst (λ p. AreBatches p a.library (ahead a rest) (batch ∷ later)) free
+          (takes.all later (subst (λ p. AreBatches p a.library (ahead b more) later) (sym free)
+          (subst (λ code. AreBatches [] code (ahead b more) later) (sym own) are))))));
       frames_are = takes.keeps.frames ∙ hands.frames_are;
       refused_are = takes.keeps.refused ∙ hands.refused_are;
       long = answers.1 ∙ hands.long;
@@ -75,24 +77,25 @@ hands_long library limit (Some bytes) (Some rest) (Some more) a b batches hands 
 -- after the last batch the frames were counted, and all batches were handed out
 pub record AllHandedOut (library : List ℕ) (limit : ℕ) (bytes : List ℕ) (reader : Batching) (batches : List Batch) : Type 0 where
   pub fits : length bytes ≤ limit
-  pub all : AreBatches library (frames bytes) batches
+  pub all : AreBatches [] library (frames bytes) batches
   pub frames_are : reader.frames ≡ length (frames bytes)
   pub refused_are : reader.refused ≡ refused (frames bytes)
 
 pub hands_all : (library : List ℕ) (limit : ℕ) (told now then : Option (List ℕ)) (a b : Batching) (batches : List Batch)
-    → a.library ≡ library → Hands library limit told a now batches → Answers (Ok None) a now b then
+    → a.prefer ≡ [] → a.library ≡ library → Hands library limit told a now batches → Answers (Ok None) a now b then
     → IfSome told (λ bytes. AllHandedOut library limit bytes b batches)
-hands_all library limit None now then a b batches own hands answers = tt
-hands_all library limit (Some bytes) None then a b batches own hands answers = absurd hands
-hands_all library limit (Some bytes) (Some rest) None a b batches own hands answers = absurd answers
-hands_all library limit (Some bytes) (Some rest) (Some more) a b batches own hands answers =
+hands_all library limit None now then a b batches free own hands answers = tt
+hands_all library limit (Some bytes) None then a b batches free own hands answers = absurd hands
+hands_all library limit (Some bytes) (Some rest) None a b batches free own hands answers = absurd answers
+hands_all library limit (Some bytes) (Some rest) (Some more) a b batches free own hands answers =
     let fits : length bytes ≤ limit = ltb-false limit (length bytes) (sym hands.long ∙ answers.2) in
     let whole : take limit bytes ≡ bytes = take_all limit bytes fits in
-    let none : AreBatches library (ahead a rest) [] = subst (λ code. AreBatches code (ahead a rest) []) own answers.0 in
-    let all : AreBatches library (frames (take limit bytes)) batches = subst (λ all. AreBatches library (frames (take limit bytes)) all) (append-nil batches) (hands.all [] none) in
+    let none : AreBatches [] library (ahead a rest) [] = subst (λ code. AreBatches [] code (ahead a rest) []) own
+    (subst (λ p. AreBatches p a.library (ahead a rest) []) free answers.0) in
+    let all : AreBatches [] library (frames (take limit bytes)) batches = subst (λ all. AreBatches [] library (frames (take limit bytes)) all) (append-nil batches) (hands.all [] none) in
     record {
       fits = fits;
-      all = subst (λ xs. AreBatches library (frames xs) batches) whole all;
+      all = subst (λ xs. AreBatches [] library (frames xs) batches) whole all;
       frames_are = omega (arith, answers.1.frames, hands.frames_are, ap (λ xs. length (frames xs)) whole);
       refused_are = sym (append-nil b.refused) ∙ answers.1.refused ∙ hands.refused_are ∙ ap (λ xs. refused (frames xs)) whole;
     }
@@ -150,7 +153,7 @@ few_outcomes batch all = subst (λ n. n ≤ 256) (sym (length_outcomes batch.lib
 
 -- after an answer that is no batch
 pub hands_rest : (next : Option Batch) (library : List ℕ) (limit : ℕ) (told now then : Option (List ℕ)) (a b : Batching) (batches : List Batch)
-    → ((batch : Batch) → next ≡ Some batch → ⊥) → a.library ≡ library → Hands library limit told a now batches → Answers (Ok next) a now b then
+    → ((batch : Batch) → next ≡ Some batch → ⊥) → a.prefer ≡ [] → a.library ≡ library → Hands library limit told a now batches → Answers (Ok next) a now b then
     → IfSome told (λ bytes. AllHandedOut library limit bytes b batches)
-hands_rest None library limit told now then a b batches not own hands answers = hands_all library limit told now then a b batches own hands answers
-hands_rest (Some batch) library limit told now then a b batches not own hands answers = absurd (not batch refl)
+hands_rest None library limit told now then a b batches not free own hands answers = hands_all library limit told now then a b batches free own hands answers
+hands_rest (Some batch) library limit told now then a b batches not free own hands answers = absurd (not batch refl)

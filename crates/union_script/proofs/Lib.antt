@@ -1,6 +1,8 @@
 pub mod FileLaws
 pub mod SourceLaws
 pub mod BatchLaws
+pub mod NoticeLaws
+pub mod DigitLaws
 pub mod TextLaws
 pub mod LineLaws
 pub mod StopLaws

@@ -7,7 +7,7 @@ use Rattle.catalogue_core.specs.declared.history_entry.HistoryEntry.{HistoryEntr
 use Rattle.union_io.specs.Causes.{Rose}
 use Rattle.union_io.specs.Counts.{SameCounts, SameElsewhere}
 use Rattle.union_words.specs.Flows.{ShelfFlow, Outflow, InputFile, FailsAt}
-use Rattle.union_words.specs.ScriptLines.{ScriptLine, Load}
+use Rattle.union_words.specs.ScriptLines.{ScriptLine, Load, Notices}
 use Rattle.union_words.specs.Words.{LibraryFile}
 use Rattle.union_words.specs.declared.input.Input.{Input}
 use Rattle.union_words.specs.declared.input.Input.TheVariants.{Library}
@@ -78,6 +78,21 @@ says_line (Err Done) line history now text told files a b out same does says = a
 says_line (Err DoneWithRefusals) line history now text told files a b out same does says = absurd says
 says_line (Err Usage) line history now text told files a b out same does says = absurd says
 
+-- the line `notices` writes nothing
+pub notices_run : (history : List HistoryEntry) (files : Option Contents) (counts : Counts) (written : Known) (faults : ℕ)
+    → LinesRun (Ok false) (Notices ∷ []) history history (flow files counts counts) (outflow written written faults faults)
+notices_run history files counts written faults = (
+  λ name. refl,
+  refl,
+  on_all files (λ contents. record {
+    within = refl;
+    refused = refl;
+    text = [];
+    writes = text_of_one contents Notices history history [] (refl, refl);
+    written = Appends-nil written;
+  }),
+)
+
 -- where memory ran out before a line was run
 pub nothing_run : (files : Option Contents) (a b : Counts) (lines : List ScriptLine) (history : List HistoryEntry) (written : Known) (x z : ℕ) → SameCounts a b
     → LinesStop Memory lines history (flow files a b) (outflow written written x z)
@@ -106,10 +121,11 @@ nothing_before contents history written = record {
 abbrev pub library_input : LibraryFile → InputFile
 library_input file = record { input = Library file.library; path = file.path }
 
-loading_alone : (input : Input) (file : LibraryFile) (history : List HistoryEntry) (files : Option Contents) (written : Known) → input ≡ Library file.library
-    → StopsLoading input (Load file ∷ []) history files written written
-loading_alone input file history files written named = record {
+loading_alone : (input : Input) (told : Bool) (file : LibraryFile) (history : List HistoryEntry) (files : Option Contents) (written : Known) → input ≡ Library file.library
+    → StopsLoading input (Load told file ∷ []) history files written written
+loading_alone input told file history files written named = record {
   first = [];
+  told = told;
   file = file;
   others = [];
   parts = refl;
@@ -133,25 +149,25 @@ fails_so input file shelf fails =
     }
 
 -- a line whose file was not read to its end
-pub stop_at_file : (status : Status) (file : LibraryFile) (history : List HistoryEntry) (shelf : ShelfFlow) (written : Known) (x z : ℕ)
-    → StopsAt status (library_input file) shelf → LinesStop status (Load file ∷ []) history shelf (outflow written written x z)
+pub stop_at_file : (status : Status) (told : Bool) (file : LibraryFile) (history : List HistoryEntry) (shelf : ShelfFlow) (written : Known) (x z : ℕ)
+    → StopsAt status (library_input file) shelf → LinesStop status (Load told file ∷ []) history shelf (outflow written written x z)
 unfolding loading_alone
-stop_at_file (OpenFault input) file history shelf written x z stops =
-    (loading_alone input file history shelf.files written (named_so input file shelf stops), fails_so input file shelf stops)
-stop_at_file (ReadFault input) file history shelf written x z stops =
-    (loading_alone input file history shelf.files written (named_so input file shelf stops), fails_so input file shelf stops)
-stop_at_file (TooLong input) file history shelf written x z stops =
-    (loading_alone input file history shelf.files written stops.1, stops.0, stops.2)
-stop_at_file Memory file history shelf written x z stops = nothing_run shelf.files shelf.before shelf.after (Load file ∷ []) history written x z stops
-stop_at_file Done file history shelf written x z stops = absurd stops
-stop_at_file DoneWithRefusals file history shelf written x z stops = absurd stops
-stop_at_file Usage file history shelf written x z stops = absurd stops
-stop_at_file WriteFault file history shelf written x z stops = absurd stops
+stop_at_file (OpenFault input) told file history shelf written x z stops =
+    (loading_alone input told file history shelf.files written (named_so input file shelf stops), fails_so input file shelf stops)
+stop_at_file (ReadFault input) told file history shelf written x z stops =
+    (loading_alone input told file history shelf.files written (named_so input file shelf stops), fails_so input file shelf stops)
+stop_at_file (TooLong input) told file history shelf written x z stops =
+    (loading_alone input told file history shelf.files written stops.1, (stops.0, stops.2))
+stop_at_file Memory told file history shelf written x z stops = nothing_run shelf.files shelf.before shelf.after (Load told file ∷ []) history written x z stops
+stop_at_file Done told file history shelf written x z stops = absurd stops
+stop_at_file DoneWithRefusals told file history shelf written x z stops = absurd stops
+stop_at_file Usage told file history shelf written x z stops = absurd stops
+stop_at_file WriteFault told file history shelf written x z stops = absurd stops
 
 -- a file that is not too long
 pub not_over : (limit n : ℕ) → n ≤ limit → nat_lt limit n ≡ false
 not_over limit n fits = le-ltb limit n fits
 
-pub one_within : (contents : Contents) (file : LibraryFile) → length (contents file.path) ≤ limit_of (Library file.library)
-    → AreWithin contents (files_loaded (Load file ∷ []))
-one_within contents file fits = ap (λ over. cond over (Some (library_input file)) None) (not_over (limit_of (Library file.library)) (length (contents file.path)) fits)
+pub one_within : (contents : Contents) (told : Bool) (file : LibraryFile) → length (contents file.path) ≤ limit_of (Library file.library)
+    → AreWithin contents (files_loaded (Load told file ∷ []))
+one_within contents told file fits = ap (λ over. cond over (Some (library_input file)) None) (not_over (limit_of (Library file.library)) (length (contents file.path)) fits)

@@ -8,7 +8,6 @@ use Rattle.std.proofs.lemmas.Bool.{lt-ltb}
 use Rattle.std.proofs.lemmas.List.Folds.{find-append}
 use Rattle.std.proofs.lemmas.Option.{same_Some}
 use Rattle.catalogue_core.specs.declared.history_entry.HistoryEntry.{HistoryEntry}
-use Rattle.library_stream.specs.declared.frame_reader.TheConstants.{LARGEST_SOURCE}
 use Rattle.union_io.specs.Causes.{Rose}
 use Rattle.union_io.specs.Counts.{SameCounts}
 use Rattle.union_words.specs.Flows.{ShelfFlow, IsCalm, InputFile, IsOneOf, FailsAt, NoneFails, Outflow, HasFailedAt}
@@ -20,11 +19,10 @@ use Rattle.union_words.specs.declared.input.Input.TheVariants.{Library, Script}
 use Rattle.union_words.specs.declared.status.Status.{Status}
 use Rattle.union_words.specs.declared.status.Status.TheVariants.{Done, DoneWithRefusals, Usage, OpenFault, ReadFault, WriteFault, TooLong, Memory}
 use Rattle.union_script.specs.Inputs.{files_loaded, inputs_with, inputs_of, is_overfull, first_overfull, AreWithin, IsTooLongAt}
-use Rattle.union_script.specs.Lines.{HasRun, WritesFront, StopsLoading, FailsUnder, LinesStop, LinesRun}
+use Rattle.union_script.specs.Lines.{HasRun, WritesFront, StopsLoading, StopsFor, FailsUnder, LinesStop, LinesRun}
 use Rattle.union_script.specs.Readings.{StopsAt}
 use Rattle.union_script.specs.Runs.{WritesAll, WritesBefore, IsFaultAt, named_by, IsScript}
 use Rattle.union_script.specs.Texts.{Contents, script_of, has_refusals}
-use Rattle.union_script.specs.declared.text_file.TheConstants.{LARGEST_TEXT}
 use Rattle.union_script.proofs.FileLaws.{Counts, flow, same_more}
 use Rattle.union_script.proofs.LineLaws.{library_input, not_over}
 use Rattle.union_script.proofs.StopLaws.{Known, outflow, stop_behind}
@@ -40,7 +38,8 @@ pub record HasEnded (path : List ℕ) (shelf : ShelfFlow) (out : Outflow) (statu
   pub too_long : (i : Input) → status ≡ TooLong i → IfSome shelf.files (λ contents. IsTooLongAt contents (inputs_of contents path) i)
   pub done : IsTrue (is_done status) → IfSome shelf.files (λ contents. AreWithin contents (inputs_of contents path)
       × (status ≡ end_by (has_refusals contents (script_of (contents path)))) × WritesAll contents (script_of (contents path)) out)
-  pub before : (i : Input) → named_by status ≡ Some i → IfSome shelf.files (λ contents. WritesBefore i contents (script_of (contents path)) out)
+  pub before : (i : Input) → named_by status ≡ Some i → IfSome shelf.files (λ contents.
+      WritesBefore (λ name. StopsFor status name shelf) i contents (script_of (contents path)) out)
   pub part : (status ≡ WriteFault) ⊎ (status ≡ Memory)
       → IfSome shelf.files (λ contents. WritesFront contents (script_of (contents path)) [] out.old out.new)
 
@@ -167,11 +166,11 @@ script_is_named DoneWithRefusals path shelf i stops is = absurd stops
 script_is_named Usage path shelf i stops is = absurd stops
 script_is_named WriteFault path shelf i stops is = absurd stops
 
-script_long : (contents : Contents) (path : List ℕ) (i : Input) → i ≡ Script → LARGEST_TEXT < length (contents path)
+script_long : (contents : Contents) (path : List ℕ) (i : Input) → i ≡ Script → 1048576 < length (contents path)
     → IsTooLongAt contents (inputs_of contents path) i
 script_long contents path i named more =
     ap (λ over. option_map (λ (file : InputFile). file.input) (cond over (Some (script_input path)) (find (is_overfull contents) (files_loaded (script_of (contents path))))))
-    (lt-ltb LARGEST_TEXT (length (contents path)) more)
+    (lt-ltb 1048576 (length (contents path)) more)
     ∙ ap Some (sym named)
 
 nothing_written : (contents : Contents) (lines : List ScriptLine) (written : Known) → WritesFront contents lines [] written written
@@ -197,25 +196,25 @@ stopped_at_script status path shelf written x z stops =
       other = λ is. at Usage is;
       too_long = λ i is. on_files shelf.files (λ contents more. script_long contents path i (at (TooLong i) is).1 more) (at (TooLong i) is).2;
       done = λ done. absurd (script_early status path shelf stops done);
-      before = λ i is. on_all shelf.files (λ contents. subst (λ j. WritesBefore j contents (script_of (contents path)) (outflow written written x z))
+      before = λ i is. on_all shelf.files (λ contents. subst (λ j. WritesBefore (λ name. StopsFor status name shelf) j contents (script_of (contents path)) (outflow written written x z))
           (sym (script_is_named status path shelf i stops is)) (Keeps-refl written));
       part = λ ends. on_all shelf.files (λ contents. nothing_written contents (script_of (contents path)) written);
     })
 
 -- the script was read, and it is within its limit
 abbrev pub IsRead : List ℕ → List ℕ → Contents → Type 0
-IsRead path script contents = (length (contents path) ≤ LARGEST_TEXT) × (script ≡ contents path)
+IsRead path script contents = (length (contents path) ≤ 1048576) × (script ≡ contents path)
 
 -- where the script is within its limit, the first input that is too long is the file of a load line
-script_within : (contents : Contents) (path : List ℕ) (lines : List ScriptLine) → length (contents path) ≤ LARGEST_TEXT
+script_within : (contents : Contents) (path : List ℕ) (lines : List ScriptLine) → length (contents path) ≤ 1048576
     → first_overfull contents (inputs_with path lines) ≡ first_overfull contents (files_loaded lines)
 script_within contents path lines fits =
-    ap (λ over. cond over (Some (script_input path)) (find (is_overfull contents) (files_loaded lines))) (not_over LARGEST_TEXT (length (contents path)) fits)
+    ap (λ over. cond over (Some (script_input path)) (find (is_overfull contents) (files_loaded lines))) (not_over 1048576 (length (contents path)) fits)
 
 -- the files that are loaded, around that of a line
-files_around : (lines first others : List ScriptLine) (file : LibraryFile) → lines ≡ first ++ Load file ∷ others
+files_around : (lines first others : List ScriptLine) (told : Bool) (file : LibraryFile) → lines ≡ first ++ Load told file ∷ others
     → files_loaded lines ≡ files_loaded first ++ library_input file ∷ files_loaded others
-files_around lines first others file parts = ap files_loaded parts ∙ files_behind first (Load file ∷ others)
+files_around lines first others told file parts = ap files_loaded parts ∙ files_behind first (Load told file ∷ others)
 
 one_among : (file : InputFile) (first others : List InputFile) → IsOneOf file (first ++ file ∷ others)
 one_among file [] others = inl refl
@@ -232,7 +231,7 @@ lines_fault (Some contents) path script shelf i old new read stop fails = record
   file = library_input stop.file;
   one =
       inr (subst (λ files. IsOneOf (library_input stop.file) files)
-      (sym (files_around (script_of (contents path)) stop.first stop.others stop.file (ap script_of (sym read.1) ∙ stop.parts)))
+      (sym (files_around (script_of (contents path)) stop.first stop.others stop.told stop.file (ap script_of (sym read.1) ∙ stop.parts)))
       (one_among (library_input stop.file) (files_loaded stop.first) (files_loaded stop.others)));
   named = stop.named;
   failed = fails.failed;
@@ -240,7 +239,7 @@ lines_fault (Some contents) path script shelf i old new read stop fails = record
 }
 
 lines_long : (contents : Contents) (path script : List ℕ) (i : Input) (old new : Known) → IsRead path script contents
-    → (stop : StopsLoading i (script_of script) [] (Some contents) old new) → LARGEST_SOURCE < length (contents stop.file.path)
+    → (stop : StopsLoading i (script_of script) [] (Some contents) old new) → 1099511627776 < length (contents stop.file.path)
     → IsTooLongAt contents (inputs_of contents path) i
 lines_long contents path script i old new read stop more =
     let p = is_overfull contents in
@@ -249,26 +248,31 @@ lines_long contents path script i old new read stop more =
     let ys = files_loaded stop.others in
     let found : first_overfull contents (inputs_of contents path) ≡ Some file
     = script_within contents path (script_of (contents path)) read.0
-    ∙ ap (find p) (files_around (script_of (contents path)) stop.first stop.others stop.file (ap script_of (sym read.1) ∙ stop.parts))
+    ∙ ap (find p) (files_around (script_of (contents path)) stop.first stop.others stop.told stop.file (ap script_of (sym read.1) ∙ stop.parts))
     ∙ find-append p xs (file ∷ ys)
     ∙ ap (λ found. option_or found (find p (file ∷ ys))) stop.before.within
-    ∙ ap (λ over. cond over (Some file) (find p ys)) (lt-ltb LARGEST_SOURCE (length (contents stop.file.path)) more) in
+    ∙ ap (λ over. cond over (Some file) (find p ys)) (lt-ltb 1099511627776 (length (contents stop.file.path)) more) in
     ap (option_map (λ (file : InputFile). file.input)) found ∙ ap Some (sym stop.named)
 
 -- the files that a run tells, and those of which its script was read
 long_told : (files : Option Contents) (path script : List ℕ) (i : Input) (old new : Known) → IfSome files (IsRead path script)
-    → (stop : StopsLoading i (script_of script) [] files old new) → IfSome files (λ contents. LARGEST_SOURCE < length (contents stop.file.path))
+    → (stop : StopsLoading i (script_of script) [] files old new) → IfSome files (λ contents. 1099511627776 < length (contents stop.file.path))
     → IfSome files (λ contents. IsTooLongAt contents (inputs_of contents path) i)
 long_told None path script i old new read stop more = tt
 long_told (Some contents) path script i old new read stop more = lines_long contents path script i old new read stop more
 
-before_line : (files : Option Contents) (path script : List ℕ) (i : Input) (out : Outflow) → IfSome files (IsRead path script)
-    → StopsLoading i (script_of script) [] files out.old out.new → IfSome files (λ contents. WritesBefore i contents (script_of (contents path)) out)
-before_line None path script i out read stop = tt
-before_line (Some contents) path script i out read stop =
-    subst (λ text. WritesBefore i contents (script_of text) out) read.1
-    (subst (λ j. WritesBefore j contents (script_of script) out) (sym stop.named)
-    (subst (λ j. StopsLoading j (script_of script) [] (Some contents) out.old out.new) stop.named stop))
+-- a run stops at a line that loads the file of that input, and the cause lies under the name of that file
+abbrev StopsBy : (List ℕ → Type 0) → Input → List ScriptLine → Option Contents → Outflow → Type 0
+StopsBy Cause i lines files out = (stop : StopsLoading i lines [] files out.old out.new) × Cause stop.file.path
+
+before_line : (Cause : List ℕ → Type 0) (files : Option Contents) (path script : List ℕ) (i : Input) (out : Outflow)
+    → IfSome files (IsRead path script) → StopsBy Cause i (script_of script) files out
+    → IfSome files (λ contents. WritesBefore Cause i contents (script_of (contents path)) out)
+before_line Cause None path script i out read stop = tt
+before_line Cause (Some contents) path script i out read stop =
+    subst (λ text. WritesBefore Cause i contents (script_of text) out) read.1
+    (subst (λ j. WritesBefore Cause j contents (script_of script) out) (sym stop.0.named)
+    (subst (λ j. StopsBy Cause j (script_of script) (Some contents) out) stop.0.named stop))
 
 front_told : (files : Option Contents) (path script : List ℕ) (out : Outflow) → IfSome files (IsRead path script)
     → IfSome files (λ contents. WritesFront contents (script_of script) [] out.old out.new)
@@ -279,7 +283,7 @@ front_told (Some contents) path script out read front = subst (λ text. WritesFr
 lines_calm : (status : Status) (lines : List ScriptLine) (shelf : ShelfFlow) (out : Outflow) → LinesStop status lines [] shelf out → is_input_fault status ≡ false → IsCalm shelf
 lines_calm (OpenFault input) lines shelf out stops calm = cc
 lines_calm (ReadFault input) lines shelf out stops calm = cc
-lines_calm (TooLong input) lines shelf out stops calm = stops.1
+lines_calm (TooLong input) lines shelf out stops calm = stops.1.0
 lines_calm WriteFault lines shelf out stops calm = stops.0
 lines_calm Memory lines shelf out stops calm = stops.0
 lines_calm Done lines shelf out stops calm = absurd stops
@@ -297,10 +301,13 @@ lines_early DoneWithRefusals lines shelf out stops done = stops
 lines_early Usage lines shelf out stops done = stops
 
 lines_named : (status : Status) (lines : List ScriptLine) (shelf : ShelfFlow) (out : Outflow) (i : Input) → LinesStop status lines [] shelf out
-    → named_by status ≡ Some i → StopsLoading i lines [] shelf.files out.old out.new
-lines_named (OpenFault input) lines shelf out i stops is = subst (λ j. StopsLoading j lines [] shelf.files out.old out.new) (same_Some _ _ is) stops.0
-lines_named (ReadFault input) lines shelf out i stops is = subst (λ j. StopsLoading j lines [] shelf.files out.old out.new) (same_Some _ _ is) stops.0
-lines_named (TooLong input) lines shelf out i stops is = subst (λ j. StopsLoading j lines [] shelf.files out.old out.new) (same_Some _ _ is) stops.0
+    → named_by status ≡ Some i → StopsBy (λ name. StopsFor status name shelf) i lines shelf.files out
+lines_named (OpenFault input) lines shelf out i stops is =
+    subst (λ j. StopsBy (λ name. StopsFor (OpenFault input) name shelf) j lines shelf.files out) (same_Some _ _ is) stops
+lines_named (ReadFault input) lines shelf out i stops is =
+    subst (λ j. StopsBy (λ name. StopsFor (ReadFault input) name shelf) j lines shelf.files out) (same_Some _ _ is) stops
+lines_named (TooLong input) lines shelf out i stops is =
+    subst (λ j. StopsBy (λ name. StopsFor (TooLong input) name shelf) j lines shelf.files out) (same_Some _ _ is) stops
 lines_named WriteFault lines shelf out i stops is = cc
 lines_named Memory lines shelf out i stops is = cc
 lines_named Done lines shelf out i stops is = absurd stops
@@ -318,9 +325,9 @@ stopped_at_line status path script shelf out read stops =
       calm = λ none. lines_calm status (script_of script) shelf out stops none;
       write_fault = λ is. (at WriteFault is).1;
       other = λ is. at Usage is;
-      too_long = λ i is. long_told shelf.files path script i out.old out.new read (at (TooLong i) is).0 (at (TooLong i) is).2;
+      too_long = λ i is. long_told shelf.files path script i out.old out.new read (at (TooLong i) is).0 (at (TooLong i) is).1.1;
       done = λ done. absurd (lines_early status (script_of script) shelf out stops done);
-      before = λ i is. before_line shelf.files path script i out read (lines_named status (script_of script) shelf out i stops is);
+      before = λ i is. before_line (λ name. StopsFor status name shelf) shelf.files path script i out read (lines_named status (script_of script) shelf out i stops is);
       part = λ ends. elim ends [
         | inl is ↦ front_told shelf.files path script out read (at WriteFault is).2
         | inr is ↦ front_told shelf.files path script out read (at Memory is).1

@@ -26,9 +26,10 @@ loading_more : (input : Input) (lines more : List ScriptLine) (history : List Hi
     → StopsLoading input lines history files old new → StopsLoading input (lines ++ more) history files old new
 loading_more input lines more history files old new stop = record {
   first = stop.first;
+  told = stop.told;
   file = stop.file;
   others = stop.others ++ more;
-  parts = ap (λ ls. ls ++ more) stop.parts ∙ append_assoc stop.first (Load stop.file ∷ stop.others) more;
+  parts = ap (λ ls. ls ++ more) stop.parts ∙ append_assoc stop.first (Load stop.told stop.file ∷ stop.others) more;
   named = stop.named;
   before = stop.before;
 }
@@ -55,7 +56,7 @@ pub stop_more : (status : Status) (lines more : List ScriptLine) (history : List
 unfolding loading_more
 stop_more (OpenFault input) lines more history shelf out stops = (loading_more input lines more history shelf.files out.old out.new stops.0, stops.1)
 stop_more (ReadFault input) lines more history shelf out stops = (loading_more input lines more history shelf.files out.old out.new stops.0, stops.1)
-stop_more (TooLong input) lines more history shelf out stops = (loading_more input lines more history shelf.files out.old out.new stops.0, stops.1, stops.2)
+stop_more (TooLong input) lines more history shelf out stops = (loading_more input lines more history shelf.files out.old out.new stops.0, stops.1)
 stop_more WriteFault lines more history shelf out stops = (stops.0, stops.1, on_front shelf.files lines more history out.old out.new stops.2)
 stop_more Memory lines more history shelf out stops = (stops.0, on_front shelf.files lines more history out.old out.new stops.1)
 stop_more Done lines more history shelf out stops = absurd stops
@@ -92,9 +93,10 @@ loading_behind : (input : Input) (first others : List ScriptLine) (history betwe
     → StopsLoading input (first ++ others) history files old new
 loading_behind input first others history between told files old mid new run stop = record {
   first = first ++ stop.first;
+  told = stop.told;
   file = stop.file;
   others = stop.others;
-  parts = ap (λ ls. first ++ ls) stop.parts ∙ sym (append_assoc first stop.first (Load stop.file ∷ stop.others));
+  parts = ap (λ ls. first ++ ls) stop.parts ∙ sym (append_assoc first stop.first (Load stop.told stop.file ∷ stop.others));
   named = stop.named;
   before = on_both files (λ contents run writes. first_behind contents first stop.first history between told old mid new run writes) run stop.before;
 }
@@ -116,7 +118,7 @@ stop_behind (OpenFault input) first others history between told files a b c old 
 stop_behind (ReadFault input) first others history between told files a b c old mid new x y z same calm run stops =
     (loading_behind input first others history between told files old mid new run stops.0, fails_later stops.0.file.path files a b c same stops.1)
 stop_behind (TooLong input) first others history between told files a b c old mid new x y z same calm run stops =
-    (loading_behind input first others history between told files old mid new run stops.0, same_more a b c same stops.1, stops.2)
+    (loading_behind input first others history between told files old mid new run stops.0, (same_more a b c same stops.1.0, stops.1.1))
 stop_behind WriteFault first others history between told files a b c old mid new x y z same calm run stops = (
   same_more a b c same stops.0,
   subst (λ count. Rose count z) calm stops.1,

@@ -16,7 +16,7 @@ use Rattle.union_words.specs.Lines.{is_skipped}
 use Rattle.union_words.specs.ScriptLines.{ScriptLine, script_line}
 use Rattle.union_script.specs.Inputs.{loaded_by, files_loaded, is_overfull, AreWithin}
 use Rattle.union_script.specs.Lines.{HasRun}
-use Rattle.union_script.specs.Texts.{Contents, asked_by, Writes, ScriptText, is_refused, has_refusals}
+use Rattle.union_script.specs.Texts.{Contents, asked_by, told_line, tells_after, told_from, told_after, Writes, ScriptText, is_refused, has_refusals}
 
 -- what follows for the files that are told
 pub on_files : {P Q : Contents → Type 0} (files : Option Contents) → ((contents : Contents) → P contents → Q contents) → IfSome files P → IfSome files Q
@@ -48,6 +48,12 @@ asked_skipped line is = asked_one_by line true is
 
 pub asked_line : (line : List ℕ) → is_skipped line ≡ false → asked_by (line ∷ []) ≡ script_line line ∷ []
 asked_line line is = asked_one_by line false is
+
+-- what two parts ask for, where turns are told before them or not
+pub told_behind : (told : Bool) (lines others : List ScriptLine)
+    → told_from told (lines ++ others) ≡ told_from told lines ++ told_from (told_after told lines) others
+told_behind told [] others = refl
+told_behind told (line ∷ lines) others = ap (λ rest. told_line told line ∷ rest) (told_behind (tells_after told line) lines others)
 
 -- the texts of two parts
 pub text_behind : (contents : Contents) (first others : List ScriptLine) (history between now : List HistoryEntry) (one two : List ℕ)

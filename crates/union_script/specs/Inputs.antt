@@ -3,25 +3,24 @@ use Rattle.std.specs.Prelude.{◌≡◌, ℕ, Bool, nat_lt, List, [], ◌∷◌,
 use Rattle.std.specs.List.{find, flat_map}
 use Rattle.std.specs.Option.{option_map}
 use Rattle.std.specs.declared.option.Option.{Option}
-use Rattle.library_stream.specs.declared.frame_reader.TheConstants.{LARGEST_SOURCE}
 use Rattle.union_words.specs.Flows.{InputFile}
-use Rattle.union_words.specs.ScriptLines.{ScriptLine, Load, Export, Works, Ask, Word}
+use Rattle.union_words.specs.ScriptLines.{ScriptLine, Load, Export, Works, Notices, Ask, Word}
 use Rattle.union_words.specs.declared.input.Input.{Input}
 use Rattle.union_words.specs.declared.input.Input.TheVariants.{Library, Asks, Script}
 use Rattle.union_script.specs.Texts.{Contents, script_of}
-use Rattle.union_script.specs.declared.text_file.TheConstants.{LARGEST_TEXT}
 
--- the most bytes that are read of it
+-- the most bytes that are read of it: 2^40 of a library's file, and 2^20 of a script or a file of questions
 abbrev pub limit_of : Input → ℕ
-limit_of (Library code) = LARGEST_SOURCE
-limit_of Asks = LARGEST_TEXT
-limit_of Script = LARGEST_TEXT
+limit_of (Library code) = 1099511627776
+limit_of Asks = 1048576
+limit_of Script = 1048576
 
 -- the file of a line that loads one
 abbrev pub loaded_by : ScriptLine → List InputFile
-loaded_by (Load file) = record { input = Library file.library; path = file.path } ∷ []
+loaded_by (Load told file) = record { input = Library file.library; path = file.path } ∷ []
 loaded_by Export = []
 loaded_by Works = []
+loaded_by Notices = []
 loaded_by (Ask line) = []
 loaded_by Word = []
 

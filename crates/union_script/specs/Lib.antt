@@ -1,3 +1,5 @@
+pub mod LineTexts
+pub mod Notices
 pub mod Texts
 pub mod Inputs
 pub mod Readings

@@ -4,7 +4,6 @@ use Rattle.std.specs.declared.option.Option.{Option}
 use Rattle.std.specs.declared.result.Result.{Result}
 use Rattle.std.specs.Io.KnownBytes.{Appends}
 use Rattle.catalogue_core.specs.declared.history_entry.HistoryEntry.{HistoryEntry}
-use Rattle.library_stream.specs.declared.frame_reader.TheConstants.{LARGEST_SOURCE}
 use Rattle.union_io.specs.Causes.{Rose}
 use Rattle.union_io.specs.Counts.{SameElsewhere}
 use Rattle.union_io.specs.Writing.{AppendsFront}
@@ -47,9 +46,10 @@ pub record WritesFront (contents : Contents) (lines : List ScriptLine) (history 
 -- a run stops at a line that loads the file of this input, and the text of the lines before it was written
 pub record StopsLoading (input : Input) (lines : List ScriptLine) (history : List HistoryEntry) (files : Option Contents) (old new : Option (List ℕ)) : Type 0 where
   pub first : List ScriptLine
+  pub told : Bool
   pub file : LibraryFile
   pub others : List ScriptLine
-  pub parts : lines ≡ first ++ Load file ∷ others
+  pub parts : lines ≡ first ++ Load told file ∷ others
   pub named : input ≡ Library file.library
   pub before : IfSome files (λ contents. WritesFirst contents first history old new)
 
@@ -58,15 +58,27 @@ pub record FailsUnder (name : List ℕ) (shelf : ShelfFlow) : Type 0 where
   pub failed : Rose (shelf.before name) (shelf.after name)
   pub others : SameElsewhere shelf.before shelf.after name
 
+-- why a run stops at the file of that name: something failed under it, and nothing under any other; or it is too long, and nothing
+-- failed. No other status has its cause at a file
+abbrev pub StopsFor : Status → List ℕ → ShelfFlow → Type 0
+StopsFor (OpenFault input) name shelf = FailsUnder name shelf
+StopsFor (ReadFault input) name shelf = FailsUnder name shelf
+StopsFor (TooLong input) name shelf =
+    IsCalm shelf × IfSome shelf.files (λ contents. 1099511627776 < length (contents name))
+StopsFor Done name shelf = ⊥
+StopsFor DoneWithRefusals name shelf = ⊥
+StopsFor Usage name shelf = ⊥
+StopsFor WriteFault name shelf = ⊥
+StopsFor Memory name shelf = ⊥
+
 -- the run of the lines ended early with this status
 abbrev pub LinesStop : Status → List ScriptLine → List HistoryEntry → ShelfFlow → Outflow → Type 0
 LinesStop (OpenFault input) lines history shelf out =
-    (stop : StopsLoading input lines history shelf.files out.old out.new) × FailsUnder stop.file.path shelf
+    (stop : StopsLoading input lines history shelf.files out.old out.new) × StopsFor (OpenFault input) stop.file.path shelf
 LinesStop (ReadFault input) lines history shelf out =
-    (stop : StopsLoading input lines history shelf.files out.old out.new) × FailsUnder stop.file.path shelf
+    (stop : StopsLoading input lines history shelf.files out.old out.new) × StopsFor (ReadFault input) stop.file.path shelf
 LinesStop (TooLong input) lines history shelf out =
-    (stop : StopsLoading input lines history shelf.files out.old out.new)
-    × IsCalm shelf × IfSome shelf.files (λ contents. LARGEST_SOURCE < length (contents stop.file.path))
+    (stop : StopsLoading input lines history shelf.files out.old out.new) × StopsFor (TooLong input) stop.file.path shelf
 LinesStop WriteFault lines history shelf out =
     IsCalm shelf × HasFailedAt out × IfSome shelf.files (λ contents. WritesFront contents lines history out.old out.new)
 LinesStop Memory lines history shelf out =

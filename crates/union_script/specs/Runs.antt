@@ -11,7 +11,7 @@ use Rattle.union_words.specs.declared.input.Input.TheVariants.{Library, Asks, Sc
 use Rattle.union_words.specs.declared.status.Status.{Status}
 use Rattle.union_words.specs.declared.status.Status.TheVariants.{Done, DoneWithRefusals, Usage, OpenFault, ReadFault, WriteFault, TooLong, Memory}
 use Rattle.union_script.specs.Inputs.{inputs_of, AreWithin, IsTooLongAt}
-use Rattle.union_script.specs.Lines.{FailsUnder, StopsLoading, WritesFront}
+use Rattle.union_script.specs.Lines.{FailsUnder, StopsLoading, StopsFor, WritesFront}
 use Rattle.union_script.specs.Texts.{Contents, script_of, ScriptText, has_refusals}
 
 -- the whole text of the script was written
@@ -22,11 +22,12 @@ pub record WritesAll (contents : Contents) (script : List ScriptLine) (out : Out
   pub written : Appends out.old out.new text
 
 -- what was written where a run stops at that input: nothing where it is the script's file, and otherwise the text of the lines
--- before one that loads the file of the input
-abbrev pub WritesBefore : Input → Contents → List ScriptLine → Outflow → Type 0
-WritesBefore Script contents script out = Keeps out.old out.new
-WritesBefore (Library code) contents script out = StopsLoading (Library code) script [] (Some contents) out.old out.new
-WritesBefore Asks contents script out = ⊥
+-- before the one at which the run stopped. That one loads the file of the input, under whose name the cause lies
+abbrev pub WritesBefore : (List ℕ → Type 0) → Input → Contents → List ScriptLine → Outflow → Type 0
+WritesBefore Cause Script contents script out = Keeps out.old out.new
+WritesBefore Cause (Library code) contents script out =
+    (stop : StopsLoading (Library code) script [] (Some contents) out.old out.new) × Cause stop.file.path
+WritesBefore Cause Asks contents script out = ⊥
 
 -- something failed under one name and under no other; under that of the script where the input is the script
 pub record FailsSomewhere (path : List ℕ) (shelf : ShelfFlow) (input : Input) : Type 0 where
@@ -63,7 +64,8 @@ pub record IsScript (path : List ℕ) (shelf : ShelfFlow) (out : Outflow) (statu
   -- all of the text was written, that of the lines before the one at which the run stopped, or a prefix of it
   pub done : IsTrue (is_done status) → IfSome shelf.files (λ contents. AreWithin contents (inputs_of contents path)
       × (status ≡ end_by (has_refusals contents (script_of (contents path)))) × WritesAll contents (script_of (contents path)) out)
-  pub before : (i : Input) → named_by status ≡ Some i → IfSome shelf.files (λ contents. WritesBefore i contents (script_of (contents path)) out)
+  pub before : (i : Input) → named_by status ≡ Some i → IfSome shelf.files (λ contents.
+      WritesBefore (λ name. StopsFor status name shelf) i contents (script_of (contents path)) out)
   pub part : (status ≡ WriteFault) ⊎ (status ≡ Memory)
       → IfSome shelf.files (λ contents. WritesFront contents (script_of (contents path)) [] out.old out.new)
   -- where nothing fails it is so, or memory ran out

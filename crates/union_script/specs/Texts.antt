@@ -1,6 +1,6 @@
 -- What a script writes, and how its lines change the catalogue.
-use Rattle.std.specs.Prelude.{◌≡◌, ℕ, Bool, true, false, nat_lt, List, [], ◌∷◌, ◌++◌, length, map, codes, Result, Ok, Err}
-use Rattle.std.specs.List.{flat_map, list_any}
+use Rattle.std.specs.Prelude.{◌≡◌, ℕ, Bool, true, false, nat_lt, List, [], ◌∷◌, ◌++◌, length, map, Result, Ok, Err}
+use Rattle.std.specs.List.{list_any}
 use Rattle.std.specs.Result.{is_err}
 use Rattle.catalogue_query.specs.Answers.{answer_lines}
 use Rattle.catalogue_query.specs.Queries.{query_of}
@@ -20,8 +20,9 @@ use Rattle.library_batches.specs.Batches.{AreBatches}
 use Rattle.library_batches.specs.Outcomes.{found_in}
 use Rattle.union_reports.specs.Reports.{report_text}
 use Rattle.union_words.specs.Lines.{lines_of, kept}
-use Rattle.union_words.specs.ScriptLines.{ScriptLine, Load, Export, Works, Ask, Word, script_line}
-use Rattle.union_words.specs.Texts.{line_feed}
+use Rattle.union_words.specs.ScriptLines.{ScriptLine, Load, Export, Works, Notices, Ask, Word, script_line}
+use Rattle.union_script.specs.Notices.{TellsTurns}
+pub use Rattle.union_script.specs.LineTexts.{refused_word, refused_unknown, ended_lines}
 
 -- what is in the file of each name
 abbrev pub Contents : Type 0
@@ -31,19 +32,50 @@ Contents = List ℕ → List ℕ
 abbrev pub asked_by : List (List ℕ) → List ScriptLine
 asked_by lines = map script_line (kept lines)
 
--- what the lines of a script ask for
+-- what a line asks for where turns are told, or are not: it is a load that this changes
+abbrev pub told_line : Bool → ScriptLine → ScriptLine
+told_line told (Load alone file) = Load told file
+told_line told Export = Export
+told_line told Works = Works
+told_line told Notices = Notices
+told_line told (Ask line) = Ask line
+told_line told Word = Word
+
+-- whether turns are told after the line: from a line `notices` on they are
+abbrev pub tells_after : Bool → ScriptLine → Bool
+tells_after told (Load alone file) = told
+tells_after told Export = told
+tells_after told Works = told
+tells_after told Notices = true
+tells_after told (Ask line) = told
+tells_after told Word = told
+
+-- what lines ask for, one after the other, where turns are told before the first of them, or are not
+abbrev pub told_from : Bool → List ScriptLine → List ScriptLine
+told_from told [] = []
+told_from told (line ∷ lines) = told_line told line ∷ told_from (tells_after told line) lines
+
+-- whether turns are told after all of the lines
+abbrev pub told_after : Bool → List ScriptLine → Bool
+told_after told [] = told
+told_after told (line ∷ lines) = told_after (tells_after told line) lines
+
+-- what the lines of a script ask for: no turn is told before a line `notices`
 abbrev pub script_of : List ℕ → List ScriptLine
-script_of script = asked_by (lines_of script)
+script_of script = told_from false (asked_by (lines_of script))
 
 -- the turns by which batches are applied: all under the number 0
 abbrev pub turns_of : List Batch → List HistoryEntry
 turns_of batches = map (λ batch. record { pass = 0; batch = batch }) batches
 
--- a library whose file has these frames is loaded: its batches are applied, and its report is written
-pub record Loads (library : List ℕ) (all : List Frame) (history : List HistoryEntry) (text : List ℕ) (now : List HistoryEntry) : Type 0 where
+-- a library whose file has these frames is loaded, with no library preferred to another: its batches are applied, what is told of
+-- their turns is written, and then its report
+pub record Loads (told : Bool) (library : List ℕ) (all : List Frame) (history : List HistoryEntry) (text : List ℕ) (now : List HistoryEntry) : Type 0 where
   pub batches : List Batch
-  pub read : AreBatches library all batches
-  pub report : text ≡ report_text library all (found_in (current history) batches)
+  pub read : AreBatches [] library all batches
+  pub notices : List ℕ
+  pub tells : TellsTurns told history batches notices
+  pub report : text ≡ notices ++ report_text library all (found_in (current history) batches)
   pub applied : now ≡ history ++ turns_of batches
 
 -- the text is the export of the catalogue of that history
@@ -57,17 +89,6 @@ pub record IsWorkList (history : List HistoryEntry) (text : List ℕ) : Type 0 w
   pub editions : List Edition
   pub resolved : AreEditionsOf history editions
   pub works : text ≡ works_text_of editions
-
--- the texts of lines that are refused
-abbrev pub refused_word : List ℕ
-refused_word = codes "refused word" ++ line_feed ∷ []
-
-abbrev pub refused_unknown : List ℕ
-refused_unknown = codes "refused unknown" ++ line_feed ∷ []
-
--- each line, with a line feed after it
-abbrev pub ended_lines : List (List ℕ) → List ℕ
-ended_lines lines = flat_map (λ line. line ++ line_feed ∷ []) lines
 
 -- the text is the answer to a query of the catalogue of that history
 pub record IsAnswer (query : Query) (history : List HistoryEntry) (text : List ℕ) : Type 0 where
@@ -84,9 +105,10 @@ IsReply (Err QueryMemory) history text = ⊥
 
 -- what a line writes over that history, and the history after it
 abbrev pub Writes : Contents → ScriptLine → List HistoryEntry → List ℕ → List HistoryEntry → Type 0
-Writes contents (Load file) history text now = Loads file.library (frames (contents file.path)) history text now
+Writes contents (Load told file) history text now = Loads told file.library (frames (contents file.path)) history text now
 Writes contents Export history text now = IsExport history text × (now ≡ history)
 Writes contents Works history text now = IsWorkList history text × (now ≡ history)
+Writes contents Notices history text now = (text ≡ []) × (now ≡ history)
 Writes contents (Ask line) history text now = IsReply (query_of line) history text × (now ≡ history)
 Writes contents Word history text now = (text ≡ refused_word) × (now ≡ history)
 
@@ -103,9 +125,10 @@ has_refused all = nat_lt 0 (length (refused all))
 
 -- the line is refused, or loads a file of which a frame is
 abbrev pub is_refused : Contents → ScriptLine → Bool
-is_refused contents (Load file) = has_refused (frames (contents file.path))
+is_refused contents (Load told file) = has_refused (frames (contents file.path))
 is_refused contents Export = false
 is_refused contents Works = false
+is_refused contents Notices = false
 is_refused contents (Ask line) = is_err (query_of line)
 is_refused contents Word = true
 

@@ -1,9 +1,9 @@
 //! One line of a script.
-ghost use Rattle.std.specs.Prelude.{◌≡◌, ◌∷◌, [], ℕ, List, false};
+ghost use Rattle.std.specs.Prelude.{◌≡◌, ◌∷◌, [], ℕ, List, false, OnOk};
 ghost use Rattle.union_words.specs.Meanings.{file_meaning};
 ghost use Rattle.union_words.specs.ScriptLines.{Load as LoadLine, script_line};
 ghost use Rattle.union_script.specs.Lines.{LinesRun, Says};
-ghost use Rattle.union_script.specs.Texts.{asked_by, IsExport, IsWorkList};
+ghost use Rattle.union_script.specs.Texts.{asked_by, IsExport, IsWorkList, tells_after, told_after, told_from, told_line};
 
 use crate::asking::run_ask;
 use crate::line_texts::REFUSED_WORD;
@@ -23,7 +23,7 @@ use union_words::lines::is_skipped;
 use union_words::script_line::ScriptLine;
 use union_words::status::Status;
 
-/// Loads a library's file, and writes its report.
+/// Loads a library's file, and writes the notices of its turns, where turns are told, and its report.
 fn run_load<L: Ledger, F: Shelf, O: Sink>(
     alloc: Global,
     file: &LibraryFile<'_>,
@@ -32,7 +32,8 @@ fn run_load<L: Ledger, F: Shelf, O: Sink>(
     out: &mut O,
 ) -> Result<bool, Status>
     ensures files { F.files shelf.new ≡ F.files shelf.old }
-    ensures run { LinesRun result (LoadLine (file_meaning file.now) ∷ []) union.old.catalogue union.new.catalogue
+    ensures told { OnOk result (union.new.told ≡ union.old.told) }
+    ensures run { LinesRun result (LoadLine union.old.told (file_meaning file.now) ∷ []) union.old.catalogue union.new.catalogue
         (record { files = F.files shelf.old; before = F.faults shelf.old; after = F.faults shelf.new })
         (record { old = O.written out.old; new = O.written out.new; before = O.faults out.old; after = O.faults out.new }) }
 {
@@ -76,7 +77,8 @@ fn run_line<L: Ledger, F: Shelf, O: Sink>(
     out: &mut O,
 ) -> Result<bool, Status>
     ensures files { F.files shelf.new ≡ F.files shelf.old }
-    ensures run { LinesRun result (script_line line.now ∷ []) union.old.catalogue union.new.catalogue
+    ensures told { OnOk result (union.new.told ≡ tells_after union.old.told (script_line line.now)) }
+    ensures run { LinesRun result (told_line union.old.told (script_line line.now) ∷ []) union.old.catalogue union.new.catalogue
         (record { files = F.files shelf.old; before = F.faults shelf.old; after = F.faults shelf.new })
         (record { old = O.written out.old; new = O.written out.new; before = O.faults out.old; after = O.faults out.new }) }
 {
@@ -84,6 +86,10 @@ fn run_line<L: Ledger, F: Shelf, O: Sink>(
         ScriptLine::Load(file) => run_load(alloc, &file, union, shelf, out),
         ScriptLine::Export => run_export(alloc, &union.catalogue, out),
         ScriptLine::Works => run_works(alloc, &union.catalogue, out),
+        ScriptLine::Notices => {
+            union.told = true;
+            Ok(false)
+        }
         ScriptLine::Ask(line) => run_ask(alloc, line, &union.catalogue, out),
         ScriptLine::Word => say(REFUSED_WORD, true, out),
     }
@@ -98,7 +104,9 @@ pub fn run_unskipped<L: Ledger, F: Shelf, O: Sink>(
     out: &mut O,
 ) -> Result<bool, Status>
     ensures files { F.files shelf.new ≡ F.files shelf.old }
-    ensures run { LinesRun result (asked_by (line.now ∷ [])) union.old.catalogue union.new.catalogue
+    ensures told { OnOk result (union.new.told
+        ≡ told_after union.old.told (asked_by (line.now ∷ []))) }
+    ensures run { LinesRun result (told_from union.old.told (asked_by (line.now ∷ []))) union.old.catalogue union.new.catalogue
         (record { files = F.files shelf.old; before = F.faults shelf.old; after = F.faults shelf.new })
         (record { old = O.written out.old; new = O.written out.new; before = O.faults out.old; after = O.faults out.new }) }
 {

@@ -1,5 +1,5 @@
 //! The lines of a script, one after the other.
-ghost use Rattle.std.specs.Prelude.{◌≡◌, ◌||◌};
+ghost use Rattle.std.specs.Prelude.{◌≡◌, ◌||◌, false};
 ghost use Rattle.union_script.specs.Lines.{LinesRun};
 ghost use Rattle.union_script.specs.Texts.{script_of};
 
@@ -19,7 +19,7 @@ fn either(one: bool, other: bool) -> bool
     one || other
 }
 
-/// Runs the lines of a script one after the other, and tells whether something in them was refused.
+/// Runs the lines of a script one after the other, on a union of which no turn is told yet, and tells whether something in them was refused.
 pub fn run_lines<L: Ledger, F: Shelf, O: Sink>(
     alloc: Global,
     script: &[u8],
@@ -27,6 +27,7 @@ pub fn run_lines<L: Ledger, F: Shelf, O: Sink>(
     shelf: &mut F,
     out: &mut O,
 ) -> Result<bool, Status>
+    requires { union.old.told ≡ false }
     ensures run { LinesRun result (script_of script.now) union.old.catalogue union.new.catalogue
         (record { files = F.files shelf.old; before = F.faults shelf.old; after = F.faults shelf.new })
         (record { old = O.written out.old; new = O.written out.new; before = O.faults out.old; after = O.faults out.new }) }

@@ -1,5 +1,5 @@
-//! The loading of a library's file: its batches are applied to the catalogue, and its report is made.
-ghost use Rattle.std.specs.Prelude.{◌≡◌};
+//! The loading of a library's file: its batches are applied to the catalogue, and the notices of their turns and its report are made.
+ghost use Rattle.std.specs.Prelude.{◌≡◌, [], OnOk};
 ghost use Rattle.iso2709_frame.specs.Frames.{frames};
 ghost use Rattle.library_batches.specs.Reading.{begun};
 ghost use Rattle.library_stream.specs.declared.frame_reader.TheConstants.{LARGEST_SOURCE};
@@ -7,8 +7,10 @@ ghost use Rattle.union_words.specs.Meanings.{file_meaning};
 ghost use Rattle.union_script.specs.Batches.{AreApplied, IsLoaded};
 ghost use Rattle.union_script.specs.Readings.{Reads, ReadsFile};
 
+use crate::noticing::apply_turn;
 use crate::stops::stopped_with;
 use crate::union::Union;
+use field_merge::preference::Preference;
 use library_batches::batch_reader::BatchReader;
 use library_batches::outcome_counts::OutcomeCounts;
 use library_batches::stop::Stop;
@@ -24,10 +26,7 @@ use union_words::input::Input;
 use union_words::library_file::LibraryFile;
 use union_words::status::Status;
 
-/// The number under which a script applies batches.
-const PASS: u32 = 0;
-
-/// The report of a library that was loaded.
+/// What is to be written of a library that was loaded.
 #[derive(Drop)]
 pub struct Report {
     pub text: Vec<u8>,
@@ -35,27 +34,38 @@ pub struct Report {
     pub refused: bool,
 }
 
-/// Applies the batches of a source one after the other, and counts what came of them.
+/// What came of a library's batches.
+#[derive(Drop)]
+pub struct Applied {
+    pub counts: OutcomeCounts,
+    /// The notices of their turns, where turns are told.
+    pub notices: Vec<u8>,
+}
+
+/// Applies the batches of a source one after the other, counts what came of them, and tells of their turns where turns are told.
 fn apply_batches<L: Ledger, S: Source>(
     alloc: Global,
     reader: &mut BatchReader,
     union: &mut Union<L>,
     source: &mut S,
-) -> Result<OutcomeCounts, Stop>
-    requires { reader.old ≡ begun reader.old.library LARGEST_SOURCE }
+) -> Result<Applied, Stop>
+    requires { reader.old ≡ begun [] reader.old.library LARGEST_SOURCE }
     ensures name { S.name source.new ≡ S.name source.old }
+    ensures told { OnOk result (union.new.told ≡ union.old.told) }
     ensures reads { Reads LARGEST_SOURCE result (record { told = S.left source.old; before = S.faults source.old; after = S.faults source.new })
-        (λ counts bytes. AreApplied reader.old.library (frames bytes) union.old.catalogue union.new.catalogue reader.new counts) }
+        (λ done bytes. AreApplied union.old.told reader.old.library (frames bytes)
+        union.old.catalogue union.new.catalogue reader.new done) }
 {
     let mut counts = OutcomeCounts::new();
+    let mut notices = Vec::new(alloc);
     while let Some(batch) = reader.next(alloc, source)? {
-        let found = union.catalogue.apply(alloc, PASS, batch, &mut union.steps)?;
+        let found = apply_turn(alloc, batch, union, &mut notices)?;
         counts.count(found.as_slice());
     }
-    Ok(counts)
+    Ok(Applied { counts, notices })
 }
 
-/// Loads a library's source.
+/// Loads a library's source. What is to be written of it is the notices of its turns, where turns are told, and then its report.
 fn load_source<L: Ledger, S: Source>(
     alloc: Global,
     library: &LibraryCode,
@@ -63,12 +73,17 @@ fn load_source<L: Ledger, S: Source>(
     source: &mut S,
 ) -> Result<Report, Stop>
     ensures name { S.name source.new ≡ S.name source.old }
+    ensures told { OnOk result (union.new.told ≡ union.old.told) }
     ensures reads { Reads LARGEST_SOURCE result (record { told = S.left source.old; before = S.faults source.old; after = S.faults source.new })
-        (λ report bytes. IsLoaded library.now (frames bytes) union.old.catalogue union.new.catalogue report) }
+        (λ report bytes. IsLoaded union.old.told library.now (frames bytes)
+        union.old.catalogue union.new.catalogue report) }
 {
-    let mut reader = BatchReader::open(alloc, library, LARGEST_SOURCE)?;
-    let counts = apply_batches(alloc, &mut reader, union, source)?;
-    let mut text = Vec::new(alloc);
+    let mut reader = BatchReader::open(alloc, &Preference::none(), library, LARGEST_SOURCE)?;
+    let applied = apply_batches(alloc, &mut reader, union, source)?;
+    let Applied {
+        counts,
+        notices: mut text,
+    } = applied;
     let refused = reader.refused();
     add_report(
         &mut text,
@@ -83,7 +98,7 @@ fn load_source<L: Ledger, S: Source>(
     })
 }
 
-/// Opens a library's file, loads it and gives it back.
+/// Opens a library's file, loads it and gives it back. Leaves alone whether turns are told.
 pub fn load_file<L: Ledger, F: Shelf>(
     alloc: Global,
     file: &LibraryFile<'_>,
@@ -91,9 +106,11 @@ pub fn load_file<L: Ledger, F: Shelf>(
     shelf: &mut F,
 ) -> Result<Report, Status>
     ensures files { F.files shelf.new ≡ F.files shelf.old }
+    ensures told { OnOk result (union.new.told ≡ union.old.told) }
     ensures reads { ReadsFile result (record { input = Input.Library file.now.library; path = (file_meaning file.now).path })
         (record { files = F.files shelf.old; before = F.faults shelf.old; after = F.faults shelf.new })
-        (λ report bytes. IsLoaded file.now.library (frames bytes) union.old.catalogue union.new.catalogue report) }
+        (λ report bytes. IsLoaded union.old.told file.now.library (frames bytes)
+        union.old.catalogue union.new.catalogue report) }
 {
     let input = Input::Library(file.library);
     let Ok(path) = Bytes::of(alloc, file.path) else {

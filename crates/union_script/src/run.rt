@@ -49,11 +49,19 @@ fn run_counted<L: Ledger, F: Shelf, O: Sink>(
     match empty_catalogue(alloc) {
         Ok(catalogue) => {
             let steps: Steps<L> = Steps::open(blank);
-            let mut union = Union { catalogue, steps };
-            let ended = run_lines(alloc, script, &mut union, shelf, out);
-            // The program ends after this, and the system takes all its memory back at once.
-            forget(union);
-            ended
+            let mut union = Union {
+                catalogue,
+                steps,
+                told: false,
+            };
+            match run_lines(alloc, script, &mut union, shelf, out) {
+                Ok(refused) => {
+                    // The program ends after this, and the system takes all its memory back at once.
+                    forget(union);
+                    Ok(refused)
+                }
+                Err(status) => Err(status),
+            }
         }
         Err(Memory) => Err(Status::Memory),
     }
@@ -92,6 +100,9 @@ fn end_by(refused: bool) -> Status
 /// input that they name failed, `WriteFault` only where a write failed, and `TooLong` exactly where the script has more than
 /// 1,048,576 bytes, or the first load of a file of more than 2^40 bytes. The first fault ends the run: what was written is then
 /// the text of the lines before it, or after `WriteFault` and `Memory` a prefix of the whole text.
+///
+/// After `Done` and `DoneWithRefusals` the memory of the catalogue is left standing, for the system to take back when the program
+/// ends; after any other status all of it is given back.
 pub fn script_run<F: Shelf, O: Sink>(
     alloc: Global,
     path: &Bytes,

@@ -8,4 +8,6 @@ use std::sync::ledger::Ledger;
 pub struct Union<L: Ledger> {
     pub catalogue: Catalogue,
     pub steps: Steps<L>,
+    /// Whether the turns of later loads are told: from a line `notices` on they are.
+    pub told: bool,
 }

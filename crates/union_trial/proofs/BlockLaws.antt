@@ -12,7 +12,6 @@ use Rattle.catalogue_core.specs.Ops.{op as op_of}
 use Rattle.catalogue_editions.specs.declared.batch.Batch.{Batch}
 use Rattle.catalogue_core.specs.declared.history_entry.HistoryEntry.{HistoryEntry}
 use Rattle.catalogue_editions.specs.declared.op.Op.{Op}
-use Rattle.catalogue_editions.specs.declared.op.TheConstants.{LARGEST_BATCH}
 use Rattle.library_batches.specs.Batches.{IsOpOf, IsBatchOf, AreBatches}
 use Rattle.library_batches.specs.Streams.{Frame, is_accepted, accepted}
 use Rattle.library_batches.proofs.BlockLaws.{IsBlockBefore, some_in, some_in-more, AreBatches-block}
@@ -45,12 +44,12 @@ asked-none library before = record { split = refl; asked = tt; own = refl }
 
 -- one frame more
 pub asked-more : (library : List ℕ) (before now rest taken : List Draws) (d : Draws) (ops : List Op) (one : Op) → AreAsked library before now taken ops
-    → now ≡ d ∷ rest → op_of library (record_of d) ≡ Some one → IsTrue (is_own_op library one)
+    → now ≡ d ∷ rest → op_of [] library (record_of d) ≡ Some one → IsTrue (is_own_op library one)
     → AreAsked library before rest (taken ++ d ∷ []) (ops ++ one ∷ [])
 asked-more library before now rest taken d ops one are next asks own = record {
   split = are.split ∙ (ap (λ later. taken ++ later) next ∙ sym (append_assoc taken (d ∷ []) rest));
-  asked = subst (λ all. AllZip (IsOpOf library) all (ops ++ one ∷ [])) (sym (map-append bytes_of taken (d ∷ [])))
-      (zip-push (IsOpOf library) (map bytes_of taken) ops (bytes_of d) one are.asked (record_of d, drawn-Spells d, asks));
+  asked = subst (λ all. AllZip (IsOpOf [] library) all (ops ++ one ∷ [])) (sym (map-append bytes_of taken (d ∷ [])))
+      (zip-push (IsOpOf [] library) (map bytes_of taken) ops (bytes_of d) one are.asked (record_of d, drawn-Spells d, asks));
   own = list_all-append (is_own_op library) ops (one ∷ []) ∙ and_from (list_all (is_own_op library) ops) (list_all (is_own_op library) (one ∷ [])) are.own (and_from (is_own_op library one) true own refl);
 }
 
@@ -63,9 +62,9 @@ accepted-all (d ∷ taken) =
     ∙ ap (λ rest. bytes_of d ∷ rest) (accepted-all taken)
 
 -- as many operations as frames were taken
-pub block-size : (library : List ℕ) (before now : List Draws) (ops : List Op) (block : IsBlockOf library before now ops) → length ops ≤ LARGEST_BATCH
+pub block-size : (library : List ℕ) (before now : List Draws) (ops : List Op) (block : IsBlockOf library before now ops) → length ops ≤ 256
 block-size library before now ops block =
-    let size : length (map bytes_of block.taken) ≡ length ops = zip-length (IsOpOf library) (map bytes_of block.taken) ops block.are.asked in
+    let size : length (map bytes_of block.taken) ≡ length ops = zip-length (IsOpOf [] library) (map bytes_of block.taken) ops block.are.asked in
     elim block.full [
       | inl whole ↦ omega (arith, size, length-map block.taken bytes_of)
       | inr last ↦ omega (arith, size, length-map block.taken bytes_of)
@@ -74,25 +73,25 @@ block-size library before now ops block =
 -- they make a batch, where there are any
 pub block-batch : (library : List ℕ) (before now : List Draws) (ops : List Op) → IsBlockOf library before now ops → 0 < length ops → IsTrue (is_batch library ops)
 block-batch library before now ops block some =
-    and_from (nat_le 1 (length ops) && nat_le (length ops) LARGEST_BATCH) (list_all (is_own_op library) ops)
+    and_from (nat_le 1 (length ops) && nat_le (length ops) 256) (list_all (is_own_op library) ops)
     (sized (length ops) some (block-size library before now ops block)) block.are.own
   where
-    sized : (n : ℕ) → 0 < n → n ≤ LARGEST_BATCH → (nat_le 1 n && nat_le n LARGEST_BATCH) ≡ true
+    sized : (n : ℕ) → 0 < n → n ≤ 256 → (nat_le 1 n && nat_le n 256) ≡ true
     sized n more most = grind (arith, nat_tests)
 
 -- batches of a library's stream were applied, and these draws are still to come
 pub record HasLoaded (seed count place : ℕ) (history now : List HistoryEntry) (still : List Draws) : Type 0 where
   pub batches : List Batch
   pub applied : now ≡ history ++ turns_of place batches
-  pub read : (later : List Batch) → AreBatches (library_code place) (map frame_of still) later
-      → AreBatches (library_code place) (stream seed count place) (batches ++ later)
+  pub read : (later : List Batch) → AreBatches [] (library_code place) (map frame_of still) later
+      → AreBatches [] (library_code place) (stream seed count place) (batches ++ later)
 
 pub loaded-none : (seed count place : ℕ) (history : List HistoryEntry) (still : List Draws) → still ≡ library_draws seed count place
     → HasLoaded seed count place history history still
 loaded-none seed count place history still is = record {
   batches = [];
   applied = sym (append-nil history);
-  read = λ later are. subst (λ draws. AreBatches (library_code place) (map frame_of draws) later) is are;
+  read = λ later are. subst (λ draws. AreBatches [] (library_code place) (map frame_of draws) later) is are;
 }
 
 -- one batch more
@@ -105,10 +104,10 @@ loaded-more seed count place history now then before still ops batch loaded bloc
   applied = applied ∙ ap (λ turns. turns ++ record { pass = place; batch = batch } ∷ []) loaded.applied
       ∙ append_assoc history (turns_of place loaded.batches) (record { pass = place; batch = batch } ∷ [])
       ∙ ap (λ turns. history ++ turns) (sym (map-append (λ (b : Batch). record { pass = place; batch = b }) loaded.batches (batch ∷ [])));
-  read = λ later are. subst (λ all. AreBatches library (stream seed count place) all) (sym (append_assoc loaded.batches (batch ∷ []) later))
-      (loaded.read (batch ∷ later) (subst (λ draws. AreBatches library (map frame_of draws) (batch ∷ later)) (sym block.are.split)
-      (subst (λ frames. AreBatches library frames (batch ∷ later)) (sym (map-append frame_of block.taken still))
-      (AreBatches-block library (map frame_of block.taken) (map frame_of still) batch later before_it has_ops is_batch_of are))));
+  read = λ later are. subst (λ all. AreBatches [] library (stream seed count place) all) (sym (append_assoc loaded.batches (batch ∷ []) later))
+      (loaded.read (batch ∷ later) (subst (λ draws. AreBatches [] library (map frame_of draws) (batch ∷ later)) (sym block.are.split)
+      (subst (λ frames. AreBatches [] library frames (batch ∷ later)) (sym (map-append frame_of block.taken still))
+      (AreBatches-block [] library (map frame_of block.taken) (map frame_of still) batch later before_it has_ops is_batch_of are))));
 }
   where
     library : List ℕ
@@ -117,17 +116,17 @@ loaded-more seed count place history now then before still ops batch loaded bloc
     before_it : IsBlockBefore (map frame_of block.taken) (map frame_of still)
     before_it = elim block.full [
       | inl whole ↦ inl (length-map block.taken frame_of ∙ whole)
-      | inr last ↦ inr (ap (map frame_of) last.0, subst (λ n. n ≤ LARGEST_BATCH) (sym (length-map block.taken frame_of)) last.1)
+      | inr last ↦ inr (ap (map frame_of) last.0, subst (λ n. n ≤ 256) (sym (length-map block.taken frame_of)) last.1)
     ]
 
     has_ops : some_in batch.ops ≡ true
     has_ops = ap some_in asks ∙ some_in-more ops some
 
-    is_batch_of : IsBatchOf library (map frame_of block.taken) batch
+    is_batch_of : IsBatchOf [] library (map frame_of block.taken) batch
     is_batch_of = record {
       library_is = own;
-      ops = subst (λ all. AllZip (IsOpOf library) (accepted (map frame_of block.taken)) all) (sym asks)
-          (subst (λ frames. AllZip (IsOpOf library) frames ops) (sym (accepted-all block.taken)) block.are.asked);
+      ops = subst (λ all. AllZip (IsOpOf [] library) (accepted (map frame_of block.taken)) all) (sym asks)
+          (subst (λ frames. AllZip (IsOpOf [] library) frames ops) (sym (accepted-all block.taken)) block.are.asked);
     }
 
 none_taken : {A B : Type 0} (f : A → B) (xs : List A) → length (map f xs) ≡ 0 → xs ≡ []
@@ -140,16 +139,16 @@ pub loaded-all : (seed count place : ℕ) (history now : List HistoryEntry) (bef
     → Loads seed count place history now
 loaded-all seed count place history now before still ops loaded block none = record {
   batches = loaded.batches;
-  read = subst (λ all. AreBatches (library_code place) (stream seed count place) all) (append-nil loaded.batches)
-      (loaded.read [] (subst (λ draws. AreBatches (library_code place) (map frame_of draws) []) (sym empty) tt));
+  read = subst (λ all. AreBatches [] (library_code place) (stream seed count place) all) (append-nil loaded.batches)
+      (loaded.read [] (subst (λ draws. AreBatches [] (library_code place) (map frame_of draws) []) (sym empty) tt));
   applied = loaded.applied;
 }
   where
-    zip : AllZip (IsOpOf (library_code place)) (map bytes_of block.taken) ops
+    zip : AllZip (IsOpOf [] (library_code place)) (map bytes_of block.taken) ops
     zip = block.are.asked
 
     nothing : block.taken ≡ []
-    nothing = none_taken bytes_of block.taken (zip-length (IsOpOf (library_code place)) (map bytes_of block.taken) ops zip ∙ none)
+    nothing = none_taken bytes_of block.taken (zip-length (IsOpOf [] (library_code place)) (map bytes_of block.taken) ops zip ∙ none)
 
     last : still ≡ []
     last = elim block.full [
@@ -163,6 +162,6 @@ loaded-all seed count place history now before still ops loaded block none = rec
 -- fewer draws are still to come after a block with operations
 pub block-fewer : (library : List ℕ) (before still : List Draws) (ops : List Op) → IsBlockOf library before still ops → 0 < length ops → length still < length before
 block-fewer library before still ops block some =
-    let zip : length (map bytes_of block.taken) ≡ length ops = zip-length (IsOpOf library) (map bytes_of block.taken) ops block.are.asked in
+    let zip : length (map bytes_of block.taken) ≡ length ops = zip-length (IsOpOf [] library) (map bytes_of block.taken) ops block.are.asked in
     let split : length before ≡ length block.taken + length still = ap length block.are.split ∙ length-append block.taken still in
     omega (arith, zip, split, some, length-map block.taken bytes_of)

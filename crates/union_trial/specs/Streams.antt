@@ -28,7 +28,7 @@ turns_of place batches = map (λ batch. record { pass = place; batch = batch }) 
 -- the stream of the library at that place is loaded: its batches are applied one after the other
 pub record Loads (seed count place : ℕ) (history now : List HistoryEntry) : Type 0 where
   pub batches : List Batch
-  pub read : AreBatches (library_code place) (stream seed count place) batches
+  pub read : AreBatches [] (library_code place) (stream seed count place) batches
   pub applied : now ≡ history ++ turns_of place batches
 
 -- the streams of so many libraries are loaded, one after the other

@@ -1,5 +1,5 @@
 //! What the frame of some draws asks for.
-ghost use Rattle.std.specs.Prelude.{◌≡◌, IfOk, IsTrue, OnOk, Some};
+ghost use Rattle.std.specs.Prelude.{◌≡◌, [], IfOk, IsTrue, OnOk, Some};
 ghost use Rattle.marc_fields.specs.Spelling.{spelling};
 ghost use Rattle.catalogue_core.specs.Batches.{is_own_op};
 ghost use Rattle.catalogue_core.specs.Ops.{op};
@@ -9,6 +9,7 @@ use crate::draws::Draws;
 use crate::records::record_of;
 use catalogue_core::op::Op;
 use catalogue_core::records::op_of;
+use field_merge::preference::Preference;
 use iso2709_frame::cut::Cut;
 use marc_fields::encoding::{EncodeRefusal, encode};
 use marc_rules::check::{Refusal, check_frame};
@@ -32,7 +33,7 @@ pub(crate) fn write_frame(alloc: Global, draws: &Draws, frame: &mut Vec<u8>) -> 
     }
 }
 
-/// The operation that the frame of the draws asks for, as a record of that library. The frame is written into the buffer,
+/// The operation that the frame of the draws asks for, as a record of that library, with no library preferred to another. The frame is written into the buffer,
 /// and checked as one that is read.
 ///
 /// Returns `Memory` if allocation fails. No frame of the generator is refused.
@@ -42,12 +43,12 @@ pub fn operation(
     draws: &Draws,
     frame: &mut Vec<u8>,
 ) -> Result<Op, Memory>
-    ensures value { IfOk result (λ done. op library.now (record_of draws.now) ≡ Some done) }
+    ensures value { IfOk result (λ done. op [] library.now (record_of draws.now) ≡ Some done) }
     ensures own { IfOk result (λ done. IsTrue (is_own_op library.now done)) }
 {
     write_frame(alloc, draws, frame)?;
     match check_frame(alloc, Cut::Whole, frame.as_slice()) {
-        Ok(rec) => op_of(alloc, library, rec),
+        Ok(rec) => op_of(alloc, &Preference::none(), library, rec),
         Err(Refusal::Memory) => Err(Memory),
         Err(Refusal::Rule { rule: _, place: _ }) => unreachable!(),
     }

@@ -46,7 +46,7 @@ fn add_line(text: &mut Vec<u8>, frames: u32, measures: &Measures) -> Result<(), 
     Ok(())
 }
 
-/// The line of a trial, with the match tests counted in a ledger of their own.
+/// The line of a trial and the catalogue that it tells of, with the match tests counted in a ledger of their own.
 fn text_by<R: Threads + Sync, L: Ledger>(
     rt: &R,
     alloc: Global,
@@ -54,7 +54,7 @@ fn text_by<R: Threads + Sync, L: Ledger>(
     count: u32,
     workers: u32,
     blank: Blank,
-) -> Result<Vec<u8>, Memory>
+) -> Result<(Vec<u8>, Catalogue), Memory>
     requires name { blank.name ≡ L.name }
     requires parts { blank.parts ≡ L.parts }
     requires some { 0 < L.parts }
@@ -62,42 +62,43 @@ fn text_by<R: Threads + Sync, L: Ledger>(
     requires count_most { count ≤ MOST_FRAMES }
     requires some_worker { 1 ≤ workers }
     requires most_workers { workers ≤ 64 }
-    ensures { IfOk result (λ text. IsTrialText seed count text.items) }
+    ensures { IfOk result (λ told. IsTrialText seed count told.0.items) }
 {
     let mut catalogue = Catalogue::empty(alloc)?;
     let mut steps: Steps<L> = Steps::open(blank);
     load_all(rt, alloc, seed, count, workers, &mut catalogue, &mut steps)?;
     let measures = measured(alloc, &catalogue)?;
-    // The program ends after this, and the system takes all its memory back at once.
-    forget(catalogue);
     let mut text = Vec::new(alloc);
     add_line(&mut text, count, &measures)?;
-    Ok(text)
+    Ok((text, catalogue))
 }
 
-/// The line of a trial.
+/// The line of a trial, and the catalogue that it tells of.
 fn trial_text<R: Threads + Sync>(
     rt: &R,
     alloc: Global,
     seed: u64,
     count: u32,
     workers: u32,
-) -> Result<Vec<u8>, Memory>
+) -> Result<(Vec<u8>, Catalogue), Memory>
     requires some { 0 < count }
     requires most { count ≤ MOST_FRAMES }
     requires some_worker { 1 ≤ workers }
     requires most_workers { workers ≤ 64 }
-    ensures { IfOk result (λ text. IsTrialText seed count text.items) }
+    ensures { IfOk result (λ told. IsTrialText seed count told.0.items) }
 {
     text_by::<R, Brand>(rt, alloc, seed, count, workers, Blank::new(1))
 }
 
-/// Generates so many records from the seed, loads them as those of three libraries, one library after the other, each batch
-/// prepared by so many workers, and writes one line of what came of it: the numbers of generated frames, of current records, editions, works, and of the export's
-/// bytes.
+/// Generates `count` records from the seed, loads them as those of three libraries, one library after the other, each batch
+/// prepared by `workers` workers, and writes one line of what came of it: the numbers of generated frames, of current records,
+/// editions, works, and of the export's bytes.
 ///
 /// `Done` means that the line was written. `WriteFault` comes only where a write failed; a prefix of the line was written then.
 /// `Memory` comes where memory ran out; nothing was written then. No other status comes: no generated frame is refused.
+///
+/// After `Done` the memory of the catalogue is left standing, for the system to take back when the program ends; after any other
+/// status all of it is given back.
 pub fn trial_run<R: Threads + Sync, O: Sink>(
     rt: &R,
     alloc: Global,
@@ -113,8 +114,12 @@ pub fn trial_run<R: Threads + Sync, O: Sink>(
     ensures { IsTrial seed count (record { old = O.written out.old; new = O.written out.new; before = O.faults out.old; after = O.faults out.new }) result }
 {
     match trial_text(rt, alloc, seed, count, workers) {
-        Ok(text) => match put_all(out, text.as_slice()) {
-            Ok(()) => Status::Done,
+        Ok((text, catalogue)) => match put_all(out, text.as_slice()) {
+            Ok(()) => {
+                // The program ends after this, and the system takes all its memory back at once.
+                forget(catalogue);
+                Status::Done
+            }
             Err(Failed) => Status::WriteFault,
         },
         Err(Memory) => Status::Memory,

@@ -20,4 +20,4 @@ returns-in-Ok-clause-value c =
     let d = c.args.draws.now in
     let spelled : Spells (spelling (record_of d)) c.in-Ok.rec = rw (c.as_slice.ensures.value, c.in_ok-write_frame.ensures) at c.in-Ok.ensures.first.1 in
     let same : c.in-Ok.rec ≡ record_of d = Spells-one (spelling (record_of d)) c.in-Ok.rec (record_of d) spelled (drawn-Spells d) in
-    rw (sym same) c.op_of.ensures.value
+    rw (sym same) (rw c.none.ensures at c.op_of.ensures.value)

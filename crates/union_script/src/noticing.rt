@@ -1,0 +1,87 @@
+//! The turns of a load, and what is told of them.
+ghost use Rattle.std.specs.Prelude.{◌≡◌, ◌++◌, List, ℕ, IfOk, OnOk};
+ghost use Rattle.catalogue_core.specs.Histories.{current, outcomes};
+ghost use Rattle.catalogue_editions.specs.declared.edition.Edition.{Edition};
+ghost use Rattle.change_notices.specs.Followers.{AreHeld};
+ghost use Rattle.edition_blocks.specs.Deltas.{IsDelta};
+ghost use Rattle.union_script.specs.Notices.{IsNotice, TellsTurn, notice_text, with_turn};
+
+use crate::line_texts::{add_lines, add_six_digits};
+use crate::union::Union;
+use catalogue_core::batch::Batch;
+use catalogue_core::catalogue::Catalogue;
+use catalogue_core::delta::Delta;
+use catalogue_core::outcome::Outcome;
+use change_notices::laws::resolutions_can_be_held;
+use change_notices::notice::notice;
+use merge_laws::steps::Steps;
+use std::alloc::Global;
+use std::sync::ledger::Ledger;
+use union_base::memory::Memory;
+
+/// The number under which a script applies batches.
+const PASS: u32 = 0;
+
+/// Adds the notice of the turn of that number, which has that delta: `notice T`, and then the lines on each edition that was
+/// closed or opened. Returns `Memory` if allocation fails.
+fn add_notice(alloc: Global, text: &mut Vec<u8>, turn: u64, delta: &Delta) -> Result<(), Memory>
+    ensures { OnOk result ((before after : List Edition) → AreHeld before → AreHeld after
+        → IsDelta before after delta.now.closed.items delta.now.opened.items
+        → text.new.items ≡ text.old.items
+        ++ notice_text turn before after delta.now.closed.items delta.now.opened.items) }
+{
+    let lines = notice(alloc, delta)?;
+    text.extend_from_slice(b"notice ")?;
+    add_six_digits(text, turn)?;
+    text.push(b'\n')?;
+    add_lines(text, lines.as_slice())?;
+    Ok(())
+}
+
+/// Applies a batch to the catalogue, adds the notice of its turn to the text, and answers what came of the operations. Returns
+/// `Memory` if allocation fails.
+fn apply_noticed<L: Ledger>(
+    alloc: Global,
+    batch: Batch,
+    catalogue: &mut Catalogue,
+    steps: &mut Steps<L>,
+    text: &mut Vec<u8>,
+) -> Result<Vec<Outcome>, Memory>
+    ensures appended { OnOk result (catalogue.new ≡ with_turn catalogue.old batch) }
+    ensures outcomes { IfOk result (λ found. found.items
+        ≡ outcomes batch.library (current catalogue.old) batch.ops) }
+    ensures notice { OnOk result ((told : List ℕ) × IsNotice catalogue.old batch told
+        × (text.new.items ≡ text.old.items ++ told)) }
+{
+    // The counts are not used: their clauses say that there are editions before the turn, and after it, for the notice to tell of.
+    // A follower can hold them.
+    let _before = catalogue.edition_count();
+    let (found, delta) = catalogue.apply_told(alloc, PASS, batch, steps)?;
+    let _after = catalogue.edition_count();
+    resolutions_can_be_held();
+    add_notice(alloc, text, catalogue.turns(), &delta)?;
+    Ok(found)
+}
+
+/// Applies a batch, and answers what came of its operations. Where turns are told, the notice of the turn is added to the text.
+/// Returns `Memory` if allocation fails.
+pub fn apply_turn<L: Ledger>(
+    alloc: Global,
+    batch: Batch,
+    union: &mut Union<L>,
+    text: &mut Vec<u8>,
+) -> Result<Vec<Outcome>, Memory>
+    ensures told { OnOk result (union.new.told ≡ union.old.told) }
+    ensures appended { OnOk result (union.new.catalogue ≡ with_turn union.old.catalogue batch) }
+    ensures outcomes { IfOk result (λ found. found.items
+        ≡ outcomes batch.library (current union.old.catalogue) batch.ops) }
+    ensures tells { OnOk result ((said : List ℕ)
+        × TellsTurn union.old.told union.old.catalogue batch said
+        × (text.new.items ≡ text.old.items ++ said)) }
+{
+    if union.told {
+        apply_noticed(alloc, batch, &mut union.catalogue, &mut union.steps, text)
+    } else {
+        union.catalogue.apply(alloc, PASS, batch, &mut union.steps)
+    }
+}
