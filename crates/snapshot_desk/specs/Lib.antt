@@ -1,0 +1,4 @@
+pub mod Counting
+pub mod Posting
+pub mod States
+pub mod Answering

@@ -1,0 +1,7 @@
+//! The tests of snapshot_desk: a published entry, what a note tells, and a viewer that asks in another thread.
+//!
+//! They stand in a crate of their own since a crate with tests is proved twice, with them and without.
+#![tactic(auto)]
+
+#[cfg(test)]
+mod snapshot_desk_tests;
