@@ -1,0 +1,86 @@
+#!/usr/bin/env python3
+"""Makes records whose control numbers collide in the index: bench/colliding.py COUNT > FILE
+
+The index is a hash map of the kit (indexmap) with the kit's hasher FoldHasher: it multiplies 16 bytes at a time to 128 bits and joins the
+halves by xor, from a state that is the same in every run. Where the first 8 of 16 bytes are the state itself, the product is 0 and so is
+the state after it, whatever the other 8 bytes are. So a source is looked for after which the state is 8 printable bytes, and all
+numbers that begin with these 8 bytes and have 16 are alike to the hasher.
+"""
+import sys
+
+MULTIPLIER = 0x9E3779B97F4A7C15
+INITIAL = 0x243F6A8885A308D3
+WORD = 2**64 - 1
+SUFFIX = "ABCDEFGHIJKLMNOPQRSTUVWXYZabcdefghijklmnopqrstuvwxyz0123456789"
+
+
+def folded(a, b):
+    product = a * b
+    return (product & WORD) ^ (product >> 64)
+
+
+def number_at(text, at, size):
+    return int.from_bytes(text[at : at + size], "little")
+
+
+def short(text):
+    if len(text) >= 4:
+        return number_at(text, 0, 4) | number_at(text, len(text) - 4, 4) << 32
+    if text:
+        return text[0] | text[len(text) // 2] << 8 | text[-1] << 16
+    return 0
+
+
+def written(state, text):
+    """The hasher's state after these bytes."""
+    size = len(text)
+    if size <= 8:
+        return folded(state ^ short(text), MULTIPLIER ^ 2 * size)
+    state, at = (state + size) & WORD, 0
+    while size - at > 16:
+        state = folded(number_at(text, at, 8) ^ state, number_at(text, at + 8, 8) ^ MULTIPLIER)
+        at += 16
+    return folded(number_at(text, max(size - 16, 0), 8) ^ state, number_at(text, size - 8, 8) ^ MULTIPLIER)
+
+
+def hash_of(source, number):
+    """The hash of a control pair: the number of its kind, and its two texts, each with a byte 0xFF after it."""
+    state = INITIAL
+    for piece in (b"\0", source, b"\xff", number, b"\xff"):
+        state = written(state, piece)
+    return state
+
+
+def colliding():
+    """A source, and the 8 bytes with which numbers of 16 bytes have to begin."""
+    for at in range(10**7):
+        source = b"S%d" % at
+        state = INITIAL
+        for piece in (b"\0", source, b"\xff"):
+            state = written(state, piece)
+        first = ((state + 16) & WORD).to_bytes(8, "little")
+        if all(0x21 <= byte <= 0x7E for byte in first):
+            return source, first
+    raise ValueError("no source is found")
+
+
+def suffix(at):
+    """Eight letters and digits that differ for each number."""
+    text = ""
+    for _ in range(8):
+        at, digit = divmod(at, len(SUFFIX))
+        text += SUFFIX[digit]
+    return text.encode()
+
+
+def colliding_pairs(count):
+    source, first = colliding()
+    pairs = [(source, first + suffix(at)) for at in range(count)]
+    assert len({hash_of(*pair) for pair in pairs[:1000]}) == 1
+    return pairs
+
+
+if __name__ == "__main__":
+    from hostile_records import with_pairs
+
+    sys.stdout.buffer.write(with_pairs(colliding_pairs(int(sys.argv[1]))))

@@ -1,0 +1,201 @@
+//! Runs of two sessions by two workers whose turns a gate holds.
+use crate::files::{Ended, Files, NONE, run, shelf_of, sink, words_of};
+use crate::gates::{MeetingGate, Met, OrderGate};
+use crate::records::numbered;
+use crate::report::{add_ended, add_number};
+use catalogue_core::catalogue::Catalogue;
+use catalogue_export::export::export;
+use field_merge::preference::Preference;
+use std::alloc::Global;
+use std::sync::Wait;
+use std::thread::Threads;
+use union_base::memory::Memory;
+use union_io::gate::OpenGate;
+use union_sessions::sessions::load_by_sessions;
+use union_words::libraries::Libraries;
+use union_words::loading::Loading;
+use union_words::status::Status;
+use union_words::workers::Workers;
+
+/// What two sessions are held at.
+#[derive(Clone, Copy)]
+pub enum What {
+    /// The sessions alone: what is written is the export, and on the second output the numbers of the sessions in the order of their
+    /// first two turns.
+    Sessions,
+    Watch,
+    Export,
+}
+
+/// The number of records that makes a second batch.
+const TWO_BATCHES: u32 = 257;
+
+/// What that word asks for.
+pub fn what_of(word: &str) -> Option<What> {
+    match word {
+        "sessions" => Some(What::Sessions),
+        "watch" => Some(What::Watch),
+        "export" => Some(What::Export),
+        _ => None,
+    }
+}
+
+/// The line of the sessions of the first two turns.
+fn turns_line(alloc: Global, catalogue: &Catalogue) -> Result<Vec<u8>, Memory> {
+    let mut text = Vec::new(alloc);
+    text.extend_from_slice(b"turns")?;
+    for turn in 0..catalogue.turns() {
+        if turn < 2 {
+            text.extend_from_slice(b" ")?;
+            add_number(&mut text, catalogue.entry(turn).pass as u64)?;
+        }
+    }
+    text.extend_from_slice(b"\n")?;
+    Ok(text)
+}
+
+fn exported(alloc: Global, catalogue: &Catalogue) -> Result<Vec<u8>, Memory> {
+    let mut out = sink(alloc, &[])?;
+    let mut left = Vec::new(alloc);
+    match export(alloc, catalogue, &mut out, &mut left) {
+        Ok(()) => Ok(out.content().to_vec(alloc)?),
+        Err(_) => Err(Memory),
+    }
+}
+
+/// A run that ended so and wrote nothing.
+fn quiet(alloc: Global, status: Status) -> Ended {
+    Ended {
+        number: status.exit_number(),
+        out: Vec::new(alloc),
+        notes: Vec::new(alloc),
+    }
+}
+
+fn run_sessions_held<R: Threads + Wait + Sync, G: Met>(
+    rt: &R,
+    alloc: Global,
+    gate: &G,
+) -> Result<Ended, Memory> {
+    let mut shelf = shelf_of(alloc, &NONE)?;
+    let words = words_of(alloc, b"LIBA=a LIBB=b")?;
+    let (Some(libraries), Some(workers)) = (Libraries::read(words.as_slice()), Workers::read(b"2"))
+    else {
+        return Ok(quiet(alloc, Status::Usage));
+    };
+    let loading = Loading {
+        workers,
+        prefer: Preference::none(),
+        libraries,
+    };
+    match load_by_sessions(rt, alloc, &loading, &mut shelf, gate) {
+        Ok(loaded) => Ok(Ended {
+            number: 0,
+            out: exported(alloc, &loaded.catalogue)?,
+            notes: turns_line(alloc, &loaded.catalogue)?,
+        }),
+        Err(status) => Ok(quiet(alloc, status)),
+    }
+}
+
+/// Runs two sessions, by two workers, whose turns the gate holds.
+pub fn run_held<R: Threads + Wait + Sync, G: Met>(
+    rt: &R,
+    alloc: Global,
+    what: What,
+    gate: &G,
+) -> Result<Ended, Memory> {
+    match what {
+        What::Sessions => run_sessions_held(rt, alloc, gate),
+        What::Watch => {
+            let line = b"watch --ask=q --workers=2 LIBA=a LIBB=b";
+            run(rt, alloc, line, &NONE, gate)
+        }
+        What::Export => {
+            let line = b"export --workers=2 LIBA=a LIBB=b";
+            run(rt, alloc, line, &NONE, gate)
+        }
+    }
+}
+
+/// The runs that each gate holds, and their names.
+const HELD: [(What, &[u8]); 3] = [
+    (What::Sessions, b"sessions"),
+    (What::Watch, b"watch"),
+    (What::Export, b"export"),
+];
+
+/// Adds whether what the gate waited for came.
+fn add_met<G: Met>(text: &mut Vec<u8>, gate: &G) -> Result<(), Memory> {
+    if gate.is_met() {
+        text.extend_from_slice(b"  the gate was passed\n")?;
+    } else {
+        text.extend_from_slice(b"  the looks ran out\n")?;
+    }
+    Ok(())
+}
+
+/// Adds how the runs ended of which the second session had its first turn before the first session had.
+fn tell_ordered<R: Threads + Wait + Sync>(
+    rt: &R,
+    alloc: Global,
+    looks: u64,
+    text: &mut Vec<u8>,
+) -> Result<(), Memory> {
+    for (what, name) in HELD {
+        let gate = OrderGate::new(looks, 0);
+        let ended = run_held(rt, alloc, what, &gate)?;
+        text.extend_from_slice(b"the second session first, ")?;
+        add_ended(text, name, &ended)?;
+        add_met(text, &gate)?;
+    }
+    Ok(())
+}
+
+/// Adds how the runs ended whose sessions met before their first turns. Either order of the turns is right, so their outputs are not told,
+/// but whether the export is that of one worker.
+fn tell_meeting<R: Threads + Wait + Sync>(
+    rt: &R,
+    alloc: Global,
+    looks: u64,
+    text: &mut Vec<u8>,
+) -> Result<(), Memory> {
+    let line = b"export --workers=1 LIBA=a LIBB=b";
+    let serial = run(rt, alloc, line, &NONE, &OpenGate)?;
+    for (what, name) in HELD {
+        let gate = MeetingGate::new(looks);
+        let ended = run_held(rt, alloc, what, &gate)?;
+        text.extend_from_slice(b"sessions that meet, ")?;
+        text.extend_from_slice(name)?;
+        text.extend_from_slice(b": status ")?;
+        add_number(text, ended.number as u64)?;
+        text.extend_from_slice(b"\n")?;
+        if ended.out.as_slice() == serial.out.as_slice() {
+            text.extend_from_slice(b"  the export is that of one worker\n")?;
+        }
+        add_met(text, &gate)?;
+    }
+    Ok(())
+}
+
+/// Adds how the runs ended that gates held for at most so many looks.
+pub fn tell_held<R: Threads + Wait + Sync>(
+    rt: &R,
+    alloc: Global,
+    looks: u64,
+    text: &mut Vec<u8>,
+) -> Result<(), Memory> {
+    tell_ordered(rt, alloc, looks, text)?;
+    tell_meeting(rt, alloc, looks, text)?;
+    let second = numbered(alloc, TWO_BATCHES)?;
+    let files = Files {
+        second: second.as_slice(),
+        ..NONE
+    };
+    let gate = OrderGate::new(looks, 1);
+    let line = b"watch --ask=q --workers=2 LIBA=a LIBB=b";
+    let ended = run(rt, alloc, line, &files, &gate)?;
+    text.extend_from_slice(b"two turns of the second session first, ")?;
+    add_ended(text, b"watch", &ended)?;
+    add_met(text, &gate)
+}
