@@ -44,3 +44,18 @@ spent() {
     [ "$status" -le 1 ] || { cat "$work/notes" >&2; exit 1; }
     cat "$work/spent"
 }
+
+# Eight libraries of that many records in all, in the folder libraries, and the lines of a script that load them (the file loads) and
+# their later corrections and withdrawals (the file later).
+make_night() {
+    rm -rf "$work/libraries"
+    python3 "$maker" 1 8 "$1" "$work/libraries" >"$work/notes"
+    : >"$work/loads"
+    : >"$work/later"
+    number=0
+    for file in "$work"/libraries/*.upd.mrc; do
+        number=$((number + 1))
+        echo "load L$number ${file%.upd.mrc}.mrc" >>"$work/loads"
+        echo "load L$number $file" >>"$work/later"
+    done
+}

@@ -14,16 +14,7 @@ need_union
 [ $# -ge 1 ] || set -- 10000 20000 40000 80000
 
 for size in "$@"; do
-    rm -rf "$work/libraries"
-    python3 "$maker" 1 8 "$size" "$work/libraries" >"$work/notes"
-    : >"$work/loads"
-    : >"$work/later"
-    number=0
-    for file in "$work"/libraries/*.upd.mrc; do
-        number=$((number + 1))
-        echo "load L$number ${file%.upd.mrc}.mrc" >>"$work/loads"
-        echo "load L$number $file" >>"$work/later"
-    done
+    make_night "$size"
     { cat "$work/loads"; echo count; } >"$work/first"
     { cat "$work/loads" "$work/later"; echo count; } >"$work/all"
     first=$(spent "$program" script "$work/first")

@@ -22,16 +22,7 @@ least() {
 }
 
 for size in "$@"; do
-    rm -rf "$work/libraries"
-    python3 "$maker" 1 8 "$size" "$work/libraries" >"$work/notes"
-    : >"$work/loads"
-    : >"$work/later"
-    number=0
-    for file in "$work"/libraries/*.upd.mrc; do
-        number=$((number + 1))
-        echo "load L$number ${file%.upd.mrc}.mrc" >>"$work/loads"
-        echo "load L$number $file" >>"$work/later"
-    done
+    make_night "$size"
     cat "$work/loads" "$work/later" >"$work/all"
     { cat "$work/loads"; echo notices; cat "$work/later"; } >"$work/told"
     first=$(least "$work/loads")
@@ -40,7 +31,11 @@ for size in "$@"; do
     lines=$(grep -c '^closed \|^opened \|^ ' "$work/out")
     echo "$(cat "$work"/libraries/*.upd.mrc | records) $lines $first $all $told" | awk '{
         plain = $4 - $3; told = $5 - $3
-        printf "%d later records: %.2f s without notices, %.2f s with (%d lines), %.2f times as long\n", \
-            $1, plain, told, $2, told / (plain > 0.01 ? plain : 0.01)
+        if (plain < 0.05) {
+            printf "%d later records: %.2f s without notices, %.2f s with (%d lines): too short to compare\n", $1, plain, told, $2
+        } else {
+            printf "%d later records: %.2f s without notices, %.2f s with (%d lines), %.2f times as long\n", \
+                $1, plain, told, $2, told / plain
+        }
     }'
 done
