@@ -13,6 +13,7 @@ pub record Authority : Type 0 where
   pub established : List ℕ
   pub variants : List (List ℕ)
 
+-- the record with these headings
 abbrev pub authority : List ℕ → List (List ℕ) → Authority
 authority established variants = record { established = established; variants = variants }
 

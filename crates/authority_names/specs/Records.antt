@@ -21,13 +21,16 @@ is_authority kind = kind == 0x7A
 abbrev pub is_plain : List ℕ → Bool
 is_plain text = list_all (λ b. nat_le b 0x7F && not (b == 0x1B)) text
 
+-- the same of a subfield's text
 abbrev pub is_plain_subfield : Subfield → Bool
 is_plain_subfield s = is_plain s.text
 
+-- the same of each text of a field's body
 abbrev pub is_plain_body : Body → Bool
 is_plain_body (Control text) = is_plain text
 is_plain_body (Data ind1 ind2 subfields) = list_all is_plain_subfield subfields
 
+-- the same of a field
 abbrev pub is_plain_field : Field → Bool
 is_plain_field f = is_plain_body f.body
 

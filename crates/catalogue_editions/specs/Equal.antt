@@ -11,6 +11,7 @@ use Rattle.catalogue_editions.specs.declared.edition.Edition.{Edition}
 use Rattle.catalogue_editions.specs.declared.op.Op.{Op}
 use Rattle.catalogue_editions.specs.declared.batch.Batch.{Batch}
 
+-- editions with the same features and the same content are one
 pub same_editions : (x y : Edition) → x.features ≡ y.features → x.content ≡ y.content → x ≡ y
 same_editions x y features content =
     let linked : ◌≡◌ {A = (d : Features × Content) × IsTrue (are_linked d.1.contributors d.0.control)} ((x.features, x.content), x.linked) ((y.features, y.content), y.linked) =

@@ -82,5 +82,6 @@ tells_key_eq eq t (TitleOfMany a) (Issn b) = t.many_issn a b
 tells_key_eq eq t (TitleOfMany a) (Title b) = t.many_title a b
 tells_key_eq eq t (TitleOfMany a) (TitleAndName q) = t.many_pair a q
 
+-- keys that the test finds equal are one key
 pub exact_keys : {eq : FeatureKey → FeatureKey → Bool} → TellsKeys eq → (j k : FeatureKey) → eq j k ≡ true → j ≡ k
 exact_keys {eq} t j k h = features_keys_exact j k (sym (tells_key_eq eq t j k) ∙ h)

@@ -5,6 +5,7 @@ use Rattle.field_merge.specs.MergingLaws.{join_laws}
 use Rattle.catalogue_editions.specs.Equal.{same_editions}
 use Rattle.catalogue_editions.specs.Joining.{join}
 
+-- to merge editions is idempotent, commutative and associative
 pub edition_join_laws : JoinLaws join
 edition_join_laws = record {
   idempotent = λ x. same_editions (join x x) x (features_join_laws.idempotent x.features) (join_laws.idempotent x.content);

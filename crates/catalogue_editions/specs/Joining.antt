@@ -5,6 +5,7 @@ use Rattle.catalogue_editions.specs.LinkedLaws.{linked-union}
 use Rattle.catalogue_editions.specs.SoundLaws.{sound-join}
 use Rattle.catalogue_editions.specs.declared.edition.Edition.{Edition}
 
+-- two editions merged: their features and their contents are
 abbrev pub join : Edition → Edition → Edition
 join x y = record {
   features = join_features x.features y.features;

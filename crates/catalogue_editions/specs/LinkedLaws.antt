@@ -31,6 +31,7 @@ linked-right c d =
     all-weaker (λ id. has pairs_cmp d (own_pair id)) (λ id. has pairs_cmp (union pairs_cmp c d) (own_pair id))
     (λ id h. has-union pairs_total c d (own_pair id) ∙ or_right (has pairs_cmp c (own_pair id)) _ h)
 
+-- where each contributor's own pair is among the control pairs, on both sides, it is among their unions
 pub linked-union : (a b : List RecordId) (c d : List (List ℕ × List ℕ)) → IsTrue (are_linked a c) → IsTrue (are_linked b d)
     → IsTrue (are_linked (union id_cmp a b) (union pairs_cmp c d))
 linked-union a b c d left right =

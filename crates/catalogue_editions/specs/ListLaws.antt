@@ -19,12 +19,14 @@ module _ {K : Type 0} (R : K → K → Ordering) (p : K → Bool) where
         | Greater ↦ true_both (p x) (list_all p (put R y xs)) parts.0 (all-put y xs one parts.1)
       ]
 
+  -- what holds of all members of two lists holds of all members of their union
   pub all-union : (xs ys : List K) → list_all p xs ≡ true → list_all p ys ≡ true → list_all p (union R xs ys) ≡ true
   all-union xs [] a b = a
   all-union xs (y ∷ ys) a b =
       let parts = both_true (p y) (list_all p ys) b in
       all-put y (union R xs ys) parts.0 (all-union xs ys a parts.1)
 
+  -- what holds of two values holds of the greater one
   pub one-greater : (x y : K) → p x ≡ true → p y ≡ true → p (greater R x y) ≡ true
   one-greater x y a b = elim (R x y) as (λ r. p (match_ordering r y x x) ≡ true) [ Less ↦ b | Equal ↦ a | Greater ↦ a ]
 

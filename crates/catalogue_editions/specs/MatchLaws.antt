@@ -7,6 +7,7 @@ use Rattle.match_features.proofs.PostedLaws.{features_seeking_laws}
 use Rattle.catalogue_editions.specs.Joining.{join}
 use Rattle.catalogue_editions.specs.Matching.{match, HasFeatureKey, IsPostedUnder, SeeksKey, share}
 
+-- each edition matches itself, matching goes both ways, and what matches an edition matches what it is merged into
 pub edition_match_laws : MatchLaws match join
 edition_match_laws = record {
   reflexive = λ x. features_match_laws.reflexive x.features;
@@ -14,6 +15,7 @@ edition_match_laws = record {
   representative = λ x y z. features_match_laws.representative x.features y.features z.features;
 }
 
+-- editions match by common keys, and a merged edition has the keys of both
 pub edition_key_laws : KeyLaws match join HasFeatureKey share
 edition_key_laws = record {
   matching = λ x y. features_key_laws.matching x.features y.features;
@@ -21,6 +23,7 @@ edition_key_laws = record {
   shared = λ x y. features_key_laws.shared x.features y.features;
 }
 
+-- an edition is found, by a key that it is sought by, by each edition that it matches
 pub edition_seeking_laws : SeekingLaws match IsPostedUnder SeeksKey share
 edition_seeking_laws = record {
   matching = λ x y. features_seeking_laws.matching x.features y.features;

@@ -6,9 +6,11 @@ use Rattle.match_features.specs.Posted.{IsPosted, Seeks}
 use Rattle.match_features.specs.declared.keys.FeatureKey.{FeatureKey}
 use Rattle.catalogue_editions.specs.declared.edition.Edition.{Edition}
 
+-- editions match as their features do
 abbrev pub match : Edition → Edition → Bool
 match x y = meet x.features y.features
 
+-- the edition's features have the key
 abbrev pub HasFeatureKey : Edition → FeatureKey → Type 0
 HasFeatureKey x key = HasKey x.features key
 

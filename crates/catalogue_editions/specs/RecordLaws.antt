@@ -118,6 +118,7 @@ fixed-text fields all =
 abbrev pub is_loaded : List ℕ → Record → Bool
 is_loaded library r = (is_library_code library && is_loadable r) && (are_printable r.leader && list_all is_short r.fields)
 
+-- the content of a record that can be loaded is sound
 pub sound_record : (prefer : List (List ℕ)) (library : List ℕ) (r : Record) → IsTrue (is_loaded library r)
     → IsTrue (is_sound (content prefer library r))
 sound_record prefer library r loaded =

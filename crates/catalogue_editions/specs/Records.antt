@@ -18,6 +18,7 @@ abbrev pub where_true : {A : Type 0} → (b : Bool) → (b ≡ true → A) → O
 where_true true value = Some (value refl)
 where_true false value = None
 
+-- the edition of one record that can be loaded
 abbrev pub edition_made : (prefer : List (List ℕ)) (library : List ℕ) (r : Record) → IsTrue (is_loaded library r) → Edition
 edition_made prefer library r loaded = record {
   features = features library r;

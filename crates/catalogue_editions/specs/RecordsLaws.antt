@@ -11,6 +11,7 @@ where_true-some : {A : Type 0} (b : Bool) (value : b ≡ true → A) (x : A) →
 where_true-some true value x same h = ap Some (same refl)
 where_true-some false value x same h = cc
 
+-- what has the parts of a record's edition is that edition
 pub edition-is : (prefer : List (List ℕ)) (library : List ℕ) (r : Record) (e : Edition) → IsTrue (is_loaded library r) → IsEditionOf prefer library r e
     → edition prefer library r ≡ Some e
 edition-is prefer library r e loaded is =

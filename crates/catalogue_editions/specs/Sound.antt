@@ -40,6 +40,7 @@ is_slot fits s = fits s.field && is_storable s.field
 abbrev pub is_slot_or_none : (Field → Bool) → Option Slot → Bool
 is_slot_or_none fits slot = option_map_or (is_slot fits) slot true
 
+-- each slot has a field of its own tag, or none
 abbrev pub are_slots : Content → Bool
 are_slots c =
     ((is_slot_or_none (has_tag (codes "005")) c.f005 && is_slot_or_none (has_tag (codes "010")) c.f010)

@@ -46,6 +46,7 @@ module _ (c : Content) where
   abbrev t245 : Bool
   t245 = is_slot (has_tag (codes "245")) c.f245
 
+  -- what a sound content's parts are
   pub sound_parts : IsTrue (is_sound c) → AreSoundParts c
   unfolding is_sound
   sound_parts sound =
@@ -71,6 +72,7 @@ module _ (c : Content) where
         united = rest.1;
       }
 
+  -- a content of such parts is sound
   pub sound_whole : AreSoundParts c → IsTrue (is_sound c)
   unfolding is_sound
   sound_whole s =
@@ -82,6 +84,7 @@ module _ (c : Content) where
       (true_both t240 t245 s.f240 s.f245))
       (true_both (list_all is_storable c.united) (list_all is_united c.united) s.storable s.united))
 
+-- two sound contents merge to a sound one
 pub sound-join : (a b : Content) → IsTrue (is_sound a) → IsTrue (is_sound b) → IsTrue (is_sound (join a b))
 sound-join a b left right =
     let x = sound_parts a left in

@@ -23,5 +23,6 @@ fields_left e = left_out e.content (work_key_of e)
 abbrev pub left_of_one : Edition → List (RecordId × ℕ)
 left_of_one e = (if fields_left e == 0 then [] else (least e, fields_left e) ∷ [])
 
+-- the same of a list of editions, in order
 abbrev pub left_of : List Edition → List (RecordId × ℕ)
 left_of editions = flat_map left_of_one editions

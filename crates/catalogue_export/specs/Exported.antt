@@ -21,9 +21,11 @@ field_of tag body =
       | false ↦ λ _. []
     ] refl
 
+-- one control field
 abbrev pub control_field : List ℕ → List ℕ → List Field
 control_field tag text = field_of tag (Control text)
 
+-- one subfield
 abbrev pub subfield : ℕ → List ℕ → Subfield
 subfield code text = record { code = code; text = text }
 
@@ -56,6 +58,7 @@ key_field key = blank_field (codes "991") (subfield 0x61 (front_within longest_k
 abbrev pub contributor_field : RecordId → List Field
 contributor_field id = blank_field (codes "993") (subfield 0x61 id.library ∷ subfield 0x62 id.control ∷ [])
 
+-- the field of a slot, if it has one
 abbrev pub slot_field : Option Slot → List Field
 slot_field None = []
 slot_field (Some s) = s.field ∷ []
@@ -90,5 +93,6 @@ exported c key = record { leader = c.fixed.codes; fields = in_tag_order (fitting
 abbrev pub edition_bytes : Content → List ℕ → List ℕ
 edition_bytes c key = spelling (exported c key)
 
+-- how many of an edition's fields do not fit
 abbrev pub left_out : Content → List ℕ → ℕ
 left_out c key = length (parts c key) - length (fitting (parts c key))

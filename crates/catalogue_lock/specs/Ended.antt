@@ -7,6 +7,7 @@ pub data Role : Type 0 where
   AsPass : Role
   Spent : Role
 
+-- the seat is that of a pass
 abbrev pub is_pass : Role → Bool
 is_pass AsRoot = false
 is_pass AsPass = true

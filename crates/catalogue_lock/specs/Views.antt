@@ -6,6 +6,7 @@ use Rattle.catalogue_lock.specs.Ended.Role.{AsRoot, AsPass, Spent}
 use Rattle.catalogue_lock.specs.declared.view.View.{View}
 
 module _ {S C : Type 0} where
+  -- a view of which nothing is known but its role and setting
   abbrev pub blank : Role → S → View S C
   blank role setting = record {
     of = record {};
@@ -57,6 +58,7 @@ module _ {S C : Type 0} where
   abbrev pub dealt : View S C → View S C
   dealt root = record root { made = root.made + 1 }
 
+  -- the view of the pass that a root deals next
   abbrev pub dealt_pass : View S C → View S C
   dealt_pass root = pass_view root.setting root.made root.floor
 

@@ -20,6 +20,7 @@ use Rattle.catalogue_query.specs.declared.query.QueryRefusal.TheVariants.{Unknow
 use Rattle.catalogue_query.specs.declared.word.Word.{Word}
 use Rattle.catalogue_query.specs.declared.word.Word.TheVariants as first
 
+-- a blank
 abbrev pub is_blank : ℕ → Bool
 is_blank b = b == 0x20
 
@@ -35,6 +36,7 @@ rest_of line = after_first is_blank line
 abbrev pub is_text : List ℕ → List ℕ → Bool
 is_text a b = pointwise nat_eq a b
 
+-- the word that begins a question
 abbrev pub word_of : List ℕ → Option Word
 word_of text =
     if is_text text (codes "id") then Some first.Id else
@@ -50,15 +52,18 @@ word_of text =
 abbrev pub number_in : List ℕ → List ℕ
 number_in rest = trimmed (rest_of rest)
 
+-- the id that the rest of the line names: a library's code, a blank, and a control number
 abbrev pub id_in : List ℕ → Option RecordId
 id_in rest =
     if is_library_code (first_word rest) && has_number_shape (number_in rest)
     then Some (record { library = first_word rest; control = number_in rest })
     else None
 
+-- the question about the record of that id
 abbrev pub id_query : List ℕ → Option Query
 id_query rest = option_map Id (id_in rest)
 
+-- the question about that record's holdings
 abbrev pub holdings_query : List ℕ → Option Query
 holdings_query rest = option_map Holdings (id_in rest)
 
@@ -83,6 +88,7 @@ title_query rest =
 abbrev pub work_query : List ℕ → Option Query
 work_query rest = if is_empty rest then None else Some (Work rest)
 
+-- the question about counts, which has no rest
 abbrev pub count_query : List ℕ → Option Query
 count_query rest = if is_empty rest then Some Count else None
 

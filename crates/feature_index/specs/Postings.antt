@@ -23,8 +23,10 @@ pub record Posting : Type 0 where
 abbrev pub posting_of : {K : Type 0} → (K → K → Bool) → List (K × Posting) → K → Posting
 posting_of eq entries k = unwrap_or (lookup (eq k) entries) (record { numbers = []; spare = 0 })
 
+-- the numbers under a key
 abbrev pub numbers_of : {K : Type 0} → (K → K → Bool) → List (K × Posting) → K → List ℕ
 numbers_of eq entries k = (posting_of eq entries k).numbers
 
+-- the room for more numbers under a key
 abbrev pub spare_of : {K : Type 0} → (K → K → Bool) → List (K × Posting) → K → ℕ
 spare_of eq entries k = (posting_of eq entries k).spare

@@ -19,6 +19,7 @@ pub record HaveSameParts (a b : Content) : Type 0 where
   pub f245 : a.f245 ≡ b.f245
   pub united : a.united ≡ b.united
 
+-- contents of the same parts are one
 pub same_contents : (a b : Content) → HaveSameParts a b → a ≡ b
 same_contents a b same =
     let lists : ◌≡◌ {A = (d : List RecordId × List Field) × IsTrue (are_kept d.0 d.1)} ((a.contributors, a.united), a.kept) ((b.contributors, b.united), b.kept) =

@@ -14,6 +14,7 @@ module _ {K : Type 0} (R : K → K → Ordering) where
   greater-either x y =
       elim (R x y) as (λ r. (match_ordering r y x x ≡ x) ⊎ (match_ordering r y x x ≡ y)) [ Less ↦ inr refl | Equal ↦ inl refl | Greater ↦ inl refl ]
 
+  -- the greater of a value and itself is that value
   pub greater-idempotent : (x : K) → greater R x x ≡ x
   greater-idempotent x = elim (R x x) as (λ r. match_ordering r x x x ≡ x) [ Less ↦ refl | Equal ↦ refl | Greater ↦ refl ]
 
@@ -43,6 +44,7 @@ module _ {K : Type 0} (R : K → K → Ordering) where
           | Greater ↦ λ f. k (o.trans y x z (o.antisymm y x ∙ ap ordering_reverse f) e)
         ] refl
 
+    -- of three values the greatest is the same, whichever two are compared first
     pub greater-associative : (x y z : K) → greater R (greater R x y) z ≡ greater R x (greater R y z)
     greater-associative x y z =
         elim (is_below (R x y)) [
@@ -57,6 +59,7 @@ module _ {K : Type 0} (R : K → K → Ordering) where
         ]
 
     module _ (ties : IsAntisymmetric R) where
+      -- the greater of two values is the same either way round
       pub greater-commutative : (x y : K) → greater R x y ≡ greater R y x
       greater-commutative x y =
           elim (R x y) as (λ r. R x y ≡ r → match_ordering r y x x ≡ greater R y x) [

@@ -16,9 +16,11 @@ use Rattle.union_base.specs.declared.record_id.RecordId.{RecordId}
 use Rattle.union_base.specs.declared.field.Field.{Field}
 use Rattle.field_merge.specs.Kept.{id_cmp, are_kept}
 
+-- ids are in a total order
 pub id_total : IsTotalOrder id_cmp
 id_total = search (comparing, rules)
 
+-- fields are in a total order
 pub field_total : IsTotalOrder field_cmp
 field_total = search (comparing, rules)
 
@@ -40,6 +42,7 @@ module _ {K : Type 0} (R : K → K → Ordering) where
   some-union xs [] h = h
   some-union xs (y ∷ ys) h = some-put y (union R xs ys)
 
+-- where the lists of two contents ascend and have a contributor, so do their unions
 pub kept-union : (a b : List RecordId) (c d : List Field) → IsTrue (are_kept a c) → IsTrue (are_kept b d)
     → IsTrue (are_kept (union id_cmp a b) (union field_cmp c d))
 kept-union a b c d left right =

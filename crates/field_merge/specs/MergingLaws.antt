@@ -24,9 +24,11 @@ module _ (c : Content) where
       both_true (is_ascending id_cmp c.contributors) (is_ascending field_cmp c.united)
       (both_true (nat_le 1 (length c.contributors)) (is_ascending id_cmp c.contributors && is_ascending field_cmp c.united) c.kept).1
 
+  -- a content's contributors ascend
   pub ascending_contributors : is_ascending id_cmp c.contributors ≡ true
   ascending_contributors = lists_kept.0
 
+  -- a content's united fields ascend
   pub ascending_united : is_ascending field_cmp c.united ≡ true
   ascending_united = lists_kept.1
 
@@ -73,5 +75,6 @@ join-associative x y z =
       united = union-associative field_total field_cmp-IsAntisymmetric x.united y.united z.united (ascending_united x);
     })
 
+-- to merge contents is idempotent, commutative and associative
 pub join_laws : JoinLaws join
 join_laws = record { idempotent = join-idempotent; commutative = join-commutative; associative = join-associative }

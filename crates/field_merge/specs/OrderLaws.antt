@@ -11,12 +11,15 @@ use Rattle.union_base.specs.FieldLaws.{field_cmp-IsAntisymmetric}
 use Rattle.field_merge.specs.KeptLaws.{field_total}
 use Rattle.field_merge.specs.Orders.{rank_cmp, slot_cmp, codes_cmp, fixed_cmp}
 
+-- ranks are in a total order
 pub rank_total : IsTotalOrder rank_cmp
 rank_total = search (comparing, rules)
 
+-- slots are in a total order
 pub slot_total : IsTotalOrder slot_cmp
 slot_total = then_total (on_total (λ s. s.rank) rank_total) (on_total (λ s. s.field) field_total)
 
+-- slots that may be missing are in a total order
 pub optional_slot_total : IsTotalOrder (option_cmp slot_cmp)
 optional_slot_total = options_total slot_total
 
@@ -27,10 +30,12 @@ codes_total =
     (then_total (on_total (λ c. c.control) n) (then_total (on_total (λ c. c.coding) n) (then_total (on_total (λ c. c.encoding) n)
     (then_total (on_total (λ c. c.form) n) (then_total (on_total (λ c. c.part) n) (on_total (λ c. c.last) n))))))))
 
+-- fixed parts are in a total order
 pub fixed_total : IsTotalOrder fixed_cmp
 fixed_total =
     then_total (on_total (λ f. f.rank) rank_total) (then_total (on_total (λ f. f.codes) codes_total) (on_total (λ f. f.text) nat_list_cmp_total))
 
+-- ranks that compare equal are one
 pub ranks_apart : IsAntisymmetric rank_cmp
 ranks_apart x y e =
     let same = pairs_apart nat_cmp-IsAntisymmetric (pairs_apart nat_cmp-IsAntisymmetric (pairs_apart texts_apart (pairs_apart texts_apart texts_apart)))
@@ -43,11 +48,13 @@ ranks_apart x y e =
       control = (same i).1.1.1.1;
     }
 
+-- slots that compare equal are one
 pub slots_apart : IsAntisymmetric slot_cmp
 slots_apart x y e =
     let same = pairs_apart ranks_apart field_cmp-IsAntisymmetric (x.rank, x.field) (y.rank, y.field) e in
     λ i. record { rank = (same i).0; field = (same i).1 }
 
+-- slots that compare equal, or are both missing, are one
 pub optional_slots_apart : IsAntisymmetric (option_cmp slot_cmp)
 optional_slots_apart None None e = refl
 optional_slots_apart None (Some y) e = cc
@@ -72,6 +79,7 @@ codes_apart x y e =
       last = (same i).1.1.1.1.1.1.1.1;
     }
 
+-- fixed parts that compare equal are one
 pub fixed_apart : IsAntisymmetric fixed_cmp
 fixed_apart x y e =
     let same = pairs_apart ranks_apart (pairs_apart codes_apart texts_apart) (x.rank, (x.codes, x.text)) (y.rank, (y.codes, y.text)) e in

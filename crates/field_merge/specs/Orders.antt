@@ -14,6 +14,7 @@ rank_cmp =
     then_cmp (on (λ r. r.level) nat_cmp) (then_cmp (on (λ r. r.class) nat_cmp) (then_cmp (on (λ r. r.stamp) (slice_cmp nat_cmp))
     (then_cmp (on (λ r. r.library) (slice_cmp nat_cmp)) (on (λ r. r.control) (slice_cmp nat_cmp)))))
 
+-- slots are compared by rank, and then by their fields
 abbrev pub slot_cmp : Slot → Slot → Ordering
 slot_cmp = then_cmp (on (λ s. s.rank) rank_cmp) (on (λ s. s.field) field_cmp)
 
@@ -24,5 +25,6 @@ codes_cmp =
     (then_cmp (on (λ c. c.control) nat_cmp) (then_cmp (on (λ c. c.coding) nat_cmp) (then_cmp (on (λ c. c.encoding) nat_cmp)
     (then_cmp (on (λ c. c.form) nat_cmp) (then_cmp (on (λ c. c.part) nat_cmp) (on (λ c. c.last) nat_cmp))))))))
 
+-- fixed parts are compared by rank, then by the leader's codes, then by the text of 008
 abbrev pub fixed_cmp : Fixed → Fixed → Ordering
 fixed_cmp = then_cmp (on (λ f. f.rank) rank_cmp) (then_cmp (on (λ f. f.codes) codes_cmp) (on (λ f. f.text) (slice_cmp nat_cmp)))

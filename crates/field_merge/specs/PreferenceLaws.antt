@@ -19,6 +19,7 @@ pub record IsFilled (places : List (List ℕ)) (size : ℕ) : Type 0 where
   pub rest : places ≡ take size places ++ replicate (most_codes - size) unused
   pub within : size ≤ most_codes
 
+-- as many places are filled as are counted
 pub filled_size : (places : List (List ℕ)) (size : ℕ) → IsFilled places size → length (take size places) ≡ size
 filled_size places size filled = omega (arith, length-take {A = List ℕ}, filled.whole, filled.within)
 

@@ -37,6 +37,7 @@ pair_key source number =
     let number = number_of (trimmed source) (trimmed number) in
     if is_source (trimmed source) && not (length number == 0) then Some (trimmed source, number) else None
 
+-- a closing parenthesis
 abbrev pub closes : ℕ → Bool
 closes b = b == 0x29
 

@@ -9,9 +9,11 @@ use Rattle.isbn_keys.specs.Check.{weighted_sum, has_check_form}
 abbrev pub without_hyphens : List ℕ → List ℕ
 without_hyphens = filter (λ c. not (c == 0x2D))
 
+-- the weights of an ISBN of ten, first digit first (ISO 2108)
 abbrev pub isbn10_weights : List ℕ
 isbn10_weights = 10 ∷ 9 ∷ 8 ∷ 7 ∷ 6 ∷ 5 ∷ 4 ∷ 3 ∷ 2 ∷ 1 ∷ []
 
+-- the weights of an ISBN of thirteen, first digit first (ISO 2108)
 abbrev pub isbn13_weights : List ℕ
 isbn13_weights = 1 ∷ 3 ∷ 1 ∷ 3 ∷ 1 ∷ 3 ∷ 1 ∷ 3 ∷ 1 ∷ 3 ∷ 1 ∷ 3 ∷ 1 ∷ []
 

@@ -7,6 +7,7 @@ use Rattle.isbn_keys.specs.Check.{is_ten, weighted_sum, has_check_form}
 abbrev pub without_hyphen : List ℕ → List ℕ
 without_hyphen part = if slice_index part 4 == 0x2D then take 4 part ++ drop 5 part else part
 
+-- the weights of an ISSN, first digit first (ISO 3297)
 abbrev pub issn_weights : List ℕ
 issn_weights = 8 ∷ 7 ∷ 6 ∷ 5 ∷ 4 ∷ 3 ∷ 2 ∷ 1 ∷ []
 

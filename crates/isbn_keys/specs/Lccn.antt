@@ -7,6 +7,7 @@ use Rattle.isbn_keys.specs.Text.{blank}
 abbrev pub lccn_characters : List ℕ → List ℕ
 lccn_characters text = filter (λ c. not (c == blank)) (before_first (λ c. c == 0x2F) text)
 
+-- a hyphen
 abbrev pub is_hyphen : ℕ → Bool
 is_hyphen c = c == 0x2D
 

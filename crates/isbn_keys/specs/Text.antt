@@ -2,6 +2,7 @@
 use Rattle.std.specs.Prelude.{ℕ, ◌==◌, ◌||◌, ◌-◌, Bool, List, take, drop, length, bytes_eq}
 use Rattle.std.specs.List.{prefix_len, suffix_len, before_first}
 
+-- a blank
 abbrev pub blank : ℕ
 blank = 0x20
 

@@ -29,14 +29,17 @@ is_read Skipped = false
 is_read Written = true
 is_read (Refused reason) = true
 
+-- a record was written for the line
 abbrev pub is_written : Outcome → Bool
 is_written Skipped = false
 is_written Written = true
 is_written (Refused reason) = false
 
+-- how many of the lines were read
 abbrev pub read : List Ended → ℕ
 read all = count_by (λ ended. is_read ended.0) all
 
+-- how many records were written
 abbrev pub written : List Ended → ℕ
 written all = count_by (λ ended. is_written ended.0) all
 

@@ -23,6 +23,7 @@ blocks_within zero frames = []
 blocks_within (suc n) [] = []
 blocks_within (suc n) (frame ∷ frames) = take block_size (frame ∷ frames) ∷ blocks_within n (drop block_size (frame ∷ frames))
 
+-- the frames in blocks of 256, the last one of what is left
 abbrev pub blocks : List Frame → List (List Frame)
 blocks frames = blocks_within (length frames) frames
 

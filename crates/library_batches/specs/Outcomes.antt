@@ -16,24 +16,28 @@ found_in all (batch ∷ batches) = outcomes batch.library all batch.ops ++ found
 abbrev pub after_batches : MapOf Edition → List Batch → MapOf Edition
 after_batches all batches = fold after_batch all batches
 
+-- the operation added a record
 abbrev pub is_added : Outcome → Bool
 is_added Added = true
 is_added Replaced = false
 is_added Removed = false
 is_added Absent = false
 
+-- the operation replaced a record
 abbrev pub is_replaced : Outcome → Bool
 is_replaced Added = false
 is_replaced Replaced = true
 is_replaced Removed = false
 is_replaced Absent = false
 
+-- the operation removed a record
 abbrev pub is_removed : Outcome → Bool
 is_removed Added = false
 is_removed Replaced = false
 is_removed Removed = true
 is_removed Absent = false
 
+-- the operation found no record to remove
 abbrev pub is_absent : Outcome → Bool
 is_absent Added = false
 is_absent Replaced = false

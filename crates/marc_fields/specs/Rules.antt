@@ -26,6 +26,7 @@ leader_of_frame frame = take 24 frame
 abbrev pub base_in : List ℕ → ℕ
 base_in leader = number_of (base_place leader)
 
+-- the base address of data that the frame's leader tells
 abbrev pub base_of : List ℕ → ℕ
 base_of frame = base_in (leader_of_frame frame)
 
@@ -34,6 +35,7 @@ abbrev pub is_base : ℕ → List ℕ → Bool
 is_base base frame =
     (nat_le 25 base && nat_le base (length frame - 1)) && (((base - 25) % 12 == 0) && (slice_index frame (base - 1) == field_terminator))
 
+-- the leader tells a base address, and one that the frame can have
 abbrev pub has_base : List ℕ → List ℕ → Bool
 has_base leader frame = are_digits (base_place leader) && is_base (base_in leader) frame
 
@@ -41,22 +43,28 @@ has_base leader frame = are_digits (base_place leader) && is_base (base_in leade
 abbrev pub too_short : List ℕ → Option Failure
 too_short frame = fails TooShort (unless (nat_le 26 (length frame)))
 
+-- rule LengthDigits: the record length is five digits
 abbrev pub length_digits : List ℕ → Option Failure
 length_digits leader = fails LengthDigits (unless (are_digits (length_place leader)))
 
+-- rule LengthDiffers: the record length is the frame's
 abbrev pub length_differs : List ℕ → List ℕ → Option Failure
 length_differs leader frame = fails LengthDiffers (unless (number_of (length_place leader) == length frame))
 
+-- rule BaseAddress: the base address is five digits and one that the frame can have
 abbrev pub base_address : List ℕ → List ℕ → Option Failure
 base_address leader frame = fails BaseAddress (unless (has_base leader frame))
 
+-- rule LeaderCounts: the leader's counts and the entry map are those of MARC 21
 abbrev pub leader_counts : List ℕ → Option Failure
 leader_counts leader = fails LeaderCounts (misfit leader)
 
+-- the first of the leader's rules that fails
 unfoldable pub leader_failure : List ℕ → List ℕ → Option Failure
 leader_failure leader frame =
     or_then (length_digits leader) (or_then (length_differs leader frame) (or_then (base_address leader frame) (leader_counts leader)))
 
+-- the first rule that fails at the frame's head: it is long enough for a leader, and then the leader's rules
 unfoldable pub head_failure : List ℕ → Option Failure
 head_failure frame = or_then (too_short frame) (leader_failure (leader_of_frame frame) frame)
 
@@ -81,9 +89,11 @@ data_in frame = take (length frame - 1 - base_of frame) (drop (base_of frame) fr
 abbrev pub has_digits : List ℕ → Bool
 has_digits text = are_digits (size_place text) && are_digits (start_place text)
 
+-- the entry begins with a tag
 abbrev pub has_tag : List ℕ → Bool
 has_tag text = is_tag (tag_place text)
 
+-- the first rule that fails in the directory's entries: EntryDigits at any of them, and then Tag
 unfoldable pub directory_failure : List (List ℕ) → Option Failure
 directory_failure texts = or_then (fails EntryDigits (least_where_not has_digits 1 texts)) (fails Tag (least_where_not has_tag 1 texts))
 
@@ -121,9 +131,11 @@ tiling_failure bytes entries = or_then (fails Tiling (tiling_from bytes [] 1 ent
 abbrev pub text_of : List ℕ → Entry → List ℕ
 text_of bytes e = take (e.length - 1) (drop e.start bytes)
 
+-- the entry has no control tag, or its text has the shape of a control field
 abbrev pub is_control_shaped : List ℕ → Entry → Bool
 is_control_shaped bytes e = not (is_control_tag e.tag) || has_control_shape (text_of bytes e)
 
+-- the entry has a control tag, or its text has the shape of a data field
 abbrev pub is_data_shaped : List ℕ → Entry → Bool
 is_data_shaped bytes e = is_control_tag e.tag || has_data_shape (text_of bytes e)
 

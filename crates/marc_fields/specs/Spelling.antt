@@ -13,6 +13,7 @@ use Rattle.marc_fields.specs.declared.marc_record.Record.{Record}
 abbrev pub longest_frame : ℕ
 longest_frame = 99999
 
+-- the most bytes that an entry's four digits can tell, the field terminator among them
 abbrev pub longest_field : ℕ
 longest_field = 9999
 

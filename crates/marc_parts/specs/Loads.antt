@@ -12,10 +12,12 @@ use Rattle.marc_parts.specs.Parts.{how_many, text_under, control_number}
 abbrev pub is_utf8_subfield : Subfield → Bool
 is_utf8_subfield s = is_utf8 s.text
 
+-- each text of the field's body is UTF-8
 abbrev pub is_utf8_body : Body → Bool
 is_utf8_body (Control text) = is_utf8 text
 is_utf8_body (Data ind1 ind2 subfields) = list_all is_utf8_subfield subfields
 
+-- the same of a field
 abbrev pub is_utf8_field : Field → Bool
 is_utf8_field f = is_utf8_body f.body
 

@@ -1,9 +1,11 @@
 -- Texts without the blanks at their ends. A blank is the byte 0x20 and no other.
 use Rattle.std.specs.Prelude.{ℕ, ◌==◌, List, [], ◌∷◌, if◌then◌else◌}
 
+-- a blank
 abbrev pub blank : ℕ
 blank = 0x20
 
+-- the text without the blanks at its start
 abbrev pub trim_start : List ℕ → List ℕ
 trim_start [] = []
 trim_start (b ∷ rest) = (if b == blank then trim_start rest else b ∷ rest)
@@ -13,9 +15,11 @@ abbrev pub before_trimmed : ℕ → List ℕ → List ℕ
 before_trimmed b [] = (if b == blank then [] else b ∷ [])
 before_trimmed b (c ∷ rest) = b ∷ c ∷ rest
 
+-- the text without the blanks at its end
 abbrev pub trim_end : List ℕ → List ℕ
 trim_end [] = []
 trim_end (b ∷ rest) = before_trimmed b (trim_end rest)
 
+-- the text without the blanks at both ends
 abbrev pub trimmed : List ℕ → List ℕ
 trimmed text = trim_end (trim_start text)

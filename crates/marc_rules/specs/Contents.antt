@@ -17,9 +17,11 @@ is_status status = ((((status == 0x61) || (status == 0x63)) || (status == 0x64))
 abbrev pub is_plain : List ℕ → Bool
 is_plain text = list_all (λ b. nat_le b 0x7F && not (b == 0x1B)) text
 
+-- the entry's text is plain
 abbrev pub is_plain_at : List ℕ → Entry → Bool
 is_plain_at bytes e = is_plain (text_of bytes e)
 
+-- the entry's text is UTF-8
 abbrev pub is_utf8_at : List ℕ → Entry → Bool
 is_utf8_at bytes e = is_utf8 (text_of bytes e)
 
@@ -32,8 +34,10 @@ coding_place coding bytes entries =
 abbrev pub utf8_place : ℕ → List ℕ → List Entry → Option ℕ
 utf8_place coding bytes entries = (if coding == 0x61 then least_where_not (is_utf8_at bytes) 1 entries else None)
 
+-- rule Coding, and then rule NotUtf8
 abbrev pub coding_failure : ℕ → List ℕ → List Entry → Option Failure
 coding_failure coding bytes entries = or_then (fails Coding (coding_place coding bytes entries)) (fails NotUtf8 (utf8_place coding bytes entries))
 
+-- rule Status, and then the rules on the coding
 unfoldable pub content_failure : ℕ → ℕ → List ℕ → List Entry → Option Failure
 content_failure status coding bytes entries = or_then (fails Status (unless (is_status status))) (coding_failure coding bytes entries)

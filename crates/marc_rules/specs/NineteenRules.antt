@@ -24,6 +24,7 @@ use Rattle.marc_rules.specs.Numbers.{number_failure}
 abbrev pub status_of : List ℕ → ℕ
 status_of frame = slice_index frame 5
 
+-- the coding of the frame's texts (leader/09)
 abbrev pub coding_of : List ℕ → ℕ
 coding_of frame = slice_index frame 9
 

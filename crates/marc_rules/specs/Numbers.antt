@@ -30,6 +30,7 @@ once passes (i ∷ j ∷ rest) = Some j
 abbrev pub no_entry : Entry
 no_entry = record { tag = []; length = 0; start = 0 }
 
+-- the text of the entry at that place, counted from 1
 abbrev pub text_at : List ℕ → List Entry → ℕ → List ℕ
 text_at bytes entries i = text_of bytes (slice_index_or entries (i - 1) no_entry)
 
@@ -37,21 +38,27 @@ text_at bytes entries i = text_of bytes (slice_index_or entries (i - 1) no_entry
 abbrev pub is_control_number : List ℕ → Bool
 is_control_number text = has_number_shape (trimmed text)
 
+-- the tag 001
 abbrev pub tag_001 : List ℕ
 tag_001 = 0x30 ∷ 0x30 ∷ 0x31 ∷ []
 
+-- the tag 008
 abbrev pub tag_008 : List ℕ
 tag_008 = 0x30 ∷ 0x30 ∷ 0x38 ∷ []
 
+-- the tag 245
 abbrev pub tag_245 : List ℕ
 tag_245 = 0x32 ∷ 0x34 ∷ 0x35 ∷ []
 
+-- where rule ControlNumber fails: there is not exactly one 001, or its text is no control number
 abbrev pub control_number_place : List ℕ → List Entry → Option ℕ
 control_number_place bytes entries = once (λ i. is_control_number (text_at bytes entries i)) (places tag_001 1 entries)
 
+-- where rule Fixed008 fails: there is not exactly one 008, or its text has not 40 bytes
 abbrev pub fixed_008_place : List ℕ → List Entry → Option ℕ
 fixed_008_place bytes entries = once (λ i. length (text_at bytes entries i) == 40) (places tag_008 1 entries)
 
+-- where rule Title245 fails: there is not exactly one 245
 abbrev pub title_245_place : List Entry → Option ℕ
 title_245_place entries = once (λ i. true) (places tag_245 1 entries)
 

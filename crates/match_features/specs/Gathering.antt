@@ -39,6 +39,7 @@ abbrev pub congress_pair : Option (List ℕ) → List (List ℕ × List ℕ)
 congress_pair None = []
 congress_pair (Some number) = (codes "DLC", number) ∷ []
 
+-- the control pair of a Library of Congress number in a subfield $a
 abbrev pub lccn_in : Subfield → List (List ℕ × List ℕ)
 lccn_in s = if is_a s then congress_pair (lccn_key s.text) else []
 
@@ -50,6 +51,7 @@ system_number_in s = if is_a s then option_to_list (system_key s.text) else []
 abbrev pub numbers_in : Field → List (List ℕ × List ℕ)
 numbers_in f = from_field (codes "010") lccn_in f ++ from_field (codes "035") system_number_in f
 
+-- the control pairs of a record: its own, the one that 001 and 003 assign, and those in its fields
 abbrev pub control_of : List ℕ → Record → List (List ℕ × List ℕ)
 control_of library r = own_pair library r ∷ assigned_pair r ++ flat_map numbers_in r.fields
 
@@ -61,6 +63,7 @@ types_of r = (r.leader.kind ∷ r.leader.level ∷ []) ∷ []
 abbrev pub isbn_in : Subfield → List (List ℕ)
 isbn_in s = if is_a s then option_to_list (isbn_key s.text) else []
 
+-- the ISBNs of a field 020
 abbrev pub isbns_in : Field → List (List ℕ)
 isbns_in f = from_field (codes "020") isbn_in f
 
@@ -68,9 +71,11 @@ isbns_in f = from_field (codes "020") isbn_in f
 abbrev pub issn_in : Subfield → List (List ℕ)
 issn_in s = if is_a s then option_to_list (issn_key s.text) else []
 
+-- the ISSNs of a field 022
 abbrev pub issns_in : Field → List (List ℕ)
 issns_in f = from_field (codes "022") issn_in f
 
+-- the text, where it is not empty
 abbrev pub where_not_empty : List ℕ → List (List ℕ)
 where_not_empty text = if is_empty text then [] else text ∷ []
 
@@ -88,6 +93,7 @@ date_in text =
 abbrev pub is_name : Field → Bool
 is_name f = has_tag (codes "100") f || has_tag (codes "110") f || has_tag (codes "111") f
 
+-- the name of a field 100, 110 or 111, where it is not empty
 abbrev pub name_in : Field → List (List ℕ)
 name_in f = if is_name f then where_not_empty (name_of f) else []
 

@@ -40,6 +40,7 @@ same_features x y e =
       kept = (pairs i).1;
     }
 
+-- what the lists of features are: each ascends, and there is a control pair
 pub parts : (x : Features) → AreKept x.control x.types x.isbns x.issns x.titles x.dates x.names
 parts x = kept_parts x.control x.types x.isbns x.issns x.titles x.dates x.names x.kept
 
@@ -52,6 +53,7 @@ texts_swap = union-commutative nat_list_cmp_total texts_apart
 texts_regroup : (xs ys zs : List (List ℕ)) → is_ascending texts_cmp xs ≡ true → union texts_cmp (union texts_cmp xs ys) zs ≡ union texts_cmp xs (union texts_cmp ys zs)
 texts_regroup = union-associative nat_list_cmp_total texts_apart
 
+-- to merge features is idempotent, commutative and associative
 pub features_join_laws : JoinLaws join
 features_join_laws = record {
   idempotent = λ x.

@@ -4,6 +4,7 @@ use Rattle.match_features.specs.declared.features.Features.{Features}
 use Rattle.match_features.specs.Kept.{texts_cmp, pairs_cmp}
 use Rattle.match_features.specs.KeptLaws.{kept_unions}
 
+-- two records' features merged: the union of each list
 abbrev pub join : Features → Features → Features
 join x y = record {
   control = union pairs_cmp x.control y.control;

@@ -13,6 +13,7 @@ texts_cmp = slice_cmp nat_cmp
 abbrev pub pairs_cmp : List ℕ × List ℕ → List ℕ × List ℕ → Ordering
 pairs_cmp = λ x y. ordering_then (texts_cmp x.0 y.0) (texts_cmp x.1 y.1)
 
+-- the list is not empty
 abbrev pub has_some : {K : Type 0} → List K → Bool
 has_some [] = false
 has_some (x ∷ xs) = true

@@ -14,9 +14,11 @@ use Rattle.union_base.specs.Ties.{texts_apart, pairs_apart}
 use Rattle.union_base.proofs.SortedListLaws.{is_ascending-union}
 use Rattle.match_features.specs.Kept.{texts_cmp, pairs_cmp, has_some, are_features}
 
+-- pairs of texts are in a total order
 pub pairs_total : IsTotalOrder pairs_cmp
 pairs_total = search (comparing, rules)
 
+-- pairs of texts that compare equal are one
 pub pairs_tie : IsAntisymmetric pairs_cmp
 pairs_tie = pairs_apart texts_apart texts_apart
 
@@ -32,6 +34,7 @@ pub record AreKept (a : List (List ℕ × List ℕ)) (b c d e f g : List (List �
   pub names : is_ascending texts_cmp g ≡ true
 
 module _ (control : List (List ℕ × List ℕ)) (types isbns issns titles dates names : List (List ℕ)) where
+  -- what seven lists that are features are, one by one
   pub kept_parts : IsTrue (are_features control types isbns issns titles dates names) → AreKept control types isbns issns titles dates names
   kept_parts kept =
       let first = both_true _ _ kept in
@@ -43,6 +46,7 @@ module _ (control : List (List ℕ × List ℕ)) (types isbns issns titles dates
       let last = both_true (is_ascending texts_cmp dates) (is_ascending texts_cmp names) three.1 in
       record { some = pairs.0; control = pairs.1; types = two.0; isbns = numbers.0; issns = numbers.1; titles = three.0; dates = last.0; names = last.1 }
 
+  -- seven such lists are features
   pub kept_whole : AreKept control types isbns issns titles dates names → IsTrue (are_features control types isbns issns titles dates names)
   kept_whole parts =
       true_both _ _ (true_both _ _ parts.some parts.control)
@@ -61,6 +65,7 @@ module _ {K : Type 0} (R : K → K → Ordering) where
   has_some-set [] h = h
   has_some-set (x ∷ xs) h = has_some-put x (set_of R xs)
 
+-- the sets of seven lists are features, where there is a control pair
 pub kept_sets : (control : List (List ℕ × List ℕ)) (types isbns issns titles dates names : List (List ℕ)) → has_some control ≡ true
     → IsTrue (are_features (set_of pairs_cmp control) (set_of texts_cmp types) (set_of texts_cmp isbns) (set_of texts_cmp issns) (set_of texts_cmp titles) (set_of texts_cmp dates) (set_of texts_cmp names))
 kept_sets control types isbns issns titles dates names some =
@@ -75,6 +80,7 @@ kept_sets control types isbns issns titles dates names some =
       names = is_ascending-union nat_list_cmp_total [] names refl;
     })
 
+-- the unions of features, list by list, are features
 pub kept_unions : (a b : List (List ℕ × List ℕ)) (c d e f g h i j k l m n : List (List ℕ)) → IsTrue (are_features a c e g i k m)
     → IsTrue (are_features (union pairs_cmp a b) (union texts_cmp c d) (union texts_cmp e f) (union texts_cmp g h) (union texts_cmp i j) (union texts_cmp k l) (union texts_cmp m n))
 kept_unions a b c d e f g h i j k l m n kept =

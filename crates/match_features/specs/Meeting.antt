@@ -20,6 +20,7 @@ meet_by_issn x y = have_common texts_cmp x.types y.types && have_common texts_cm
 abbrev pub is_serial : List ℕ → Bool
 is_serial kind = slice_index kind 1 == 0x73
 
+-- the type and level are not those of a serial
 abbrev pub is_no_serial : List ℕ → Bool
 is_no_serial kind = not (is_serial kind)
 

@@ -16,6 +16,7 @@ use Rattle.match_features.specs.Keys.{keys, HasKey}
 abbrev pub has_few : Features → Bool
 has_few x = nat_le (length x.titles * length x.names) 64
 
+-- the index has the features under the key: under a title with a name where they have few such pairs, else under the title alone
 abbrev pub IsPosted : Features → FeatureKey → Type 0
 IsPosted x (TitleAndName pair) = IsTrue (has_few x) × Contains x.titles pair.0 × Contains x.names pair.1
 IsPosted x (TitleOfMany title) = IsTrue (not (has_few x)) × Contains x.titles title
@@ -30,6 +31,7 @@ is_posted (Title title) x = has texts_cmp x.titles title
 is_posted (TitleAndName pair) x = has_few x && has texts_cmp x.titles pair.0 && has texts_cmp x.names pair.1
 is_posted (TitleOfMany title) x = not (has_few x) && has texts_cmp x.titles title
 
+-- features look for others under the key: by each title with each name where they have few such pairs, else by the title alone
 abbrev pub Seeks : Features → FeatureKey → Type 0
 Seeks x (Title title) = IsTrue (not (has_few x)) × Contains x.titles title
 Seeks x (TitleAndName pair) = IsTrue (has_few x) × Contains x.titles pair.0 × Contains x.names pair.1

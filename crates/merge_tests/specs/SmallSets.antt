@@ -14,6 +14,7 @@ use Rattle.merge_laws.specs.Resolution.{JoinLaws, MatchLaws, KeyLaws}
 abbrev pub HasNumber : ℕ → ℕ → Type 0
 HasNumber n k = bit_at (n + 1) k ≡ 1
 
+-- the union of two sets, each not empty, as numbers: the number n stands for the binary digits of n + 1
 abbrev pub union : ℕ → ℕ → ℕ
 union m n = bit_or (m + 1) (n + 1) - 1
 
@@ -58,6 +59,7 @@ digit_of_or m n k =
       λ h. bit_at_or m n k ∙ elim h [ inl e ↦ omega arith | inr e ↦ omega arith ],
     )
 
+-- a union with a set that is not empty is not empty
 pub bit_or-positive : (m n : ℕ) → 0 < m → 0 < bit_or m n
 bit_or-positive m n some =
     elim (dec_lt 0 (bit_or m n)) [
@@ -87,6 +89,7 @@ number-from_meet m n h =
     let both = digits_from_and (m + 1) (n + 1) k e in
     (k, both.0, both.1)
 
+-- union is idempotent, commutative and associative
 pub union_laws : JoinLaws union
 union_laws = record {
   idempotent = λ m.
@@ -102,6 +105,7 @@ union_laws = record {
       rw (digits_of_union m n, digits_of_union n k) (ap (λ x. x - 1) same);
 }
 
+-- each set meets itself, meeting goes both ways, and what meets a set meets its unions
 pub meet_laws : MatchLaws meet union
 meet_laws = record {
   reflexive = λ m. let (k, e) = some_digit (m + 1) (m + 1) (omega arith) (omega arith) in meet-from_number m m k e e;
@@ -109,6 +113,7 @@ meet_laws = record {
   representative = λ m n j h. let (k, p, q) = number-from_meet m n h in meet-from_number m (union n j) k p ((HasNumber-union n j k).1 (inl q));
 }
 
+-- sets meet by common members, and a union has the members of both
 pub number_laws : KeyLaws meet union HasNumber meet
 number_laws = record {
   matching = number-from_meet;
@@ -116,6 +121,7 @@ number_laws = record {
   shared = λ m n. (number-from_meet m n, λ (k, p, q). meet-from_number m n k p q);
 }
 
+-- a set is found by its members
 pub seeking_laws : SeekingLaws meet HasNumber HasNumber meet
 seeking_laws = record { matching = number-from_meet; near = λ m n k p q. meet-from_number n m k q p }
 

@@ -26,6 +26,7 @@ part_forms first other (s ∷ ss) =
 abbrev pub form_with_comma : List ℕ → List ℕ
 form_with_comma text = encode_utf8_all (normal_form First (chars text))
 
+-- the normal form of a text that keeps no comma
 abbrev pub form_without_comma : List ℕ → List ℕ
 form_without_comma text = encode_utf8_all (normal_form None (chars text))
 
@@ -37,6 +38,7 @@ heading_of subfields wanted = joined_words (part_forms form_with_comma form_with
 abbrev pub skipped : ℕ → List ℕ → List ℕ
 skipped skip cs = if nat_le skip (length cs) then drop skip cs else cs
 
+-- the same, without the first characters, as many as an indicator counts
 abbrev pub form_skipping : ℕ → List ℕ → List ℕ
 form_skipping skip text = encode_utf8_all (normal_form None (skipped skip (chars text)))
 

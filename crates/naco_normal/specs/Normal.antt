@@ -12,6 +12,7 @@ use Rattle.naco_normal.specs.declared.form.Comma.{Comma}
 use Rattle.naco_normal.specs.declared.form.Comma.TheVariants.{First, None}
 use Rattle.naco_normal.specs.Words.{blank, joined_words}
 
+-- a comma
 abbrev pub comma_sign : ℕ
 comma_sign = 0x2C
 
@@ -81,6 +82,7 @@ first_comma_marked (m ∷ ms) =
     then record { char = m.char; kept = list_any (λ after. is_letter_or_number after.char) ms } ∷ ms
     else m ∷ first_comma_marked ms
 
+-- with the first comma marked, where a form keeps it
 abbrev pub comma_marked : Comma → List Mark → List Mark
 comma_marked First ms = first_comma_marked ms
 comma_marked None ms = ms

@@ -6,6 +6,7 @@ use Rattle.std.specs.List.{join_with_byte}
 abbrev pub blank : ℕ
 blank = 0x20
 
+-- the text is empty
 abbrev pub is_empty : List ℕ → Bool
 is_empty [] = true
 is_empty (c ∷ cs) = false

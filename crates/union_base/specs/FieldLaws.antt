@@ -81,6 +81,7 @@ same_fields a b p e =
     Σ_prop_path (λ d. Bool-set (is_field d.0 d.1) true) (λ i. (p i, q i)) in
     λ i. record { tag = (pairs i).0.0; body = (pairs i).0.1; well_formed = (pairs i).1 }
 
+-- fields that compare equal are one
 pub field_cmp-IsAntisymmetric : IsAntisymmetric field_cmp
 field_cmp-IsAntisymmetric a b e =
     let parts = then_ties (slice_cmp nat_cmp a.tag b.tag) (slice_cmp nat_cmp (spelled a.body) (spelled b.body)) e in

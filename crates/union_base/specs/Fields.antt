@@ -8,9 +8,11 @@ use Rattle.union_base.specs.Bodies.{Subfield, Body, Control, Data}
 abbrev pub record_terminator : ℕ
 record_terminator = 0x1D
 
+-- the field terminator (ISO 2709)
 abbrev pub field_terminator : ℕ
 field_terminator = 0x1E
 
+-- the subfield delimiter (ISO 2709)
 abbrev pub delimiter : ℕ
 delimiter = 0x1F
 
@@ -30,15 +32,19 @@ is_control_tag tag = (slice_index tag 0 == 0x30) && (slice_index tag 1 == 0x30)
 abbrev pub is_text_byte : ℕ → Bool
 is_text_byte b = not (nat_le record_terminator b && nat_le b delimiter)
 
+-- a text of a field has none of the three delimiters of ISO 2709
 abbrev pub is_text : List ℕ → Bool
 is_text text = list_all is_text_byte text
 
+-- an indicator is a printable ASCII character or a blank
 abbrev pub is_indicator : ℕ → Bool
 is_indicator b = nat_le 0x20 b && nat_le b 0x7E
 
+-- a subfield's code is a printable ASCII character that is no blank
 abbrev pub is_subfield_code : ℕ → Bool
 is_subfield_code b = nat_le 0x21 b && nat_le b 0x7E
 
+-- a subfield has a code and a text
 abbrev pub is_subfield : Subfield → Bool
 is_subfield s = is_subfield_code s.code && is_text s.text
 
@@ -48,6 +54,7 @@ fits_tag tag (Control text) = is_control_tag tag && is_text text
 fits_tag tag (Data ind1 ind2 subfields) =
     not (is_control_tag tag) && ((is_indicator ind1 && is_indicator ind2) && (nat_le 1 (length subfields) && list_all is_subfield subfields))
 
+-- a field has a tag, and a body that fits it
 abbrev pub is_field : List ℕ → Body → Bool
 is_field tag body = is_tag tag && fits_tag tag body
 

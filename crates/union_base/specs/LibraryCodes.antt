@@ -30,6 +30,7 @@ pub record IsPadded (buffer : List ℕ) (size : ℕ) : Type 0 where
 pub longest-is_library_code : (text : List ℕ) → IsTrue (is_library_code text) → length text ≤ longest_code
 longest-is_library_code text code = grind (arith, nat_tests, code)
 
+-- as many bytes are filled as are counted
 pub padded_size : (buffer : List ℕ) (size : ℕ) → IsPadded buffer size → length (take size buffer) ≡ size
 padded_size buffer size padded = omega (arith, length-take {A = ℕ}, padded.whole, padded.within)
 

@@ -36,9 +36,11 @@ abbrev pub end_with : List RefusedFrame → Status
 end_with [] = Done
 end_with (frame ∷ rest) = DoneWithRefusals
 
+-- how a run over these deliveries ends that is done
 abbrev pub end_of_all : List Delivery → Status
 end_of_all all = end_by (list_any has_refused all)
 
+-- how a check of a stream ends that is done
 abbrev pub end_of : List ℕ → Status
 end_of stream = end_with (refused (frames stream))
 
@@ -87,6 +89,7 @@ exported_as Json = exported_in_json
 abbrev pub listed : Showing
 listed = record { shown = works_text_of; noted = λ editions. [] }
 
+-- what each command shows
 abbrev pub showing_of : Shown → Showing
 showing_of (Export form) = exported_as form
 showing_of Works = listed

@@ -5,6 +5,7 @@ use Rattle.union_words.specs.declared.input.Input.{Input}
 use Rattle.union_words.specs.declared.status.Status.{Status}
 use Rattle.union_words.specs.declared.status.Status.TheVariants.{ReadFault, TooLong, Memory}
 
+-- the status for an input that was not read to its end
 abbrev pub stopped_with : Stop → Input → Status
 stopped_with StopTooLong input = TooLong input
 stopped_with StopFailed input = ReadFault input

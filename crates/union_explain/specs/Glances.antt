@@ -22,6 +22,7 @@ entry_of number directory =
 abbrev pub is_graphic : ℕ → Bool
 is_graphic b = nat_le 0x21 b && nat_le b 0x7E
 
+-- the tag of an entry, where it can be shown
 abbrev pub tag_in : Option (List ℕ) → List ℕ
 tag_in None = []
 tag_in (Some entry) = (if list_all is_graphic (take 3 entry) then take 3 entry else [])
@@ -51,6 +52,7 @@ abbrev pub number_by : Option ℕ → ℕ → List ℕ → List ℕ
 number_by None base frame = []
 number_by (Some start) base frame = number_text (field_at (base + start) frame)
 
+-- the control number in the field of an entry
 abbrev pub number_in : Option (List ℕ) → ℕ → List ℕ → List ℕ
 number_in None base frame = []
 number_in (Some entry) base frame = number_by (start_of entry) base frame

@@ -9,5 +9,6 @@ pub record Locating : Type 0 where
   pub at : ℕ
   pub frame : Located
 
+-- the locator as its value
 abbrev pub locating_of : Inside → Locating
 locating_of locator = record { unread = locator.reader.unread; at = locator.reader.at; frame = locator.frame }

@@ -7,9 +7,11 @@ use Rattle.union_words.specs.Words.{is_text}
 use Rattle.union_explain.specs.Rules.{rule_named}
 use Rattle.union_explain.specs.declared.reported.Reported.{Reported}
 
+-- what stands before the first blank
 abbrev pub first_word : List ℕ → List ℕ
 first_word line = before_first (λ b. b == 0x20) line
 
+-- what follows the first blank
 abbrev pub rest_of : List ℕ → List ℕ
 rest_of line = after_first (λ b. b == 0x20) line
 

@@ -7,6 +7,7 @@ use Rattle.union_explain.specs.declared.form.Form.TheVariants.{Tabs, Csv}
 use Rattle.union_explain.specs.declared.request.Request.{Request as RequestInPlace}
 use Rattle.union_explain.specs.declared.request.Request.TheVariants.{Explain as ExplainInPlace, Help as HelpInPlace, Version as VersionInPlace}
 
+-- what the words ask for: to explain the reports on some libraries' files, or the help or the version
 pub data Request : Type 0 where
   Explain : (form : Form) (libraries : List LibraryFile) → Request
   Help : Request

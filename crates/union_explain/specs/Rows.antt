@@ -54,6 +54,7 @@ row form library told frame =
     place_cells form library told.number frame
     ++ (name_cells form told.rule told.place frame.bytes ++ word_cells form told.rule told.place)
 
+-- the row of a reported frame, where the frame was found
 abbrev pub row_of : Form → List ℕ → Reported → Option Located → List ℕ
 row_of form library told None = []
 row_of form library told (Some frame) = row form library told frame

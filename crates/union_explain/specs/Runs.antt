@@ -18,6 +18,7 @@ abbrev pub library_rows : Form → List ℕ → (List ℕ → List ℕ) → Libr
 library_rows form report contents file =
     rows_of form file.library (located (contents file.path)) (refused_in report file.library)
 
+-- the rows of all libraries, in the order of the words
 abbrev pub all_rows : Form → List ℕ → (List ℕ → List ℕ) → List LibraryFile → List ℕ
 all_rows form report contents libraries = flat_map (library_rows form report contents) libraries
 

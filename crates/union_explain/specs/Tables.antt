@@ -7,6 +7,7 @@ pub record Written : Type 0 where
   pub text : List ℕ
   pub rows : ℕ
 
+-- the table as its value
 abbrev pub written_of : Inside → Written
 written_of table = record { text = table.text.items; rows = table.rows }
 

@@ -14,6 +14,7 @@ pub record Delivery : Type 0 where
   pub library : List ℕ
   pub frames : List Frame
 
+-- what a library delivers: its frames, loaded by a preference among libraries
 abbrev pub delivery : List (List ℕ) → List ℕ → List Frame → Delivery
 delivery prefer library frames = record { prefer = prefer; library = library; frames = frames }
 
@@ -38,9 +39,11 @@ pub record Stream : Type 0 where
   pub batches : List Batch
   pub are : AreBatches prefer library frames batches
 
+-- the delivery of a stream
 abbrev pub delivered : Stream → Delivery
 delivered s = delivery s.prefer s.library s.frames
 
+-- the batches of a stream
 abbrev pub batches_of : Stream → List Batch
 batches_of s = s.batches
 
@@ -49,5 +52,6 @@ batches_of s = s.batches
 abbrev pub report_of : Stream → List ℕ
 report_of s = report_text s.library s.frames (found_in [] s.batches)
 
+-- the reports of streams, in order
 abbrev pub reports_of : List Stream → List ℕ
 reports_of streams = flat_map report_of streams

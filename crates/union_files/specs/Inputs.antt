@@ -22,6 +22,7 @@ use Rattle.union_files.specs.declared.opened_file.OpenedFile.{OpenedFile}
 abbrev pub input_of : LibraryFile → InputFile
 input_of file = record { input = Library file.library; path = file.path }
 
+-- the inputs of libraries' files
 abbrev pub inputs_of : List LibraryFile → List InputFile
 inputs_of libraries = map input_of libraries
 
@@ -118,6 +119,7 @@ pub record OpenedState : Type 0 where
   pub left : Option (List ℕ)
   pub faults : ℕ
 
+-- an opened file as its value
 abbrev pub state_of : {S : Type 0} → (S → List ℕ) → (S → Option (List ℕ)) → (S → ℕ) → OpenedFile S → OpenedState
 state_of name left faults opened =
     record { library = opened.library; name = name opened.source; left = left opened.source; faults = faults opened.source }
@@ -130,6 +132,7 @@ states_of name left faults all = map (state_of name left faults) all
 abbrev pub file_of : OpenedState → LibraryFile
 file_of opened = record { library = opened.library; path = opened.name }
 
+-- the files that were opened
 abbrev pub files_of : List OpenedState → List LibraryFile
 files_of all = map file_of all
 
@@ -139,5 +142,6 @@ pub record IsFresh (files : Option (List ℕ → List ℕ)) (names : List (List 
   pub left : opened.left ≡ told_of files opened.name
   pub faults : opened.faults ≡ 0
 
+-- nothing of the opened files was read yet
 abbrev pub AreFresh : Option (List ℕ → List ℕ) → List (List ℕ) → List OpenedState → Type 0
 AreFresh files names all = AllByRecursion (IsFresh files names) all

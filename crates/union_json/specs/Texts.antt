@@ -14,6 +14,7 @@ pub record Making : Type 0 where
   pub noted : List ℕ
   pub end : Status
 
+-- what was made, as its value
 abbrev pub making_of : Made → Making
 making_of made = record { shown = made.shown; noted = made.noted.items; end = made.end }
 
@@ -47,5 +48,6 @@ refused_line library refused =
     ++ (counted (codes "refused") refused.line
     ++ (counted (reason_name refused.reason) (reason_place refused.reason) ++ 0x0A ∷ []))
 
+-- the lines of a report on refused lines
 abbrev pub refused_lines : List ℕ → List RefusedLine → List ℕ
 refused_lines library all = flat_map (refused_line library) all

@@ -19,9 +19,11 @@ use Rattle.library_batches.specs.declared.refused.RefusedFrame.{RefusedFrame}
 abbrev pub is_withdrawing : List ℕ → Bool
 is_withdrawing frame = is_deleted (status_of frame)
 
+-- how many of the accepted frames withdraw a record
 abbrev pub withdrawals : List Frame → ℕ
 withdrawals all = count_by is_withdrawing (accepted all)
 
+-- how many of the accepted frames load one
 abbrev pub loads : List Frame → ℕ
 loads all = count_by (λ frame. not (is_withdrawing frame)) (accepted all)
 
@@ -56,6 +58,7 @@ unfoldable pub refused_line : List ℕ → RefusedFrame → List ℕ
 refused_line library frame =
     library ++ (counted (codes "refused") frame.frame ++ (counted (rule_name frame.rule) frame.place ++ 0x0A ∷ []))
 
+-- the lines of a report on refused frames
 abbrev pub refused_lines : List ℕ → List RefusedFrame → List ℕ
 refused_lines library all = flat_map (refused_line library) all
 

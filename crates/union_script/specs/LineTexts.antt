@@ -7,6 +7,7 @@ use Rattle.union_words.specs.Texts.{line_feed}
 abbrev pub refused_word : List ℕ
 refused_word = codes "refused word" ++ line_feed ∷ []
 
+-- the line for a question whose first word is none
 abbrev pub refused_unknown : List ℕ
 refused_unknown = codes "refused unknown" ++ line_feed ∷ []
 

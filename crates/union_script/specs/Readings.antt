@@ -21,6 +21,7 @@ Reads limit (Ok found) source IsOf =
     (source.after ≡ source.before) × IfSome source.told (λ bytes. (length bytes ≤ limit) × IsOf found bytes)
 Reads limit (Err stop) source IsOf = IsStop limit stop source
 
+-- the status for an input that was not read to its end
 abbrev pub stopped_with : Stop → Input → Status
 stopped_with StopTooLong input = TooLong input
 stopped_with StopFailed input = ReadFault input

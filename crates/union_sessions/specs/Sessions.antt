@@ -43,6 +43,7 @@ pub record Course : Type 0 where
   pub own : List Batch
   pub seen : List (ℕ × Batch)
 
+-- the file that a course reads
 abbrev pub file_of_course : Course → LibraryFile
 file_of_course course = record { library = course.library; path = course.path }
 
@@ -80,6 +81,7 @@ StopsBehind (TooLong input) libraries files = IfSome files (λ contents. IsTooLo
 StopsBehind Memory libraries files = ⊤
 StopsBehind status libraries files = ⊥
 
+-- all files were read to their ends, and what was made of their bytes is so; or one was not, and the status says which
 abbrev pub Closes : {T : Type 0} → Result T Status → List LibraryFile → Option (List ℕ → List ℕ) → ((List ℕ → List ℕ) → Type 0) → Type 0
 Closes (Ok done) libraries files IsOf = IfSome files (λ contents. AreWithin contents libraries × IsOf contents)
 Closes (Err status) libraries files IsOf = StopsBehind status libraries files
@@ -127,6 +129,7 @@ module _ {S : Type 0} where
       IsReadyAs desk prefer number session × AreReady desk prefer (suc number) sessions
 
   module _ (name : S → List ℕ) where
+    -- a session's course so far
     abbrev pub course_of : Session S → Course
     course_of session = record {
       prefer = session.prefer;
@@ -138,6 +141,7 @@ module _ {S : Type 0} where
       seen = (view session.pass).seen;
     }
 
+    -- those of all sessions
     abbrev pub courses_of : List (Session S) → List Course
     courses_of sessions = map course_of sessions
 
@@ -147,6 +151,7 @@ module _ {S : Type 0} where
       session_state session =
           record { library = session.library; name = name session.source; left = left session.source; faults = faults session.source }
 
+      -- the files of all sessions
       abbrev pub session_states : List (Session S) → List OpenedState
       session_states sessions = map session_state sessions
 
@@ -164,5 +169,6 @@ module _ {S : Type 0} where
         pub fault : is_fault session.end ≡ true → 0 < faults session.source
         pub calm : is_fault session.end ≡ false → faults session.source ≡ 0
 
+      -- all sessions have run
       abbrev pub HaveRun : TableId → Option (List ℕ → List ℕ) → List (List ℕ) → List (Session S) → Type 0
       HaveRun desk files names sessions = AllByRecursion (HasRun desk files names) sessions

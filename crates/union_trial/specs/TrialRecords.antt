@@ -38,6 +38,7 @@ fixed_text year = codes "240101s" ++ (numeral 4 year ++ codes "    xx           
 abbrev pub isbn_stem : ℕ → List ℕ
 isbn_stem number = codes "978" ++ numeral 9 number
 
+-- an ISBN of thirteen with its check digit
 abbrev pub isbn_text : ℕ → List ℕ
 isbn_text number = isbn_stem number ++ check_digit (isbn_stem number) ∷ []
 
@@ -49,12 +50,15 @@ text_field tag ind1 ind2 text = field_of tag (Data ind1 ind2 (subfield 0x61 text
 abbrev pub fixed_field : Draws → List Field
 fixed_field d = control_field (codes "008") (fixed_text d.year)
 
+-- the field 020
 abbrev pub isbn_field : Draws → List Field
 isbn_field d = text_field (codes "020") 0x20 0x20 (isbn_text d.number)
 
+-- the field 100
 abbrev pub author_field : Draws → List Field
 author_field d = text_field (codes "100") 0x31 0x20 (codes "Author " ++ numeral 8 d.name)
 
+-- the field 245
 abbrev pub title_field : Draws → List Field
 title_field d = text_field (codes "245") 0x30 0x30 (codes "Title " ++ numeral 8 d.title)
 

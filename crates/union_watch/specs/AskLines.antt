@@ -25,6 +25,7 @@ abbrev pub with_line : List ℕ → Result Query QueryRefusal → AskLine
 with_line line (Ok query) = Ok line
 with_line line (Err refusal) = Err refusal
 
+-- a line of the file of questions, as it is read
 abbrev pub read_line : List ℕ → AskLine
 read_line line = with_line line (query_of line)
 
@@ -33,6 +34,7 @@ abbrev pub given : Result Query QueryRefusal → List Query
 given (Ok query) = query ∷ []
 given (Err refusal) = []
 
+-- the question of a line, if it is one
 abbrev pub question_of : List ℕ → List Query
 question_of line = given (query_of line)
 

@@ -61,11 +61,13 @@ IsShown AreTurns workers asks all out notes =
     (streams : List Stream) × (history : List HistoryEntry) × (told : List Told) × IsWatched AreTurns workers asks all streams history told
     × Appends out.old out.new (watch_text history told) × Appends notes.old notes.new (reports_of streams)
 
+-- a load was watched, and standard output or the notes were cut off
 abbrev pub IsShownInPart : Order → ℕ → List ℕ → List Delivery → Outflow → Outflow → Type 0
 IsShownInPart AreTurns workers asks all out notes =
     (streams : List Stream) × (history : List HistoryEntry) × (told : List Told) × IsWatched AreTurns workers asks all streams history told
     × IsCutOff out notes (watch_text history told) (reports_of streams)
 
+-- a load was watched, and a prefix of its text was written
 abbrev pub IsBegun : Order → ℕ → List ℕ → List Delivery → Outflow → Type 0
 IsBegun AreTurns workers asks all out =
     (streams : List Stream) × (history : List HistoryEntry) × (told : List Told) × IsWatched AreTurns workers asks all streams history told

@@ -21,6 +21,7 @@ pub data Told : Type 0 where
 abbrev pub shown_byte : ℕ → ℕ
 shown_byte b = (if nat_lt b 0x20 || (b == 0x7F) then 0x20 else b)
 
+-- a line as it is shown
 abbrev pub shown : List ℕ → List ℕ
 shown line = map shown_byte line
 
@@ -28,6 +29,7 @@ shown line = map shown_byte line
 unfoldable pub reply_line : ℕ → List ℕ → List ℕ
 reply_line over line = codes "reply " ++ (six_digits over ++ 0x20 ∷ (shown line ++ line_feed ∷ []))
 
+-- the line for a question that is refused
 abbrev pub refusal_text : QueryRefusal → List ℕ
 refusal_text Unknown = refused_unknown
 refusal_text BadRest = refused_word
@@ -38,6 +40,7 @@ abbrev pub told_text : Told → List ℕ
 told_text (Reply over line answer) = reply_line over line ++ answer
 told_text (Refused refusal) = refusal_text refusal
 
+-- the texts of all that was told, in order
 abbrev pub told_text_of : List Told → List ℕ
 told_text_of all = flat_map told_text all
 

@@ -13,6 +13,7 @@ pub record TurnLine : Type 0 where
   pub library : List ℕ
   pub operations : ℕ
 
+-- what the line of a turn tells: its number, its library, and how many operations its batch has
 abbrev pub turn_of : ℕ → HistoryEntry → TurnLine
 turn_of turn entry = record { turn = turn; library = entry.batch.library; operations = length entry.batch.ops }
 

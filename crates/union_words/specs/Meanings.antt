@@ -37,6 +37,7 @@ options_meaning options = record { workers = options.workers.number; prefer = op
 abbrev pub trial_meaning : TrialOfNumbers → Job
 trial_meaning trial = Trial trial.seed trial.count trial.workers.number
 
+-- a job whose words lie in place, as its value
 abbrev pub job_meaning : JobInPlace → Job
 job_meaning (CheckInPlace file) = Check (file_meaning file)
 job_meaning (ToJsonInPlace file) = ToJson (file_meaning file)
@@ -49,6 +50,7 @@ job_meaning (TrialInPlace trial) = trial_meaning trial
 job_meaning HelpInPlace = Help
 job_meaning VersionInPlace = Version
 
+-- a line of a script whose words lie in place, as its value
 abbrev pub line_meaning : LineInPlace → ScriptLine
 line_meaning (LoadInPlace file) = Load false (file_meaning file)
 line_meaning ExportLineInPlace = lines.Export

@@ -15,6 +15,7 @@ pub data ScriptLine : Type 0 where
   Ask : (line : List ℕ) → ScriptLine
   Word : ScriptLine
 
+-- a blank
 abbrev pub is_blank : ℕ → Bool
 is_blank b = b == 0x20
 
@@ -37,6 +38,7 @@ abbrev pub lone_line : ScriptLine → List ℕ → ScriptLine
 lone_line wanted [] = wanted
 lone_line wanted (b ∷ rest) = Word
 
+-- what a line of a script asks for
 abbrev pub script_line : List ℕ → ScriptLine
 script_line line =
     (if is_text (first_word line) (codes "load") then load_line (rest_of line)

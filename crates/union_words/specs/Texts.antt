@@ -5,6 +5,7 @@ use Rattle.union_words.specs.declared.input.Input.TheVariants.{Library, Asks, Sc
 use Rattle.union_words.specs.declared.status.Status.{Status}
 use Rattle.union_words.specs.declared.status.Status.TheVariants.{Done, DoneWithRefusals, Usage, OpenFault, ReadFault, WriteFault, TooLong, Memory}
 
+-- the end of a line
 abbrev pub line_feed : ℕ
 line_feed = 0x0A
 

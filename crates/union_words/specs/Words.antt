@@ -141,6 +141,7 @@ pub record Options : Type 0 where
   pub prefer : List (List ℕ)
   pub rest : List (List ℕ)
 
+-- the options in their order, and the words after them
 abbrev pub options_in : List (List ℕ) → Options
 options_in words =
     record { workers = (workers_in words).0; prefer = (prefer_in (workers_in words).1).0; rest = (prefer_in (workers_in words).1).1 }

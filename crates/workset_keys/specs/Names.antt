@@ -5,10 +5,12 @@ use Rattle.union_base.specs.Bodies.{Body, Control, Data, subfields_of}
 use Rattle.union_base.specs.declared.field.Field.{Field}
 use Rattle.naco_normal.specs.Heading.{heading_of, title_of}
 
+-- the first indicator, 0 in a control field
 abbrev pub first_indicator : Body → ℕ
 first_indicator (Control text) = 0
 first_indicator (Data first second subfields) = first
 
+-- the second indicator, 0 in a control field
 abbrev pub second_indicator : Body → ℕ
 second_indicator (Control text) = 0
 second_indicator (Data first second subfields) = second
@@ -33,8 +35,10 @@ name_of f = heading_of (subfields_of f.body) (name_codes f.tag)
 abbrev pub title130_of : Field → List ℕ
 title130_of f = title_of (subfields_of f.body) (codes "anp") (skip_of (first_indicator f.body))
 
+-- the title of a 240: $a, $n and $p, without the characters that the second indicator counts
 abbrev pub title240_of : Field → List ℕ
 title240_of f = title_of (subfields_of f.body) (codes "anp") (skip_of (second_indicator f.body))
 
+-- the title of a 245: $a, $b, $n and $p, without the characters that the second indicator counts
 abbrev pub title245_of : Field → List ℕ
 title245_of f = title_of (subfields_of f.body) (codes "abnp") (skip_of (second_indicator f.body))
