@@ -313,7 +313,7 @@ fn other_words_are_refused(rt: HostRuntime) -> Result<(), Fail> {
     for line in NO_FORMS {
         assert!(rt; ends(&rt, rt.alloc(), line, &files, Status::Usage, (b"", told))?);
     }
-    let version = b"union 0.3.0\n";
+    let version = b"union 0.4.0\n";
     assert!(rt;
         ends(
             &rt,

@@ -519,7 +519,7 @@ fn is_plain(line: &[u8]) -> bool {
 
 #[test]
 fn own_texts_are_plain_lines(rt: HostRuntime) -> Result<(), Fail> {
-    assert!(rt; version_text() == b"union 0.3.0\n".as_slice());
+    assert!(rt; version_text() == b"union 0.4.0\n".as_slice());
     let mut lines = Lines::of(help_text());
     let mut first = true;
     while let Some(line) = lines.next() {

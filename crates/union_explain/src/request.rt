@@ -8,7 +8,7 @@ use union_base::bytes::Bytes;
 use union_words::libraries::Libraries;
 
 /// The answer to `--version`.
-pub const VERSION: &[u8] = b"union-explain 0.3.0\n";
+pub const VERSION: &[u8] = b"union-explain 0.4.0\n";
 
 /// The answer to `--help`.
 pub const HELP: &[u8] = b"\

@@ -3,7 +3,7 @@
 ghost use Rattle.std.specs.Prelude.{◌≡◌};
 
 /// The answer to `--version`.
-pub const VERSION: &[u8] = b"union 0.3.0\n";
+pub const VERSION: &[u8] = b"union 0.4.0\n";
 
 /// The answer to `--help`.
 pub const HELP: &[u8] = b"\
