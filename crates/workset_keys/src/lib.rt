@@ -6,6 +6,7 @@
 #![tactic(auto)]
 
 pub mod fields;
+pub mod laws;
 mod names;
 mod texts;
 pub mod work_key;
