@@ -10,3 +10,5 @@ pub mod TilingLaws
 pub mod FieldReading
 pub mod DecodingLaws
 pub mod NoFailure
+pub mod PlaceLaws
+mod TilingPlaces

@@ -1,11 +1,11 @@
 -- A frame that spells a record breaks no rule.
-use Rattle.std.proofs.Common.{◌≡◌, ℕ, zero, suc, ◌+◌, ◌-◌, ◌*◌, ◌/◌, ◌%◌, ◌<◌, ◌≤◌, Bool, true, false, not, ◌&&◌, ◌||◌, List, [], ◌∷◌, ◌++◌, length, get_or, take, drop, map, refl, sym, ◌∙◌, ap, arith, append_assoc, length-append, length-drop, None}
+use Rattle.std.proofs.Common.{◌≡◌, ℕ, zero, suc, ◌+◌, ◌-◌, ◌*◌, ◌/◌, ◌%◌, ◌<◌, ◌≤◌, Bool, true, false, not, ◌&&◌, ◌||◌, List, [], ◌∷◌, ◌++◌, length, get_or, take, drop, map, refl, sym, ◌∙◌, ap, arith, append_assoc, length-append, length-drop, None, Some}
 use Rattle.std.proofs.Math.Seq.{take-append_seam, drop-append_seam, get_or-append_seam}
 use Rattle.std.proofs.lemmas.Bool.{and_parts, and_from}
 use Rattle.std.proofs.lemmas.Bool.Decides.{nat_tests}
 use Rattle.std.proofs.lemmas.List.{take-take, length-take}
 use Rattle.std.specs.List.{list_all, flat_map}
-use Rattle.std.specs.Prelude.{◌==◌, nat_le, nat_lt, if◌then◌else◌}
+use Rattle.std.specs.Prelude.{◌==◌, nat_le, nat_lt, if◌then◌else◌, Option, Result, Ok, Err}
 use Rattle.marc_leader.specs.Leader.{misfit, length_place, base_place}
 use Rattle.marc_leader.specs.Numeral.{are_digits}
 use Rattle.marc_leader.specs.declared.entry.Entry.{Entry}
@@ -13,8 +13,12 @@ use Rattle.marc_leader.specs.declared.leader.Leader.{Leader}
 use Rattle.union_base.specs.Fields.{is_control_tag, spelled as body_bytes}
 use Rattle.union_base.specs.declared.field.Field.{Field}
 use Rattle.marc_fields.specs.declared.marc_record.Record.{Record}
+use Rattle.marc_fields.specs.declared.decoding.DecodeRefusal.{DecodeRefusal}
+use Rattle.marc_fields.specs.declared.decoding.DecodeRefusal.TheVariants.{Rule as RuleRefusal, Memory}
+use Rattle.marc_fields.specs.declared.rules.Failure.{Failure}
+use Rattle.marc_fields.specs.Refusals.{RefusesUnspelled}
 use Rattle.marc_fields.specs.declared.rules.Rule.TheVariants.{LeaderCounts}
-use Rattle.marc_fields.specs.Rows.{least_where_not, ends_in_only, any_from, all_from, fails}
+use Rattle.marc_fields.specs.Rows.{least_where_not, ends_in_only, any_from, all_from, fails, Answers}
 use Rattle.marc_fields.specs.Rules.{leader_of_frame, base_in, base_of, is_base, has_base, head_failure, leader_failure, entry_in, entry_texts, texts_of, data_in, has_digits, has_tag, directory_failure, is_tile, is_owned, shares, tiling_from, tiling_failure, range_of, text_of, is_control_shaped, is_data_shaped, shape_failure, first_failure}
 use Rattle.marc_fields.specs.Shapes.{are_inner, is_inner, has_shape, has_control_shape, has_data_shape}
 use Rattle.marc_fields.specs.Spelling.{is_in, owners, entry_bytes, leader_bytes, Spells, IsEntryOf, AreEntriesOf}
@@ -283,3 +287,13 @@ spelled-no_failure frame r s =
     let shape : shape_failure (data_in frame) (map entry_in (texts_of frame)) ≡ None
     = ap (λ b. shape_failure b (map entry_in (texts_of frame))) (spelled-data frame r s) ∙ (ap (shape_failure s.bytes) entries ∙ shape-none s.bytes s.entries r.fields s.fields) in
     rw ((spelled-base frame r s).0, directory, tiling, shape) refl
+
+-- what names the first failure names one only where the frame spells no record
+pub refuses-unspelled : (result : Result Record DecodeRefusal) (frame : List ℕ) → Answers result (first_failure frame) (λ found. Spells frame found)
+    → RefusesUnspelled result frame
+refuses-unspelled (Ok r) frame answers = answers.1
+refuses-unspelled (Err (RuleRefusal rule place)) frame names = λ r spells. none_some _ (first_failure frame) (spelled-no_failure frame r spells) names
+  where
+    none_some : (failure : Failure) (o : Option Failure) → o ≡ None → o ≡ Some failure → ⊥
+    none_some failure o p q = cc
+refuses-unspelled (Err Memory) frame names = tt

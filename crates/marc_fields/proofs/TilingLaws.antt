@@ -162,7 +162,7 @@ any_from-none p start (suc n) k none low high =
     or_parts true b h = cc
     or_parts false b h = (refl, h)
 
-all_from-each : (p : ℕ → Bool) (start n k : ℕ) → all_from p start n ≡ true → start ≤ k → k < start + n → p k ≡ true
+pub all_from-each : (p : ℕ → Bool) (start n k : ℕ) → all_from p start n ≡ true → start ≤ k → k < start + n → p k ≡ true
 all_from-each p start zero k all low high = absurd (omega arith)
 all_from-each p start (suc n) k all low high =
     let both = and_parts (p start) (all_from p (suc start) n) all in

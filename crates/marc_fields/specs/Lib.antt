@@ -7,3 +7,5 @@ pub mod Rules
 pub mod Fronts
 pub mod Directories
 pub mod Tilings
+pub mod Refusals
+pub mod Places

@@ -3,6 +3,7 @@ ghost use Rattle.std.specs.Prelude.{◌≡◌, ◌+◌, ◌-◌, ◌*◌, ◌≤
 ghost use Rattle.std.specs.List.{list_all};
 ghost use Rattle.marc_fields.specs.Directories.{is_formed, AreDecoded};
 ghost use Rattle.marc_fields.specs.Fronts.{IsFront};
+ghost use Rattle.marc_fields.specs.Refusals.{RefusesUnspelled};
 ghost use Rattle.marc_fields.specs.Rows.{Answers};
 ghost use Rattle.marc_fields.specs.Rules.{IsFrame, entry_texts, texts_of, data_in, leader_of_frame, tiling_failure, data_failure, parts_failure, first_failure};
 ghost use Rattle.marc_fields.specs.Shapes.{ends_no_record};
@@ -148,11 +149,13 @@ fn decode_behind(alloc: Global, frame: &[u8], front: &Front) -> Result<Record, D
 }
 
 /// The record that the frame spells (ISO 2709; MARC 21), with the fields' bytes in any order, or the first rule that
-/// fails of those on length, leader, directory, ranges and shape of fields, with its place (see `Rule`). The frame has at
-/// most 99,999 bytes and ends in its only record terminator. Linear in the frame.
+/// fails of those on length, leader, directory, ranges and shape of fields, with its place (see `Rule`). A rule is named
+/// exactly where the frame spells no record. The frame has at most 99,999 bytes and ends in its only record terminator.
+/// Linear in the frame. Returns `Memory` if allocation fails.
 pub fn decode(alloc: Global, frame: &[u8]) -> Result<Record, DecodeRefusal>
     requires { IsFrame frame.now }
-    ensures { Answers result (first_failure frame.now) (λ found. Spells frame.now found) }
+    ensures answer { Answers result (first_failure frame.now) (λ found. Spells frame.now found) }
+    ensures refused { RefusesUnspelled result frame.now }
 {
     match check_head(frame) {
         Ok(front) => decode_behind(alloc, frame, &front),
