@@ -11,4 +11,4 @@ pub mod FieldReading
 pub mod DecodingLaws
 pub mod NoFailure
 pub mod PlaceLaws
-mod TilingPlaces
+pub mod TilingPlaces

@@ -25,7 +25,7 @@ walk bytes earlier i (e ∷ entries) =
     ap (λ o. if has_range bytes earlier e then o else Some i) (walk bytes (earlier ++ e ∷ []) (suc i) entries)
 
 -- a member that passes a test, and a list in which none does
-member-passes : {A : Type 0} (test : A → Bool) (xs : List A) → list_any test xs ≡ true → (x : A) × Contains xs x × (test x ≡ true)
+pub member-passes : {A : Type 0} (test : A → Bool) (xs : List A) → list_any test xs ≡ true → (x : A) × Contains xs x × (test x ≡ true)
 member-passes test [] some = cc
 member-passes test (y ∷ ys) some = of (member-passes test ys) (test y) refl some
   where
@@ -37,7 +37,7 @@ or_right : (b c : Bool) → c ≡ true → (b || c) ≡ true
 or_right true c h = refl
 or_right false c h = h
 
-passes-member : {A : Type 0} (test : A → Bool) (xs : List A) (x : A) (k : ℕ) → k < length xs → get_or xs k x ≡ x → test x ≡ true → list_any test xs ≡ true
+pub passes-member : {A : Type 0} (test : A → Bool) (xs : List A) (x : A) (k : ℕ) → k < length xs → get_or xs k x ≡ x → test x ≡ true → list_any test xs ≡ true
 passes-member test [] x k below is passes = absurd (omega arith)
 passes-member test (y ∷ ys) x zero below is passes = rw is (rw passes refl)
 passes-member test (y ∷ ys) x (suc k) below is passes = or_right (test y) (list_any test ys) (passes-member test ys x k (omega arith) is passes)

@@ -2,3 +2,4 @@ pub mod NumberLaws
 pub mod CheckLaws
 pub mod Utf8Laws
 pub mod AcceptedProof
+mod RepeatLaws

@@ -5,3 +5,4 @@ pub mod Checked
 pub mod Accepted
 pub mod AcceptedLaws
 pub mod Refusals
+pub mod Repeats

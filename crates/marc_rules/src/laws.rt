@@ -1,5 +1,7 @@
-//! What an accepted record has, for whoever reasons about one. Each function is empty, and its clause is the law.
+//! What an accepted record has, and at which place a rule fails, for whoever reasons about them. Each function is empty, and
+//! its clause is the law.
 ghost use Rattle.marc_rules.specs.AcceptedLaws.{AcceptedIsLoadable, AcceptedIsWithdrawal, AcceptedHasParts, AcceptedIsShort, AcceptedIsPrintable};
+ghost use Rattle.marc_rules.specs.Repeats.{RepeatedIsLeast};
 
 /// An accepted record whose status is not `d` can be loaded: it has one control number, one 008 of 40 bytes and one 245, and
 /// its texts are UTF-8.
@@ -25,4 +27,10 @@ pub fn accepted_is_short()
 /// The codes in the leader of an accepted record are ASCII graphics and blanks.
 pub fn accepted_is_printable()
     ensures { AcceptedIsPrintable }
+{}
+
+/// A repeated field is at the least entry of which an earlier entry is of its class: under a tag that may stand once, or one of
+/// the main entries.
+pub fn repeated_is_least()
+    ensures { RepeatedIsLeast }
 {}
