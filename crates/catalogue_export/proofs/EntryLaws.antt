@@ -11,8 +11,8 @@ use Rattle.marc_fields.specs.Rules.{text_of}
 use Rattle.marc_fields.specs.Spelling.{AreEntriesOf}
 use Rattle.marc_fields.specs.declared.rules.Rule.TheVariants.{ControlNumber}
 use Rattle.marc_fields.proofs.NoFailure.{text-spelled}
-use Rattle.marc_rules.specs.Numbers.{is_same, places, once, no_entry, text_at, is_control_number, tag_001, tag_008, tag_245, control_number_place, fixed_008_place, title_245_place, class_of, has_class, repeated_from, number_failure}
-use Rattle.marc_rules.proofs.NumberLaws.{no_class, new_class, number_failure-control}
+use Rattle.marc_rules.specs.RequiredFields.{is_same, places, once, no_entry, text_at, is_control_number, tag_001, tag_008, tag_245, control_number_place, fixed_008_place, title_245_place, class_of, has_class, repeated_from, number_failure}
+use Rattle.marc_rules.proofs.RequiredLaws.{no_class, new_class, number_failure-control}
 use Rattle.catalogue_export.proofs.CountLaws.{one_if, counted, counted-append, uncounted}
 
 -- the field has that tag

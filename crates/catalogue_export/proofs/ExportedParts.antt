@@ -10,7 +10,7 @@ use Rattle.union_base.specs.Bodies.{Body}
 use Rattle.union_base.specs.declared.field.Field.{Field}
 use Rattle.union_base.specs.declared.record_id.RecordId.{RecordId}
 use Rattle.marc_parts.specs.Parts.{has_tag}
-use Rattle.marc_rules.specs.Numbers.{is_same, class_of}
+use Rattle.marc_rules.specs.RequiredFields.{is_same, class_of}
 use Rattle.field_merge.specs.Contents.{is_main_entry, has_slot, is_made_anew, is_united}
 use Rattle.field_merge.specs.declared.content.Content.{Content}
 use Rattle.field_merge.specs.declared.slot.Slot.{Slot}

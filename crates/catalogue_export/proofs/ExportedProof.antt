@@ -23,7 +23,7 @@ use Rattle.marc_parts.specs.Loads.{has_number_shape, is_utf8_field}
 use Rattle.marc_parts.specs.Trimmed.{trim_end}
 use Rattle.marc_rules.specs.Accepted.{IsAccepted}
 use Rattle.marc_rules.specs.NineteenRules.{first_rule}
-use Rattle.marc_rules.specs.Numbers.{is_same, class_of, places, is_control_number, tag_001, tag_008, tag_245, number_failure}
+use Rattle.marc_rules.specs.RequiredFields.{is_same, class_of, places, is_control_number, tag_001, tag_008, tag_245, number_failure}
 use Rattle.field_merge.specs.Contents.{is_main_entry, is_united}
 use Rattle.field_merge.specs.declared.content.Content.{Content}
 use Rattle.workset_keys.specs.WorkKeys.{own_name}

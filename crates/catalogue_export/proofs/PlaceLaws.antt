@@ -14,7 +14,7 @@ use Rattle.union_base.specs.Fields.{is_tag, is_tag_byte, fits_tag}
 use Rattle.union_base.specs.declared.field.Field.{Field}
 use Rattle.marc_fields.specs.Spelling.{AreEntriesOf}
 use Rattle.marc_parts.specs.Parts.{has_tag, how_many}
-use Rattle.marc_rules.specs.Numbers.{is_same, places, tag_001}
+use Rattle.marc_rules.specs.RequiredFields.{is_same, places, tag_001}
 use Rattle.catalogue_export.specs.TagOrder.{is_lower, put, in_tag_order}
 use Rattle.catalogue_export.proofs.CountLaws.{one_if, counted, counted-put}
 use Rattle.catalogue_export.proofs.EntryLaws.{is_under, places-count}

@@ -18,7 +18,7 @@ use Rattle.marc_fields.proofs.NoFailure.{text-spelled, spelled-entries, spelled-
 use Rattle.marc_parts.specs.Loads.{is_utf8_subfield, is_utf8_body, is_utf8_field}
 use Rattle.marc_rules.specs.Contents.{is_utf8_at, content_failure}
 use Rattle.marc_rules.specs.NineteenRules.{status_of, coding_of, whole_failure}
-use Rattle.marc_rules.specs.Numbers.{number_failure}
+use Rattle.marc_rules.specs.RequiredFields.{number_failure}
 
 or_none : (one other : Option Failure) → or_then one other ≡ None → (one ≡ None) × (other ≡ None)
 or_none None other none = (refl, none)

@@ -1,5 +1,5 @@
 //! Frames read as records.
-ghost use Rattle.std.specs.Prelude.{◌≡◌, ◌+◌, ◌-◌, ◌*◌, ◌≤◌, IsTrue, ◌↔◌, true, length, take, drop, None};
+ghost use Rattle.std.specs.Prelude.{◌≡◌, ◌*◌, ◌≤◌, IsTrue, ◌↔◌, true, length, None};
 ghost use Rattle.std.specs.List.{list_all};
 ghost use Rattle.marc_fields.specs.Directories.{is_formed, AreDecoded};
 ghost use Rattle.marc_fields.specs.Fronts.{IsFront};
@@ -15,10 +15,10 @@ use crate::ending::ends_in_only;
 use crate::fields::check_fields;
 use crate::head::{Front, SMALLEST_BASE, check_head};
 use crate::marc_record::Record;
+use crate::parts::split_frame;
 use crate::rules::Rule;
 use crate::tiling::check_tiling;
 use marc_leader::entry::{ENTRY_SIZE, Entry};
-use marc_leader::leader::LEADER_SIZE;
 use std::alloc::{AllocError, AllocFailed, Global};
 use union_base::body::RECORD_TERMINATOR;
 use union_base::field::Field;
@@ -70,27 +70,6 @@ pub fn is_frame(bytes: &[u8]) -> bool
     ensures { IsTrue result ↔ IsFrame bytes.now }
 {
     bytes.len() <= LONGEST_FRAME && ends_in_only(RECORD_TERMINATOR, bytes)
-}
-
-/// The directory and the data of a frame.
-#[derive(Clone, Copy)]
-struct Parts<'a> {
-    directory: &'a [u8],
-    bytes: &'a [u8],
-}
-
-/// The bytes between the leader and the base address's terminator, and those from there to the record terminator.
-fn split_frame(frame: &[u8], base: usize) -> Parts<'_>
-    requires low { 25 ≤ base }
-    requires high { base + 1 ≤ length frame.now }
-    ensures directory { result.directory.now ≡ take (base - 25) (drop 24 frame.now) }
-    ensures bytes { result.bytes.now ≡ take (length frame.now - 1 - base) (drop base frame.now) }
-{
-    let (_, behind) = frame.split_at(LEADER_SIZE);
-    let (directory, _) = behind.split_at(base - SMALLEST_BASE);
-    let (_, rest) = frame.split_at(base);
-    let (bytes, _) = rest.split_at(frame.len() - 1 - base);
-    Parts { directory, bytes }
 }
 
 /// The fields that lie at the entries, or the first rule on the data that fails.

@@ -4,12 +4,13 @@ ghost use Rattle.std.specs.List.{list_all};
 ghost use Rattle.marc_leader.specs.declared.entry.Entry.{Entry};
 ghost use Rattle.marc_fields.specs.Directories.{is_formed};
 ghost use Rattle.marc_fields.specs.Rows.{Answers, least_where_not};
-ghost use Rattle.marc_fields.specs.Rules.{is_tile, text_of, is_control_shaped, is_data_shaped, shape_failure};
+ghost use Rattle.marc_fields.specs.Rules.{is_tile, is_control_shaped, is_data_shaped, shape_failure};
 ghost use Rattle.marc_fields.specs.Shapes.{ends_no_record};
 ghost use Rattle.marc_fields.specs.Spelling.{AreEntriesOf};
 ghost use Rattle.marc_fields.specs.declared.rules.Rule.TheVariants.{DataShape};
 
 use crate::decoding::DecodeRefusal;
+use crate::parts::text_in;
 use crate::rules::Rule;
 use crate::shape::{are_data, are_undelimited, read_field};
 use marc_leader::entry::Entry;
@@ -17,16 +18,6 @@ use std::alloc::Global;
 use union_base::body::is_control_tag;
 use union_base::field::Field;
 use union_base::memory::Memory;
-
-/// The bytes of the entry's field, without the terminator.
-fn text_in<'a>(entry: &Entry, bytes: &'a [u8]) -> &'a [u8]
-    requires { is_tile bytes.now entry.now ≡ true }
-    ensures { result.now ≡ text_of bytes.now entry.now }
-{
-    let (_, behind) = bytes.split_at(entry.start as usize);
-    let (text, _) = behind.split_at(entry.length as usize - 1);
-    text
-}
 
 /// Whether the entry's field is no control field, or has no delimiter.
 fn is_control_fit(entry: &Entry, bytes: &[u8]) -> bool

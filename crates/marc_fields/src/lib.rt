@@ -12,6 +12,7 @@ pub mod fields;
 pub mod head;
 pub mod laws;
 pub mod marc_record;
+pub mod parts;
 pub mod rules;
 pub mod shape;
 pub mod tiling;

@@ -26,7 +26,7 @@ use Rattle.marc_parts.specs.Loads.{is_numbered, is_described, is_deleted, is_loa
 use Rattle.marc_rules.specs.AcceptedLaws.{AcceptedIsLoadable, AcceptedIsWithdrawal, AcceptedHasParts, AcceptedIsShort, AcceptedIsPrintable}
 use Rattle.marc_rules.specs.Contents.{is_status, is_plain_at, is_utf8_at, coding_failure, content_failure}
 use Rattle.marc_rules.specs.NineteenRules.{status_of, coding_of, fields_failure, record_failure, whole_failure}
-use Rattle.marc_rules.specs.Numbers.{is_same, places, once, no_entry, text_at, is_control_number, tag_001, tag_008, tag_245, control_number_place, fixed_008_place, title_245_place, repeated_from, load_failure, number_failure}
+use Rattle.marc_rules.specs.RequiredFields.{is_same, places, once, no_entry, text_at, is_control_number, tag_001, tag_008, tag_245, control_number_place, fixed_008_place, title_245_place, repeated_from, load_failure, number_failure}
 use Rattle.marc_rules.proofs.Utf8Laws.{plain-all, utf8-fields}
 
 -- where neither of two rules fails, none of the two does

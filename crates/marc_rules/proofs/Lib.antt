@@ -1,4 +1,4 @@
-pub mod NumberLaws
+pub mod RequiredLaws
 pub mod CheckLaws
 pub mod Utf8Laws
 pub mod AcceptedProof

@@ -1,14 +1,13 @@
 -- The place at which a field is one too many.
-use Rattle.std.proofs.Common.{◌≡◌, ℕ, zero, suc, ◌+◌, ◌<◌, Bool, true, false, not, ◌&&◌, ◌||◌, List, [], ◌∷◌, ◌++◌, length, get_or, Contains, refl, sym, ◌∙◌, ap, arith, Option, None, Some}
+use Rattle.std.proofs.Common.{◌≡◌, ℕ, suc, Bool, true, false, not, ◌&&◌, List, [], ◌∷◌, ◌++◌, refl, sym, ◌∙◌, ap, arith, Some}
 use Rattle.std.specs.Prelude.{◌↔◌, ◌==◌, if◌then◌else◌}
-use Rattle.std.specs.List.{list_any}
 use Rattle.std.proofs.lemmas.Bool.{eqb-true}
 use Rattle.std.proofs.lemmas.Bool.Decides.{nat_tests}
 use Rattle.marc_leader.specs.declared.entry.Entry.{Entry}
-use Rattle.marc_fields.specs.Places.{IsLeast, StandsAt}
+use Rattle.marc_fields.specs.Places.{IsLeast}
 use Rattle.marc_fields.proofs.PlaceLaws.{first_amiss, IsAmissAt, amiss-least, least-amiss}
 use Rattle.marc_fields.proofs.TilingPlaces.{member-passes, passes-member}
-use Rattle.marc_rules.specs.Numbers.{class_of, has_class, repeated_from}
+use Rattle.marc_rules.specs.RequiredFields.{class_of, has_class, repeated_from}
 use Rattle.marc_rules.specs.Repeats.{IsRepeatedAt}
 
 -- the entry is not one too many

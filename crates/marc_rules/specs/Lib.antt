@@ -1,5 +1,5 @@
 pub mod Contents
-pub mod Numbers
+pub mod RequiredFields
 pub mod NineteenRules
 pub mod Checked
 pub mod Accepted

@@ -18,7 +18,7 @@ use Rattle.marc_fields.specs.Rules.{head_failure, directory_failure, tiling_fail
 use Rattle.marc_fields.specs.declared.rules.Failure.{Failure}
 use Rattle.marc_fields.specs.declared.rules.Rule.TheVariants.{Truncated as TruncatedRule, TooLong as TooLongRule}
 use Rattle.marc_rules.specs.Contents.{content_failure}
-use Rattle.marc_rules.specs.Numbers.{number_failure}
+use Rattle.marc_rules.specs.RequiredFields.{number_failure}
 
 -- the status and the character coding of a frame
 abbrev pub status_of : List ℕ → ℕ

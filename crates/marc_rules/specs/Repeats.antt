@@ -2,7 +2,7 @@
 use Rattle.std.specs.Prelude.{◌≡◌, ◌↔◌, ℕ, List, [], Some, Contains}
 use Rattle.marc_leader.specs.declared.entry.Entry.{Entry}
 use Rattle.marc_fields.specs.Places.{IsLeast, StandsAt}
-use Rattle.marc_rules.specs.Numbers.{class_of, repeated_from}
+use Rattle.marc_rules.specs.RequiredFields.{class_of, repeated_from}
 
 -- the entry at that place is of a class of which one field may stand, and an earlier entry is of its class
 pub record IsRepeatedAt (entries : List Entry) (place : ℕ) : Type 0 where

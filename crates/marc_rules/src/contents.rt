@@ -6,8 +6,8 @@ ghost use Rattle.marc_fields.specs.Rows.{Answers, least_where_not};
 ghost use Rattle.marc_fields.specs.Rules.{is_tile};
 ghost use Rattle.marc_rules.specs.Contents.{is_status, is_plain, is_plain_at, is_utf8_at, coding_failure, content_failure};
 
-use crate::parts::text_in;
 use marc_fields::decoding::DecodeRefusal;
+use marc_fields::parts::text_in;
 use marc_fields::rules::Rule;
 use marc_leader::entry::Entry;
 use simdutf8::basic::from_utf8;

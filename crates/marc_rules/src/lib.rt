@@ -6,5 +6,4 @@
 pub mod check;
 pub mod contents;
 pub mod laws;
-pub mod numbers;
-pub mod parts;
+pub mod required_fields;

@@ -26,7 +26,7 @@ use Rattle.marc_parts.specs.Trimmed.{blank, trim_start, before_trimmed, trim_end
 use Rattle.marc_rules.proofs.CheckLaws.{frame-IsWhole}
 use Rattle.marc_rules.specs.Contents.{is_utf8_at, content_failure}
 use Rattle.marc_rules.specs.NineteenRules.{first_rule}
-use Rattle.marc_rules.specs.Numbers.{is_same, is_control_number, tag_001, number_failure}
+use Rattle.marc_rules.specs.RequiredFields.{is_same, is_control_number, tag_001, number_failure}
 use Rattle.catalogue_export.proofs.CountLaws.{one_if}
 use Rattle.catalogue_export.proofs.EntryLaws.{passes_under, AreCounted, number-none}
 use Rattle.catalogue_export.proofs.ExportedProof.{low_utf8}

@@ -6,7 +6,7 @@ use Rattle.marc_fields.specs.Rules.{is_tile}
 use Rattle.marc_fields.proofs.AppendingLaws.{list_all-at}
 use Rattle.marc_fields.proofs.FieldReading.{least-drop-later}
 use Rattle.marc_rules.specs.Contents.{is_utf8_at}
-use Rattle.marc_rules.specs.Numbers.{no_entry}
+use Rattle.marc_rules.specs.RequiredFields.{no_entry}
 use Rattle.marc_rules.proofs.Utf8Laws.{utf8-tile}
 use Rattle.marc_rules.proofs.contents.are_utf8_together.Goals as goal
 

@@ -2,7 +2,7 @@ use Rattle.std.proofs.Common.{sym, subst, Option}
 use Rattle.std.specs.Prelude.{⊤}
 use Rattle.marc_fields.specs.Rows.{Answers}
 use Rattle.marc_fields.specs.declared.rules.Failure.{Failure}
-use Rattle.marc_rules.proofs.NumberLaws.{content_failure-status, content_failure-coding}
+use Rattle.marc_rules.proofs.RequiredLaws.{content_failure-status, content_failure-coding}
 use Rattle.marc_rules.proofs.contents.check_content.Goals as goal
 
 pub returns-then-not-is_status_code : goal.returns-then-not-is_status_code

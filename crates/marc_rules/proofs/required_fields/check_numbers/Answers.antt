@@ -2,8 +2,8 @@ use Rattle.std.proofs.Common.{sym, subst, Option}
 use Rattle.std.specs.Prelude.{⊤}
 use Rattle.marc_fields.specs.Rows.{Answers}
 use Rattle.marc_fields.specs.declared.rules.Failure.{Failure}
-use Rattle.marc_rules.proofs.NumberLaws.{number_failure-control, number_failure-deleted, number_failure-load}
-use Rattle.marc_rules.proofs.numbers.check_numbers.Goals as goal
+use Rattle.marc_rules.proofs.RequiredLaws.{number_failure-control, number_failure-deleted, number_failure-load}
+use Rattle.marc_rules.proofs.required_fields.check_numbers.Goals as goal
 
 pub returns-in-Some : goal.returns-in-Some
 returns-in-Some c = number_failure-control c.args.status c.args.bytes.now c.args.entries.now c.in-Some.place (sym c.in-Some.ensures)

@@ -11,7 +11,7 @@ use Rattle.marc_fields.proofs.AppendingLaws.{take_one_more}
 use Rattle.marc_fields.specs.Rows.{unless, fails, or_then}
 use Rattle.marc_fields.specs.declared.rules.Rule.TheVariants.{ControlNumber, Status}
 use Rattle.marc_rules.specs.Contents.{is_status, coding_failure, content_failure}
-use Rattle.marc_rules.specs.Numbers.{class_of, has_class, repeated_from, control_number_place, load_failure, number_failure}
+use Rattle.marc_rules.specs.RequiredFields.{class_of, has_class, repeated_from, control_number_place, load_failure, number_failure}
 
 -- the number that was found, where there is one
 abbrev pub found_one : ℕ → List ℕ

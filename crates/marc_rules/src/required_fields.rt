@@ -3,10 +3,10 @@ ghost use Rattle.std.specs.Prelude.{⊤, ◌≡◌, ◌+◌, ◌<◌, ◌≤◌,
 ghost use Rattle.std.specs.List.{list_all};
 ghost use Rattle.marc_fields.specs.Rows.{Answers};
 ghost use Rattle.marc_fields.specs.Rules.{is_tile};
-ghost use Rattle.marc_rules.specs.Numbers.{is_same, places, once, is_control_number, class_of, repeated_from, control_number_place, fixed_008_place, title_245_place, load_failure, number_failure};
+ghost use Rattle.marc_rules.specs.RequiredFields.{is_same, places, once, is_control_number, class_of, repeated_from, control_number_place, fixed_008_place, title_245_place, load_failure, number_failure};
 
-use crate::parts::text_in;
 use marc_fields::decoding::DecodeRefusal;
+use marc_fields::parts::text_in;
 use marc_fields::rules::Rule;
 use marc_leader::entry::Entry;
 use marc_parts::loads::has_number_shape;

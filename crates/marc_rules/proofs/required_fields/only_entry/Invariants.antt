@@ -1,7 +1,7 @@
 use Rattle.std.proofs.Common.{◌≡◌, ◌+◌, ◌≤◌, ◌++◌, drop}
-use Rattle.marc_rules.specs.Numbers.{places}
-use Rattle.marc_rules.proofs.NumberLaws.{found_one}
-use Rattle.marc_rules.proofs.numbers.only_entry.Given as goal
+use Rattle.marc_rules.specs.RequiredFields.{places}
+use Rattle.marc_rules.proofs.RequiredLaws.{found_one}
+use Rattle.marc_rules.proofs.required_fields.only_entry.Given as goal
 
 -- the one that was found so far and the others are all
 abbrev pub invariant-loop-i : goal.invariant-loop-i

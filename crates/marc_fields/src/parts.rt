@@ -3,7 +3,7 @@
 ghost use Rattle.std.specs.Prelude.{◌≡◌, ◌+◌, ◌-◌, ◌≤◌, true, length, take, drop};
 ghost use Rattle.marc_fields.specs.Rules.{is_tile, text_of};
 
-use marc_fields::head::SMALLEST_BASE;
+use crate::head::SMALLEST_BASE;
 use marc_leader::entry::Entry;
 use marc_leader::leader::LEADER_SIZE;
 

@@ -1,6 +1,6 @@
 use Rattle.std.proofs.Common.{◌≡◌, ℕ, ◌+◌, ◌<◌, [], take, drop, get_or, length, false}
-use Rattle.marc_rules.specs.Numbers.{repeated_from, has_class}
-use Rattle.marc_rules.proofs.numbers.first_repeated.Given as goal
+use Rattle.marc_rules.specs.RequiredFields.{repeated_from, has_class}
+use Rattle.marc_rules.proofs.required_fields.first_repeated.Given as goal
 
 -- the classes of the entries so far are seen, and the others decide
 abbrev pub invariant-loop-i : goal.invariant-loop-i

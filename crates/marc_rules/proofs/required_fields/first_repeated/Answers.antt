@@ -1,10 +1,10 @@
 use Rattle.std.proofs.Common.{◌≡◌, ◌<◌, ◌∙◌, false, true, length-set, sym, ap, arith, take, get_or, length}
 use Rattle.std.proofs.lemmas.List.{get_or_default}
 use Rattle.marc_leader.specs.declared.entry.Entry.{Entry}
-use Rattle.marc_rules.specs.Numbers.{class_of, has_class, no_entry}
-use Rattle.marc_rules.proofs.NumberLaws.{repeated-later, seen-set, seen-same, no_class, new_class}
-use Rattle.marc_rules.proofs.numbers.first_repeated.Goals as goal
-use Rattle.marc_rules.proofs.numbers.first_repeated.Goals.{then-class-gt0+else-seen-class, else-class-gt0}
+use Rattle.marc_rules.specs.RequiredFields.{class_of, has_class, no_entry}
+use Rattle.marc_rules.proofs.RequiredLaws.{repeated-later, seen-set, seen-same, no_class, new_class}
+use Rattle.marc_rules.proofs.required_fields.first_repeated.Goals as goal
+use Rattle.marc_rules.proofs.required_fields.first_repeated.Goals.{then-class-gt0+else-seen-class, else-class-gt0}
 
 pub loop-i-preserved : goal.loop-i-preserved
 loop-i-preserved c =

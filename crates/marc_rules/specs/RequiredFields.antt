@@ -1,6 +1,6 @@
 -- The rules on which fields stand, and how often (MARC 21, 001, 008, 245 and 'Repeatability'; the places are this project's
 -- own).
-use Rattle.std.specs.Prelude.{ℕ, suc, ◌-◌, Bool, true, not, ◌&&◌, ◌||◌, ◌==◌, nat_eq, List, [], ◌∷◌, ◌++◌, length, slice_index_or, Option, None, Some, if◌then◌else◌}
+use Rattle.std.specs.Prelude.{ℕ, suc, ◌-◌, Bool, true, not, ◌&&◌, ◌||◌, ◌==◌, nat_eq, List, [], ◌∷◌, ◌++◌, length, slice_index_or, codes, Option, None, Some, if◌then◌else◌}
 use Rattle.std.specs.List.{list_any}
 use Rattle.std.specs.Cmp.Lexicographic.{pointwise}
 use Rattle.marc_leader.specs.declared.entry.Entry.{Entry}
@@ -40,15 +40,15 @@ is_control_number text = has_number_shape (trimmed text)
 
 -- the tag 001
 abbrev pub tag_001 : List ℕ
-tag_001 = 0x30 ∷ 0x30 ∷ 0x31 ∷ []
+tag_001 = codes "001"
 
 -- the tag 008
 abbrev pub tag_008 : List ℕ
-tag_008 = 0x30 ∷ 0x30 ∷ 0x38 ∷ []
+tag_008 = codes "008"
 
 -- the tag 245
 abbrev pub tag_245 : List ℕ
-tag_245 = 0x32 ∷ 0x34 ∷ 0x35 ∷ []
+tag_245 = codes "245"
 
 -- where rule ControlNumber fails: there is not exactly one 001, or its text is no control number
 abbrev pub control_number_place : List ℕ → List Entry → Option ℕ
@@ -65,13 +65,13 @@ title_245_place entries = once (λ i. true) (places tag_245 1 entries)
 -- fields of one of these classes stand once: 003, 005, 010, 040, 240 each, and the main entries 100, 110, 111, 130 together
 abbrev pub class_of : List ℕ → ℕ
 class_of tag =
-    (if is_same tag (0x30 ∷ 0x30 ∷ 0x33 ∷ []) then 1
-    else (if is_same tag (0x30 ∷ 0x30 ∷ 0x35 ∷ []) then 2
-    else (if is_same tag (0x30 ∷ 0x31 ∷ 0x30 ∷ []) then 3
-    else (if is_same tag (0x30 ∷ 0x34 ∷ 0x30 ∷ []) then 4
-    else (if is_same tag (0x32 ∷ 0x34 ∷ 0x30 ∷ []) then 5
-    else (if ((is_same tag (0x31 ∷ 0x30 ∷ 0x30 ∷ []) || is_same tag (0x31 ∷ 0x31 ∷ 0x30 ∷ [])) || is_same tag (0x31 ∷ 0x31 ∷ 0x31 ∷ []))
-    || is_same tag (0x31 ∷ 0x33 ∷ 0x30 ∷ []) then 6 else 0))))))
+    (if is_same tag (codes "003") then 1
+    else (if is_same tag (codes "005") then 2
+    else (if is_same tag (codes "010") then 3
+    else (if is_same tag (codes "040") then 4
+    else (if is_same tag (codes "240") then 5
+    else (if ((is_same tag (codes "100") || is_same tag (codes "110")) || is_same tag (codes "111"))
+    || is_same tag (codes "130") then 6 else 0))))))
 
 -- an earlier field is of that class
 abbrev pub has_class : ℕ → List Entry → Bool
