@@ -1,1 +1,5 @@
 mod LeastLaws
+mod FormTexts
+mod FormLetters
+mod FormUtf8
+pub mod KeyTexts

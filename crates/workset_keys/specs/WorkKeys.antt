@@ -33,9 +33,13 @@ lesser least text =
     (if is_empty text then least else
     (if is_lt (slice_cmp nat_cmp text least) then text else least))
 
--- the byte-least name in the fields, of those that are not empty, or else empty
+-- the byte-least of the names, of those that are not empty, or else empty
+abbrev pub least_of : List (List ℕ) → List ℕ
+least_of names = fold lesser [] names
+
+-- the byte-least name in the fields
 abbrev pub least_name : List Field → List ℕ
-least_name fields = fold lesser [] (map name_of fields)
+least_name fields = least_of (map name_of fields)
 
 -- the first text that is not empty
 abbrev pub or_else : List ℕ → List ℕ → List ℕ

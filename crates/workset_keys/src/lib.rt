@@ -7,6 +7,6 @@
 
 pub mod fields;
 pub mod laws;
-mod names;
+pub mod names;
 mod texts;
 pub mod work_key;

@@ -3,10 +3,10 @@
 ghost use Rattle.std.specs.Prelude.{◌≡◌, All, IfOk};
 ghost use Rattle.std.specs.Option.{ForSome, option_copied};
 ghost use Rattle.workset_keys.specs.Names.{HasTexts, title245_of};
-ghost use Rattle.workset_keys.specs.WorkKeys.{main_title, uniform_title, or_else, own_name, key_by_title, key_without_name, key_of_names, work_key};
+ghost use Rattle.workset_keys.specs.WorkKeys.{least_of, main_title, uniform_title, or_else, own_name, key_by_title, key_without_name, key_of_names, work_key};
 
 use crate::fields::{title130_of, title240_of, title245_of};
-use crate::names::{is_uniform_title, least_name, main_name};
+use crate::names::{is_uniform_title, least_name, least_of, main_name};
 use crate::texts::{empty, is_empty, joined};
 use std::alloc::Global;
 use union_base::bytes::Bytes;
@@ -44,11 +44,38 @@ pub fn work_key(
     } else {
         empty(alloc)
     };
-    key_of_names(alloc, &name, &least, main, uniform, title, id)
+    key_with_least(alloc, &name, &least, main, uniform, title, id)
+}
+
+/// The key of the work with other names than those of its fields: `name` in place of that of the main entry, empty where it
+/// has none, and `added` in place of those of the added entries. All else is as in `work_key`. Returns `Memory` if allocation
+/// fails.
+pub fn key_of_names(
+    alloc: Global,
+    name: &Bytes,
+    main: Option<&Field>,
+    uniform: Option<&Field>,
+    title: &Field,
+    added: &[Bytes],
+    id: &RecordId,
+) -> Result<Bytes, Memory>
+    requires main { ForSome (option_copied main) HasTexts }
+    requires uniform { ForSome (option_copied uniform) HasTexts }
+    requires title { HasTexts title.now }
+    ensures { IfOk result (λ key. key ≡ key_of_names name.now (least_of added.now)
+        (option_copied main.entry) (option_copied uniform.entry) title.now id.now) }
+{
+    // A key by the name in the main entry needs no added name.
+    let least = if is_empty(name) {
+        least_of(alloc, added)?
+    } else {
+        empty(alloc)
+    };
+    key_with_least(alloc, name, &least, main, uniform, title, id)
 }
 
 /// The key with these names, of the main entry and the least of the added entries, where an empty one is none.
-fn key_of_names(
+fn key_with_least(
     alloc: Global,
     name: &Bytes,
     least: &Bytes,
