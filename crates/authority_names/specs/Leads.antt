@@ -1,9 +1,11 @@
 -- A table of names as a value: what it has at each heading that stands in a record.
-use Rattle.std.specs.Prelude.{◌≡◌, ℕ, List, [], ◌∷◌, Option, None, Some, if◌then◌else◌, unwrap_or}
+use Rattle.std.specs.Prelude.{◌≡◌, ℕ, true, List, [], ◌∷◌, Option, None, Some, if◌then◌else◌, unwrap_or}
 use Rattle.std.specs.Ordering.{nat_cmp}
 use Rattle.std.specs.Cmp.Lexicographic.{slice_cmp}
 use Rattle.std.specs.FinMap as finite
 use Rattle.std.specs.Option.{option_and_then}
+use Rattle.workset_keys.specs.Texts.{is_key_text}
+use Rattle.workset_keys.specs.WorkKeys.{or_else}
 use Rattle.authority_names.specs.Names.{is_same, Authority, is_established, led_to, the_one}
 
 -- the heading that each heading leads to, or `None` at one that leads to no other, whatever is added
@@ -30,6 +32,14 @@ led_from table x = option_and_then (λ lead. lead) (finite.get table x)
 -- that heading, empty where x leads to none
 abbrev pub seen_from : Table → List ℕ → List ℕ
 seen_from table x = unwrap_or (led_from table x) []
+
+-- the heading to use for x: the one that it leads to, or x itself where it leads to none
+abbrev pub used_for : Table → List ℕ → List ℕ
+used_for table x = or_else (seen_from table x) x
+
+-- each heading that the table leads to is UTF-8, with none of the bytes that part records, fields and subfields
+abbrev pub AreTexts : Table → Type 0
+AreTexts table = (x : List ℕ) → is_key_text (seen_from table x) ≡ true
 
 -- what a heading leads to, once one record more leads from it to t
 abbrev pub joined_lead : Option (Option (List ℕ)) → List ℕ → Option (List ℕ)

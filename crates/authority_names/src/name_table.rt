@@ -1,8 +1,9 @@
 //! A table of names.
-ghost use Rattle.std.specs.Prelude.{◌≡◌, ◌++◌, ⊤, List, [], ◌∷◌, OnOk, OnErr, unwrap_or};
+ghost use Rattle.std.specs.Prelude.{◌≡◌, ◌++◌, ⊤, List, [], ◌∷◌, IfOk, IsTrue, OnOk, OnErr, unwrap_or};
 ghost use Rattle.std.specs.FinMap as finite;
 ghost use Rattle.authority_names.specs.Names.{Authority, authority, IsSize, name_at};
-ghost use Rattle.authority_names.specs.Leads.{IsTableOf, led_from, seen_from};
+ghost use Rattle.authority_names.specs.Leads.{AreTexts, IsTableOf, led_from, seen_from, used_for};
+ghost use Rattle.workset_keys.specs.Texts.{is_key_text};
 ghost use Rattle.authority_names.specs.Records.{AnswersNames, refusal_of, taken_of};
 
 use crate::authority::names_of;
@@ -36,11 +37,12 @@ impl Model for NameTable {
 
     ghost coded = { code (coded_list coded_ℕ) (coded_option (coded_list coded_ℕ)) };
 
+    ghost use Rattle.authority_names.specs.Leads.{AreTexts};
     ghost use Rattle.authority_names.specs.Places.{table_of, HasPlaces};
 
     ghost view = { λ t. table_of t.headings.entries };
 
-    ghost invariant = { λ t. HasPlaces t.headings.entries };
+    ghost invariant = { λ t. HasPlaces t.headings.entries × AreTexts (table_of t.headings.entries) };
 }
 
 impl NameTable {
@@ -83,6 +85,7 @@ impl NameTable {
 
     /// Takes in what a record gives. Returns `Memory` if allocation fails, and then the table is as before.
     fn take(&mut self, established: Bytes, variants: Vec<Bytes>) -> Result<(), Memory>
+        requires { IsTrue (is_key_text established) }
         ensures added { OnOk result ((records : List Authority) → IsTableOf self.old records
             → IsTableOf self.new (records ++ authority established variants.items ∷ [])) }
         ensures refused { OnErr result (self.new ≡ self.old) }
@@ -97,10 +100,26 @@ impl NameTable {
     /// A heading that is answered stands for itself. One look-up; takes no memory.
     pub fn see(&self, name: &Bytes) -> &[u8]
         ensures value { result.now ≡ seen_from self.now name.now }
+        ensures texts { AreTexts self.now }
         ensures means { (records : List Authority) → IsTableOf self.now records
             → result.now ≡ unwrap_or (name_at records name.now) [] }
     {
         heading_from(&self.headings, name)
+    }
+
+    /// The heading to use for the name: the established one that it is seen from, or the name itself. One look-up.
+    ///
+    /// Returns `Memory` if allocation fails.
+    pub fn used_for(&self, alloc: Global, name: Bytes) -> Result<Bytes, Memory>
+        ensures value { IfOk result (λ heading. heading ≡ used_for self.now name) }
+        ensures texts { AreTexts self.now }
+    {
+        let heading = self.see(&name);
+        if heading.is_empty() {
+            Ok(name)
+        } else {
+            Bytes::of(alloc, heading)
+        }
     }
 
     /// How many see-from headings the table has. Goes through all headings; takes no memory.
