@@ -19,3 +19,4 @@ pub mod TouchLaws
 mod ToldLaws
 mod Images
 mod Unranked
+mod ReachLaws

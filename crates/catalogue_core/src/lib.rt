@@ -30,5 +30,6 @@ mod parts_turn;
 mod place;
 mod plan;
 mod planning;
+pub mod reach_laws;
 mod turn;
 mod walk;
