@@ -61,9 +61,8 @@ impl Work {
         ensures kept { self.old.room ≤ self.new.room }
         ensures room { OnOk result (self.new.room ≡ self.old.room + 1) }
     {
-        let room = self.room.checked_add(1).ok_or(Memory)?;
-        self.editions.reserve(room)?;
-        self.room = room;
+        self.editions.reserve(self.room + 1)?;
+        self.room += 1;
         Ok(())
     }
 
