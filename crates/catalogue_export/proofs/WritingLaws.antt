@@ -8,9 +8,9 @@ use Rattle.std.specs.declared.option.Option.{Option}
 use Rattle.std.specs.declared.option.Option.TheVariants.{Some, None}
 use Rattle.std.specs.Io.KnownBytes.{Appends}
 use Rattle.union_io.specs.Writing.{AppendsFront}
-use Rattle.std.specs.Prelude.{OnOk}
+use Rattle.std.specs.Prelude.{OnOk, OnErr}
 use Rattle.union_io.specs.Causes.{Rose}
-use Rattle.catalogue_export.specs.Writing.{IsWrittenTo, HasMoved, HasWritten}
+use Rattle.catalogue_export.specs.Writing.{IsWrittenTo, HasMoved, HasWritten, GainsFront}
 use Rattle.catalogue_export.specs.declared.export_fail.ExportFail.{ExportFail}
 
 pub Appends-nothing : (written : Option (List ℕ)) → Appends written written []
@@ -84,3 +84,26 @@ rest-written old mid new before middle after text pending (Err fail) so_far calm
 pub on-ok : {T E P : Type 0} (result : Result T E) → P → OnOk result P
 on-ok (Ok value) holds = holds
 on-ok (Err error) holds = tt
+
+-- a list that stays as it was, or gains all
+pub gains-none : {A : Type 0} (old new more : List A) → new ≡ old → GainsFront old new more
+gains-none old new more same = record { front = []; rest = more; split = refl; grown = same ∙ sym (append-nil old) }
+
+pub gains-all : {A : Type 0} (old new more : List A) → new ≡ old ++ more → GainsFront old new more
+gains-all old new more is = record { front = more; rest = []; split = sym (append-nil more); grown = is }
+
+-- a list that gained some of these, and then a prefix of the next, has gained a prefix of all
+pub gains-more : {A : Type 0} (old mid new before more later whole : List A) → mid ≡ old ++ before → GainsFront mid new more
+    → whole ≡ before ++ (more ++ later) → GainsFront old new whole
+gains-more old mid new before more later whole so_far gained is = record {
+  front = before ++ gained.front;
+  rest = gained.rest ++ later;
+  split = is ∙ ap (λ l. before ++ (l ++ later)) gained.split ∙ ap (λ l. before ++ l) (append_assoc gained.front gained.rest later)
+      ∙ sym (append_assoc before gained.front (gained.rest ++ later));
+  grown = gained.grown ∙ ap (λ l. l ++ gained.front) so_far ∙ append_assoc old before gained.front;
+}
+
+-- what stops has gained a prefix, where what goes on has gained all
+pub on-err : {T E : Type 0} {P : Type 0} (result : Result T E) → P → OnErr result P
+on-err (Ok value) p = tt
+on-err (Err fail) p = p

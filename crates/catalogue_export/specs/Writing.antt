@@ -32,3 +32,10 @@ pub record HasWritten (text : List ℕ) (out : Output) (result : Result (Unit {0
   pub written : MatchResult result (λ _. Appends out.old out.new text) (λ _. AppendsFront out.old out.new text)
   pub failed : result ≡ Err WriteFault → Rose out.before out.after
   pub calm : result ≢ Err WriteFault → out.after ≡ out.before
+
+-- the list has gained a prefix of these
+pub record GainsFront {A : Type 0} (old new more : List A) : Type 0 where
+  pub front : List A
+  pub rest : List A
+  pub split : more ≡ front ++ rest
+  pub grown : new ≡ old ++ front

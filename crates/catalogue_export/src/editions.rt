@@ -1,5 +1,5 @@
 //! The export of several editions.
-ghost use Rattle.std.specs.Prelude.{◌≡◌, ◌++◌, OnOk, IfOk};
+ghost use Rattle.std.specs.Prelude.{◌≡◌, ◌++◌, OnOk, OnErr, IfOk};
 ghost use Rattle.catalogue_export.specs.Editions.{edition_text, export_text, fields_left, left_of_one, left_of};
 
 use crate::edition::edition_bytes;
@@ -39,7 +39,7 @@ pub fn append_edition(alloc: Global, edition: &Edition, into: &mut Vec<u8>) -> R
     edition_bytes(alloc, edition, &key, into)
 }
 
-/// Notes the edition, where fields of it were left out.
+/// Notes the edition, where fields of it were left out. Returns `Memory` if allocation fails; then `left` is unchanged.
 pub fn note_left(
     alloc: Global,
     edition: &Edition,
@@ -47,7 +47,8 @@ pub fn note_left(
     left: &mut Vec<(RecordId, usize)>,
 ) -> Result<(), Memory>
     requires { count ≡ fields_left edition.now }
-    ensures { OnOk result (left.new.items ≡ left.old.items ++ left_of_one edition.now) }
+    ensures noted { OnOk result (left.new.items ≡ left.old.items ++ left_of_one edition.now) }
+    ensures unchanged { OnErr result (left.new.items ≡ left.old.items) }
 {
     if count > 0 {
         left.push((edition.least().copied(alloc)?, count))?;

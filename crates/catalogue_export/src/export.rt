@@ -1,9 +1,9 @@
 //! The export of a catalogue.
-ghost use Rattle.std.specs.Prelude.{◌≡◌, ◌++◌, OnOk, List};
+ghost use Rattle.std.specs.Prelude.{◌≡◌, ◌++◌, OnOk, OnErr, List};
 ghost use Rattle.catalogue_core.specs.Histories.{AreEditionsOf};
 ghost use Rattle.catalogue_editions.specs.declared.edition.Edition.{Edition as EditionModel};
 ghost use Rattle.catalogue_export.specs.Editions.{edition_text, export_text, left_of_one, left_of};
-ghost use Rattle.catalogue_export.specs.Writing.{HasMoved, HasWritten};
+ghost use Rattle.catalogue_export.specs.Writing.{GainsFront, HasMoved, HasWritten};
 
 use crate::editions::{append_edition, note_left};
 use crate::export_fail::ExportFail;
@@ -18,8 +18,8 @@ use union_io::sink::Sink;
 /// which fields were left out since a frame has no room for more, its least contributor and their number. The records are
 /// handed on in pieces, so that memory does not grow with the export.
 ///
-/// Answers `WriteFault` only where a write of `out` failed, and `Memory` where memory ran out. A prefix of the export was
-/// written then, and `left` may have gained the first of its lines.
+/// Returns `WriteFault` only where a write of `out` failed, and `Memory` if allocation fails. A prefix of the export was
+/// written then, and `left` has gained a prefix of what it would have.
 pub fn export<O: Sink>(
     alloc: Global,
     catalogue: &Catalogue,
@@ -29,7 +29,8 @@ pub fn export<O: Sink>(
     ensures { (all : List EditionModel) × AreEditionsOf catalogue.now all
         × HasWritten (export_text all)
         (record { old = O.written out.old; new = O.written out.new; before = O.faults out.old; after = O.faults out.new }) result
-        × OnOk result (left.new.items ≡ left.old.items ++ left_of all) }
+        × OnOk result (left.new.items ≡ left.old.items ++ left_of all)
+        × OnErr result (GainsFront left.old.items left.new.items (left_of all)) }
 {
     let mut pending = Vec::new(alloc);
     let mut next = catalogue.first();
@@ -55,6 +56,7 @@ fn write_edition<O: Sink>(
     ensures text { HasMoved (pending.old.items ++ edition_text edition.now) pending.new.items
         (record { old = O.written out.old; new = O.written out.new; before = O.faults out.old; after = O.faults out.new }) result }
     ensures left { OnOk result (left.new.items ≡ left.old.items ++ left_of_one edition.now) }
+    ensures stopped { OnErr result (GainsFront left.old.items left.new.items (left_of_one edition.now)) }
 {
     let count = append_edition(alloc, edition, pending)?;
     note_left(alloc, edition, count, left)?;

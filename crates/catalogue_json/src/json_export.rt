@@ -1,9 +1,9 @@
 //! The export of a catalogue as lines of JSON.
-ghost use Rattle.std.specs.Prelude.{◌≡◌, ◌++◌, OnOk, IfOk, List};
+ghost use Rattle.std.specs.Prelude.{◌≡◌, ◌++◌, OnOk, OnErr, IfOk, List};
 ghost use Rattle.catalogue_core.specs.Histories.{AreEditionsOf};
 ghost use Rattle.catalogue_editions.specs.declared.edition.Edition.{Edition as EditionModel};
 ghost use Rattle.catalogue_export.specs.Editions.{fields_left, left_of_one, left_of};
-ghost use Rattle.catalogue_export.specs.Writing.{HasMoved, HasWritten};
+ghost use Rattle.catalogue_export.specs.Writing.{GainsFront, HasMoved, HasWritten};
 ghost use Rattle.catalogue_json.specs.JsonExport.{edition_line, json_export_text};
 
 use catalogue_core::catalogue::Catalogue;
@@ -24,7 +24,7 @@ use union_io::sink::Sink;
 /// lines are handed on in pieces, so that memory does not grow with the export.
 ///
 /// Returns `WriteFault` only where a write of `out` failed, and `Memory` if allocation fails. A prefix of the text was written
-/// then, and `left` may have gained the first of its lines.
+/// then, and `left` has gained a prefix of what it would have.
 pub fn export_json<O: Sink>(
     alloc: Global,
     catalogue: &Catalogue,
@@ -34,7 +34,8 @@ pub fn export_json<O: Sink>(
     ensures { (all : List EditionModel) × AreEditionsOf catalogue.now all
         × HasWritten (json_export_text all)
         (record { old = O.written out.old; new = O.written out.new; before = O.faults out.old; after = O.faults out.new }) result
-        × OnOk result (left.new.items ≡ left.old.items ++ left_of all) }
+        × OnOk result (left.new.items ≡ left.old.items ++ left_of all)
+        × OnErr result (GainsFront left.old.items left.new.items (left_of all)) }
 {
     let mut pending = Vec::new(alloc);
     let mut next = catalogue.first();
@@ -60,6 +61,7 @@ fn write_edition<O: Sink>(
     ensures text { HasMoved (pending.old.items ++ edition_line edition.now) pending.new.items
         (record { old = O.written out.old; new = O.written out.new; before = O.faults out.old; after = O.faults out.new }) result }
     ensures left { OnOk result (left.new.items ≡ left.old.items ++ left_of_one edition.now) }
+    ensures stopped { OnErr result (GainsFront left.old.items left.new.items (left_of_one edition.now)) }
 {
     let count = append_line(alloc, edition, pending)?;
     note_left(alloc, edition, count, left)?;

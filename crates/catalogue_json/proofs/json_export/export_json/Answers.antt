@@ -9,7 +9,7 @@ use Rattle.catalogue_json.specs.JsonExport.{edition_line, json_export_text}
 use Rattle.catalogue_export.specs.Writing.{IsWrittenTo}
 use Rattle.catalogue_core.proofs.WalkLaws.{first-at, next-after, told-more, some-within}
 use Rattle.catalogue_export.proofs.AroundLaws.{told-around}
-use Rattle.catalogue_export.proofs.WritingLaws.{written-none, moved-more, stopped-written, rest-written, on-ok}
+use Rattle.catalogue_export.proofs.WritingLaws.{written-none, moved-more, stopped-written, rest-written, on-ok, on-err, gains-more, gains-all}
 use Rattle.catalogue_json.proofs.json_export.export_json.Goals as goal
 use Rattle.catalogue_json.proofs.json_export.export_json.Goals.{in-Some+in-Ok, in_default}
 
@@ -41,6 +41,9 @@ returns-in-Err g c =
           (json_export_text before.all) (json_export_text (drop (c.loop.counter + 1) before.all)) c.in-Err.fail
           before.moved before.calm c.in-Err.ensures.text (told-around edition_line before.all c.loop.counter e at),
       tt,
+      gains-more c.args.left.now.items c.loop.left.items c.write_edition.new.left.items (left_of (take c.loop.counter before.all)) (left_of_one e)
+          (left_of (drop (c.loop.counter + 1) before.all)) (left_of before.all) before.left c.in-Err.ensures.stopped
+          (told-around left_of_one before.all c.loop.counter e at),
     )
 
 pub loop-preserved : goal.loop-preserved
@@ -80,4 +83,6 @@ returns g c =
           (subst (λ es. IsWrittenTo (json_export_text es) c.loop.pending.items written (g.O.Sink.written c.loop.out)) whole before.moved) before.calm
           (rw c.as_slice.ensures.value at c.hand_on_rest.ensures),
       on-ok c.hand_on_rest.result (before.left ∙ ap (λ es. c.args.left.now.items ++ left_of es) whole),
+      on-err c.hand_on_rest.result (gains-all c.args.left.now.items c.loop.left.items (left_of before.all)
+          (before.left ∙ ap (λ es. c.args.left.now.items ++ left_of es) whole)),
     )
