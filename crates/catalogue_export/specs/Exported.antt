@@ -89,7 +89,7 @@ parts c key = own_parts c key ++ c.united
 abbrev pub exported : Content → List ℕ → Record
 exported c key = record { leader = c.fixed.codes; fields = in_tag_order (fitting (parts c key)) }
 
--- its bytes, and how many fields were left out of it
+-- the bytes of its record under that work key
 abbrev pub edition_bytes : Content → List ℕ → List ℕ
 edition_bytes c key = spelling (exported c key)
 

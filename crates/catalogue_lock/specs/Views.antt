@@ -54,7 +54,7 @@ module _ {S C : Type 0} where
   abbrev pub released : List (ℕ × C) → View S C → View S C
   released history v = record v { own = changes_of v.number history; seen = history; floor = length history; holds = false }
 
-  -- the root makes a pass, and the pass that it makes
+  -- the root, once it has dealt one pass more
   abbrev pub dealt : View S C → View S C
   dealt root = record root { made = root.made + 1 }
 

@@ -23,7 +23,7 @@ refused_from line (ended ∷ rest) = refusal_at line ended.0 ++ refused_from (su
 abbrev pub refused : List Ended → List RefusedLine
 refused all = refused_from 1 all
 
--- a line that is not empty, and one of which a frame is written
+-- the line is not empty
 abbrev pub is_read : Outcome → Bool
 is_read Skipped = false
 is_read Written = true

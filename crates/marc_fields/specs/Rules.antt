@@ -39,7 +39,7 @@ is_base base frame =
 abbrev pub has_base : List ℕ → List ℕ → Bool
 has_base leader frame = are_digits (base_place leader) && is_base (base_in leader) frame
 
--- the rules on the leader and its frame
+-- rule TooShort: the frame has fewer than 26 bytes, those of a leader and its two terminators
 abbrev pub too_short : List ℕ → Option Failure
 too_short frame = fails TooShort (unless (nat_le 26 (length frame)))
 

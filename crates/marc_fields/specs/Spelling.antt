@@ -9,7 +9,7 @@ use Rattle.union_base.specs.Fields.{spelled, field_terminator, record_terminator
 use Rattle.union_base.specs.declared.field.Field.{Field}
 use Rattle.marc_fields.specs.declared.marc_record.Record.{Record}
 
--- the longest frame, and the longest field with its terminator: what five and four digits can say
+-- the most bytes that a leader's five digits can tell
 abbrev pub longest_frame : ℕ
 longest_frame = 99999
 

@@ -20,7 +20,7 @@ use Rattle.marc_fields.specs.declared.rules.Rule.TheVariants.{Truncated as Trunc
 use Rattle.marc_rules.specs.Contents.{content_failure}
 use Rattle.marc_rules.specs.RequiredFields.{number_failure}
 
--- the status and the character coding of a frame
+-- the status of the frame's record (leader/05)
 abbrev pub status_of : List ℕ → ℕ
 status_of frame = slice_index frame 5
 

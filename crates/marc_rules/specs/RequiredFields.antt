@@ -20,13 +20,14 @@ abbrev pub places : List ℕ → ℕ → List Entry → List ℕ
 places tag i [] = []
 places tag i (e ∷ entries) = (if is_same e.tag tag then i ∷ places tag (suc i) entries else places tag (suc i) entries)
 
--- one that stands once passes or is refused at its number; none is refused at 0, and more at the second
+-- the place at which a field that has to stand once is refused: 0 where there is none, the second where there are more, and its own
+-- where it does not pass
 abbrev pub once : (ℕ → Bool) → List ℕ → Option ℕ
 once passes [] = Some 0
 once passes (i ∷ []) = (if passes i then None else Some i)
 once passes (i ∷ j ∷ rest) = Some j
 
--- the entry with that number, and its field's bytes
+-- what stands for an entry where there is none
 abbrev pub no_entry : Entry
 no_entry = record { tag = []; length = 0; start = 0 }
 

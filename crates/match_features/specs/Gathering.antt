@@ -47,7 +47,7 @@ lccn_in s = if is_a s then congress_pair (lccn_key s.text) else []
 abbrev pub system_number_in : Subfield → List (List ℕ × List ℕ)
 system_number_in s = if is_a s then option_to_list (system_key s.text) else []
 
--- the LCCN of each 010 $a, and the system number of each 035 $a
+-- the LCCN of each $a of a field 010, and the system number of each $a of a field 035
 abbrev pub numbers_in : Field → List (List ℕ × List ℕ)
 numbers_in f = from_field (codes "010") lccn_in f ++ from_field (codes "035") system_number_in f
 
@@ -89,7 +89,7 @@ date_in text =
     let date = slice_range text 7 11 in
     if (length date == 4) && list_all is_ascii_digit date then date ∷ [] else []
 
--- the heading of the 100, 110 or 111, where it is not empty
+-- a field under a name: 100, 110 or 111
 abbrev pub is_name : Field → Bool
 is_name f = has_tag (codes "100") f || has_tag (codes "110") f || has_tag (codes "111") f
 

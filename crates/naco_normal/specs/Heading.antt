@@ -10,7 +10,7 @@ use Rattle.naco_normal.specs.Words.{joined_words}
 abbrev pub chosen : List ℕ → List Subfield → List Subfield
 chosen wanted = filter (λ s. list_any (λ code. code == s.code) wanted)
 
--- a, the code of a name's or title's first part
+-- the code `a`, of a name's or title's first part
 abbrev pub main_code : ℕ
 main_code = 0x61
 

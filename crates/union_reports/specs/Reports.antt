@@ -15,7 +15,7 @@ use Rattle.library_batches.specs.Refused.{refused}
 use Rattle.library_batches.specs.Outcomes.{is_added, is_replaced, is_removed, is_absent}
 use Rattle.library_batches.specs.declared.refused.RefusedFrame.{RefusedFrame}
 
--- how many of the accepted frames withdraw a record, and how many load one
+-- the frame's record withdraws one
 abbrev pub is_withdrawing : List ℕ → Bool
 is_withdrawing frame = is_deleted (status_of frame)
 

@@ -74,8 +74,7 @@ pub record AreReported (contents : List ℕ → List ℕ) (courses : List Course
   pub text : now.text.items ≡ before.text.items ++ flat_map (course_text contents) courses
   pub refused : now.refused ≡ (before.refused || list_any has_refused (map (delivery_of contents) courses))
 
--- each of the files was read to its end by its session; or one is too long, or memory ran out. What was found is so of all their
--- contents
+-- one of the files is too long, or memory ran out
 abbrev pub StopsBehind : Status → List LibraryFile → Option (List ℕ → List ℕ) → Type 0
 StopsBehind (TooLong input) libraries files = IfSome files (λ contents. IsTooLongAt contents libraries input)
 StopsBehind Memory libraries files = ⊤

@@ -46,7 +46,7 @@ isbn_text number = isbn_stem number ++ check_digit (isbn_stem number) ∷ []
 abbrev pub text_field : List ℕ → ℕ → ℕ → List ℕ → List Field
 text_field tag ind1 ind2 text = field_of tag (Data ind1 ind2 (subfield 0x61 text ∷ []))
 
--- 008, 020, 100 and 245
+-- the field 008
 abbrev pub fixed_field : Draws → List Field
 fixed_field d = control_field (codes "008") (fixed_text d.year)
 

@@ -55,7 +55,7 @@ pub record IsWatched (AreTurns : Order) (workers : ℕ) (asks : List ℕ) (all :
   pub told_is : AreTold history (asked_lines asks) told
   pub timely : AreTimely workers (length history) (numbers_of told)
 
--- all was written; a write of one of the two texts failed; or a prefix of the first was written
+-- a load was watched, and both of its texts were written whole
 abbrev pub IsShown : Order → ℕ → List ℕ → List Delivery → Outflow → Outflow → Type 0
 IsShown AreTurns workers asks all out notes =
     (streams : List Stream) × (history : List HistoryEntry) × (told : List Told) × IsWatched AreTurns workers asks all streams history told

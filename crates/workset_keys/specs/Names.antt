@@ -31,7 +31,7 @@ name_codes tag = if (slice_index tag 1 == 0x30) && (slice_index tag 2 == 0x30) t
 abbrev pub name_of : Field → List ℕ
 name_of f = heading_of (subfields_of f.body) (name_codes f.tag)
 
--- the titles in fields 130, 240 and 245
+-- the title of a 130: $a, $n and $p, without the characters that the first indicator counts
 abbrev pub title130_of : Field → List ℕ
 title130_of f = title_of (subfields_of f.body) (codes "anp") (skip_of (first_indicator f.body))
 
