@@ -1,7 +1,7 @@
 //! Blocks under numbers.
-ghost use Rattle.std.specs.Prelude.{◌≡◌, ◌↔◌, ℕ, [], Some, Contains, length, option_copied, option_map};
+ghost use Rattle.std.specs.Prelude.{◌≡◌, ◌↔◌, ℕ, [], Some, Contains, length, map, option_copied, option_map, IfOk};
 ghost use Rattle.feature_index.specs.Postings.{Ascends};
-ghost use Rattle.swoosh_resolver.specs.Tables.{Entry, block_at, blocks_in};
+ghost use Rattle.swoosh_resolver.specs.Tables.{Entry, block_at, blocks_in, values_of};
 ghost use Rattle.swoosh_resolver.specs.Changes.{Fits, without};
 
 use crate::change::Change;
@@ -11,6 +11,7 @@ use feature_index::postings::Postings;
 use merge_laws::resolvable::Resolvable;
 use std::alloc::Global;
 use std::marker::Model;
+use union_base::memory::Memory;
 
 /// Values of which no two match, each under a number, with an index of their keys. Each number stands in the postings of
 /// each key of its block, and in no others.
@@ -62,6 +63,19 @@ impl<R: Resolvable> Blocks<R> {
         ensures { result ≡ length (blocks_in self.now.blocks) }
     {
         self.count
+    }
+
+    /// The blocks in the order of their numbers. Returns `Memory` if allocation fails.
+    pub fn values(&self, alloc: Global) -> Result<Vec<&R>, Memory>
+        ensures { IfOk result (λ found. map (λ r. r.now) found.items ≡ values_of (blocks_in self.now.blocks)) }
+    {
+        let mut found = Vec::with_capacity(alloc, self.count)?;
+        for block in self.blocks.as_slice() {
+            if let Some(keyed) = block {
+                found.push(&keyed.value)?;
+            }
+        }
+        Ok(found)
     }
 
     /// The numbers of the blocks that have the key, in ascending order. Takes no memory.
