@@ -14,28 +14,11 @@ use Rattle.field_merge.specs.Kept.{id_cmp}
 use Rattle.field_merge.specs.KeptLaws.{id_total}
 use Rattle.catalogue_core.specs.Histories.{MapOf, at_id, is_current}
 use Rattle.merge_laws.proofs.Places.{Contains-head, Contains-tail, Contains-cases}
-use Rattle.catalogue_core.specs.Homes.{Block, has_contributor, change_at, admitted, moved, housed, housed_all}
-use Rattle.catalogue_core.specs.declared.home.Home.{Home}
-use Rattle.catalogue_core.specs.declared.place.Place.{Place}
-use Rattle.catalogue_core.proofs.MapLaws.{same, one-id, same-itself, same-sym, at-removed, at-inserted, at-changed, at-past, keys-changed, ordered-removed, ordered-inserted}
-
--- a value that was found, and written back changed
-pub change-written : {X : Type 0} (id : RecordId) (f : X → X) (all : MapOf X) (x y : X) → at_id all id ≡ Some x → y ≡ f x → set_value (is_at (id_cmp id)) all y ≡ change_at id f all
-change-written id f [] x y found is = refl
-change-written {X} id f (p ∷ all) x y found is =
-    elim (is_at (id_cmp id) p.0) as (λ b. cond b (Some p.1) (at_id all id) ≡ Some x → cond b ((p.0, y) ∷ all) (p ∷ set_value (is_at (id_cmp id)) all y) ≡ cond b ((p.0, f p.1) ∷ all) (p ∷ change_at id f all)) [
-      | true ↦ λ h. (let same : p.1 ≡ x = cc in ap (λ (v : X). (p.0, v) ∷ all) (is ∙ ap f (sym same)))
-      | false ↦ λ h. ap (λ (rest : MapOf X). p ∷ rest) (change-written id f all x y h is)
-    ] found
-
--- where nothing is found, nothing changes
-pub change-none : {X : Type 0} (id : RecordId) (f : X → X) (all : MapOf X) → at_id all id ≡ None → change_at id f all ≡ all
-change-none id f [] none = refl
-change-none {X} id f (p ∷ all) none =
-    elim (is_at (id_cmp id) p.0) as (λ b. cond b (Some p.1) (at_id all id) ≡ None → cond b ((p.0, f p.1) ∷ all) (p ∷ change_at id f all) ≡ p ∷ all) [
-      | true ↦ λ h. cc
-      | false ↦ λ h. ap (λ (rest : MapOf X). p ∷ rest) (change-none id f all h)
-    ] none
+use Rattle.catalogue_core.specs.Homes.{Block, has_contributor, admitted, moved, housed, housed_all}
+use Rattle.record_homes.specs.Maps.{change_at}
+use Rattle.record_homes.specs.declared.home.Home.{Home}
+use Rattle.record_homes.specs.declared.place.Place.{Place}
+use Rattle.record_homes.proofs.MapLaws.{same, one-id, same-itself, same-sym, at-removed, at-inserted, at-changed, at-past, keys-changed, ordered-removed, ordered-inserted}
 
 -- ---- ids that are let in
 

@@ -11,7 +11,7 @@ use Rattle.swoosh_resolver.proofs.Places.{number-from_block, block-from_open}
 use Rattle.catalogue_core.specs.Histories.{MapOf, at_id}
 use Rattle.catalogue_core.specs.Homes.{Block, AreHoused, has_contributor}
 use Rattle.catalogue_editions.specs.declared.edition.Edition.{Edition}
-use Rattle.catalogue_core.specs.declared.home.Home.{Home}
+use Rattle.record_homes.specs.declared.home.Home.{Home}
 use Rattle.catalogue_core.proofs.Looking.{member-from_any}
 
 pub false-from_never : (b : Bool) → (b ≡ true → ⊥) → b ≡ false

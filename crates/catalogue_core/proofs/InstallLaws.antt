@@ -39,13 +39,13 @@ use Rattle.catalogue_core.specs.Plans.{IsPlanned}
 use Rattle.catalogue_editions.specs.declared.batch.Batch.{Batch}
 use Rattle.catalogue_editions.specs.declared.edition.Edition.{Edition}
 use Rattle.catalogue_core.specs.declared.history_entry.HistoryEntry.{HistoryEntry}
-use Rattle.catalogue_core.specs.declared.home.Home.{Home}
-use Rattle.catalogue_core.specs.declared.place.Place.{Place}
+use Rattle.record_homes.specs.declared.home.Home.{Home}
+use Rattle.record_homes.specs.declared.place.Place.{Place}
 use Rattle.catalogue_editions.proofs.Apart.{match-from_contributor, match-from_least}
 use Rattle.edition_blocks.proofs.BlockLaws.{block-stands, value-in, in-value, number-from_match, in-view, kept-in_view, fresh-in_view}
 use Rattle.catalogue_core.proofs.HomeLaws.{some-from_test, admitted-keeps, admitted-lets, admitted-only, ordered-admitted, moved_at, at-moved, ordered-moved, ordered-housed_all, place-housed_all, block-housed_all}
 use Rattle.catalogue_core.proofs.Looking.{member-from_any, any-from_member, bears-resolution, bears-current}
-use Rattle.catalogue_core.proofs.MapLaws.{same, one-id, same-itself, same-maps}
+use Rattle.record_homes.proofs.MapLaws.{same, one-id, same-itself, same-maps}
 use Rattle.catalogue_core.proofs.Placing.{lookup-values}
 use Rattle.edition_blocks.proofs.MappedLaws.{mapped-from_member, member-from_mapped}
 use Rattle.catalogue_core.proofs.TurnLaws.{ordered-current}

@@ -27,11 +27,11 @@ use Rattle.catalogue_core.specs.PreparedReaches.{without_named, without_all, IsR
 use Rattle.catalogue_core.specs.Reaches.{IsReachOfWithdrawal}
 use Rattle.catalogue_editions.specs.declared.batch.Batch.{Batch}
 use Rattle.catalogue_editions.specs.declared.edition.Edition.{Edition}
-use Rattle.catalogue_core.specs.declared.home.Home.{Home}
+use Rattle.record_homes.specs.declared.home.Home.{Home}
 use Rattle.catalogue_editions.specs.declared.op.Op.{Op}
 use Rattle.catalogue_editions.specs.declared.op.Op.TheVariants.{Load, Withdraw}
-use Rattle.catalogue_core.specs.declared.place.Place.{Place}
-use Rattle.catalogue_core.proofs.MapLaws.{same, same-maps, one-id, at-inserted, at-removed, ordered-inserted, ordered-removed, id-of_value, value-of_id}
+use Rattle.record_homes.specs.declared.place.Place.{Place}
+use Rattle.record_homes.proofs.MapLaws.{same, same-maps, one-id, at-inserted, at-removed, ordered-inserted, ordered-removed, id-of_value, value-of_id}
 use Rattle.catalogue_core.proofs.PlanLaws.{resolved-by_members}
 
 -- without an id that is not there a map is as it is

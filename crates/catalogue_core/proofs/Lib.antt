@@ -1,4 +1,3 @@
-mod MapLaws
 mod HomeLaws
 mod Placing
 mod Growing

@@ -34,7 +34,7 @@ use Rattle.catalogue_editions.specs.declared.op.Op.{Op}
 use Rattle.catalogue_editions.specs.declared.op.Op.TheVariants.{Load, Withdraw}
 use Rattle.catalogue_editions.specs.declared.batch.Batch.{Batch}
 use Rattle.catalogue_core.specs.declared.history_entry.HistoryEntry.{HistoryEntry}
-use Rattle.catalogue_core.specs.declared.place.Place.{Place}
+use Rattle.record_homes.specs.declared.place.Place.{Place}
 
 pub none-copied : (got : Option (Bor Edition)) → is_none (option_copied got) ≡ is_none got
 none-copied None = refl

@@ -37,14 +37,14 @@ use Rattle.catalogue_editions.specs.MatchLaws.{edition_match_laws}
 use Rattle.catalogue_core.specs.Walks.{first_of, first_behind, holder_of}
 use Rattle.catalogue_editions.specs.declared.edition.Edition.{Edition}
 use Rattle.catalogue_core.specs.declared.history_entry.HistoryEntry.{HistoryEntry}
-use Rattle.catalogue_core.specs.declared.home.Home.{Home}
+use Rattle.record_homes.specs.declared.home.Home.{Home}
 use Rattle.catalogue_editions.proofs.Apart.{least-stands, match-from_contributor}
 use Rattle.catalogue_core.proofs.Housing.{same-some}
 use Rattle.edition_blocks.proofs.BlockLaws.{block-stands, value-in, in-value}
 use Rattle.edition_blocks.proofs.MappedLaws.{mapped-from_member, member-from_mapped}
 use Rattle.catalogue_core.proofs.InstallLaws.{keys-values}
 use Rattle.catalogue_core.proofs.Looking.{holder-current, length-kept}
-use Rattle.catalogue_core.proofs.MapLaws.{same, one-id, same-itself}
+use Rattle.record_homes.proofs.MapLaws.{same, one-id, same-itself}
 use Rattle.catalogue_core.proofs.PlanLaws.{base-found}
 use Rattle.catalogue_core.proofs.TurnLaws.{ordered-current, found-home}
 
@@ -205,34 +205,6 @@ module _ (history : List HistoryEntry) (homes : MapOf Home) (blocks : List (Opti
 
   pub homes-count : length homes ≡ length (bases history)
   homes-count = sym (length-map homes (λ (p : RecordId × Home). (p.0, p.1.place))) ∙ length-kept (batches history) (places_in homes) (current history) k.current
-
--- ---- a walk from an id on
-
-pub all-pass : {A : Type 0} (xs : List A) → filter (λ x. true && not false) xs ≡ xs
-all-pass [] = refl
-all-pass {A} (x ∷ xs) = ap (λ (rest : List A). x ∷ rest) (all-pass xs)
-
--- the first edition among those of the homes after an id
-pub first-behind_named : (blocks : List (Option Block)) (homes : MapOf Home) (id : RecordId) → first_of (named_in blocks (filter (λ p. is_lt (id_cmp id p.0) && not false) homes)) ≡ first_behind (named_in blocks homes) id
-first-behind_named blocks [] id = refl
-first-behind_named blocks (p ∷ homes) id =
-    let rest = first-behind_named blocks homes id in
-    elim (named blocks p) as (λ o. named blocks p ≡ o → first_of (named_in blocks (cond (is_lt (id_cmp id p.0) && not false) (p ∷ filter (λ p. is_lt (id_cmp id p.0) && not false) homes) (filter (λ p. is_lt (id_cmp id p.0) && not false) homes)))
-    ≡ first_behind (cons_option o (named_in blocks homes)) id) [
-      | Some x ↦ λ is. (let (e, at, value, one) = named-is blocks p.0 p.1 x is in
-          elim (is_lt (id_cmp id p.0)) as (λ b. is_lt (id_cmp id p.0) ≡ b → first_of (named_in blocks (cond (b && not false) (p ∷ filter (λ p. is_lt (id_cmp id p.0) && not false) homes) (filter (λ p. is_lt (id_cmp id p.0) && not false) homes)))
-          ≡ cond (is_lt (id_cmp id (least x))) (Some x) (first_behind (named_in blocks homes) id)) [
-            | true ↦ λ lt. ap (λ o. first_of (cons_option o (named_in blocks (filter (λ p. is_lt (id_cmp id p.0) && not false) homes)))) is
-                ∙ sym (ap (λ b. cond b (Some x) (first_behind (named_in blocks homes) id)) (ap (λ k. is_lt (id_cmp id k)) one ∙ lt))
-            | false ↦ λ lt. rest ∙ sym (ap (λ b. cond b (Some x) (first_behind (named_in blocks homes) id)) (ap (λ k. is_lt (id_cmp id k)) one ∙ lt))
-          ] refl)
-      | None ↦ λ is.
-          elim (is_lt (id_cmp id p.0)) as (λ b. first_of (named_in blocks (cond (b && not false) (p ∷ filter (λ p. is_lt (id_cmp id p.0) && not false) homes) (filter (λ p. is_lt (id_cmp id p.0) && not false) homes)))
-          ≡ first_behind (named_in blocks homes) id) [
-            | true ↦ ap (λ o. first_of (cons_option o (named_in blocks (filter (λ p. is_lt (id_cmp id p.0) && not false) homes)))) is ∙ rest
-            | false ↦ rest
-          ]
-    ] refl
 
 -- ---- nothing is kept
 

@@ -9,7 +9,7 @@ use Rattle.catalogue_core.specs.Keeping.{batches, loaded_at, map_values, StandFo
 use Rattle.catalogue_core.specs.declared.history_entry.HistoryEntry.{HistoryEntry}
 use Rattle.catalogue_editions.specs.declared.edition.Edition.{Edition}
 use Rattle.catalogue_editions.specs.declared.batch.Batch.{Batch}
-use Rattle.catalogue_core.specs.declared.place.Place.{Place}
+use Rattle.record_homes.specs.declared.place.Place.{Place}
 
 -- what f makes of the values of a map
 pub lookup-values : {X Y : Type 0} (f : X → Y) (all : MapOf X) (test : RecordId → Bool) → lookup test (map_values f all) ≡ option_map f (lookup test all)

@@ -38,13 +38,13 @@ use Rattle.catalogue_core.specs.Plans.{AreSingle, IsPlanned, IsLeft, base_beside
 use Rattle.catalogue_core.specs.Reaches.{IsReachOfInsertion, IsReachOfWithdrawal, IsReachOfReplacement, IsReachOfOp}
 use Rattle.catalogue_editions.specs.declared.batch.Batch.{Batch}
 use Rattle.catalogue_editions.specs.declared.edition.Edition.{Edition}
-use Rattle.catalogue_core.specs.declared.home.Home.{Home}
+use Rattle.record_homes.specs.declared.home.Home.{Home}
 use Rattle.catalogue_editions.specs.declared.op.Op.TheVariants.{Load, Withdraw}
-use Rattle.catalogue_core.specs.declared.place.Place.{Place}
+use Rattle.record_homes.specs.declared.place.Place.{Place}
 use Rattle.edition_blocks.proofs.MappedLaws.{mapped-from_member, member-from_mapped}
 use Rattle.catalogue_core.proofs.Growing.{grown-insert}
 use Rattle.catalogue_core.proofs.Looking.{tags, any-from_member, bears-resolution, bears-current, single-insert, single-remove, flat-then, flat-some}
-use Rattle.catalogue_core.proofs.MapLaws.{same, same-maps, one-id, same-itself, at-inserted, at-removed, ordered-inserted, ordered-removed, id-of_value, value-of_id}
+use Rattle.record_homes.proofs.MapLaws.{same, same-maps, one-id, same-itself, at-inserted, at-removed, ordered-inserted, ordered-removed, id-of_value, value-of_id}
 
 -- ---- members of what a function finds
 

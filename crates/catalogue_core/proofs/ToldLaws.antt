@@ -22,8 +22,8 @@ use Rattle.catalogue_core.specs.Keeping.{batches}
 use Rattle.catalogue_core.specs.Kept.{IsKept}
 use Rattle.catalogue_core.specs.Plans.{IsPlanned}
 use Rattle.catalogue_core.specs.declared.history_entry.HistoryEntry.{HistoryEntry}
-use Rattle.catalogue_core.specs.declared.home.Home.{Home}
-use Rattle.catalogue_core.specs.declared.place.Place.{Place}
+use Rattle.record_homes.specs.declared.home.Home.{Home}
+use Rattle.record_homes.specs.declared.place.Place.{Place}
 
 pub kept-apart : (history : List HistoryEntry) (homes : MapOf Home) (blocks : List (Option Block)) (works : Option WorkList) → IsKept history homes blocks works
     → AreApart match (values_of (blocks_in blocks))

@@ -27,13 +27,13 @@ use Rattle.catalogue_core.specs.Reaches.{IsReachOf, IsReachOfOp}
 use Rattle.catalogue_editions.specs.declared.batch.Batch.{Batch}
 use Rattle.catalogue_editions.specs.declared.edition.Edition.{Edition}
 use Rattle.catalogue_core.specs.declared.history_entry.HistoryEntry.{HistoryEntry}
-use Rattle.catalogue_core.specs.declared.home.Home.{Home}
+use Rattle.record_homes.specs.declared.home.Home.{Home}
 use Rattle.catalogue_editions.specs.declared.op.Op.{Op}
 use Rattle.catalogue_editions.specs.declared.op.Op.TheVariants.{Load, Withdraw}
 use Rattle.catalogue_editions.specs.declared.outcome.Outcome.{Outcome}
-use Rattle.catalogue_core.specs.declared.place.Place.{Place}
+use Rattle.record_homes.specs.declared.place.Place.{Place}
 use Rattle.catalogue_core.proofs.Looking.{single-turns}
-use Rattle.catalogue_core.proofs.MapLaws.{ordered-inserted, ordered-removed}
+use Rattle.record_homes.proofs.MapLaws.{ordered-inserted, ordered-removed}
 use Rattle.catalogue_core.proofs.Placing.{lookup-values, batch-last, length-batches, stand-grown}
 
 -- ---- the ids of a history are in order

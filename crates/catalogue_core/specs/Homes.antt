@@ -12,8 +12,9 @@ use Rattle.catalogue_core.specs.Histories.{MapOf, at_id, is_current}
 use Rattle.catalogue_editions.specs.Ids.{least}
 use Rattle.catalogue_core.specs.Keeping.{map_values}
 use Rattle.catalogue_editions.specs.declared.edition.Edition.{Edition}
-use Rattle.catalogue_core.specs.declared.home.Home.{Home}
-use Rattle.catalogue_core.specs.declared.place.Place.{Place}
+use Rattle.record_homes.specs.Maps.{change_at}
+use Rattle.record_homes.specs.declared.home.Home.{Home}
+use Rattle.record_homes.specs.declared.place.Place.{Place}
 
 -- an edition as a block
 abbrev pub Block : Type 0
@@ -35,11 +36,6 @@ pub record AreHoused (blocks : List (Option Block)) (homes : MapOf Home) : Type 
 -- the place under the id: what a plan made of it, where the plan touched it, and else where the record was loaded
 abbrev pub place_of : MapOf Home → MapOf (Option Place) → RecordId → Option Place
 place_of homes touched id = unwrap_or (at_id touched id) (option_map (λ home. home.place) (at_id homes id))
-
--- the map with what change makes of the value under the id
-abbrev pub change_at : {X : Type 0} → RecordId → (X → X) → MapOf X → MapOf X
-change_at id change [] = []
-change_at id change (p ∷ all) = if is_at (id_cmp id) p.0 then (p.0, change p.1) ∷ all else p ∷ change_at id change all
 
 -- the ids that a plan lets stand
 abbrev pub standing : MapOf (Option Place) → List RecordId

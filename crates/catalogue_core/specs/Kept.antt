@@ -12,7 +12,7 @@ use Rattle.catalogue_editions.specs.Joining.{join}
 use Rattle.catalogue_core.specs.Keeping.{batches, StandFor}
 use Rattle.catalogue_editions.specs.Matching.{match}
 use Rattle.catalogue_core.specs.declared.history_entry.HistoryEntry.{HistoryEntry}
-use Rattle.catalogue_core.specs.declared.home.Home.{Home}
+use Rattle.record_homes.specs.declared.home.Home.{Home}
 
 -- under the id of each current record is the place in the history at which it was loaded, and the number of its block; the
 -- blocks are what the current records resolve to, in any order, and the works that are kept are those of the blocks

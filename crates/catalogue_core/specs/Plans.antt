@@ -18,8 +18,8 @@ use Rattle.catalogue_core.specs.Keeping.{loaded_at}
 use Rattle.catalogue_editions.specs.Matching.{match}
 use Rattle.catalogue_editions.specs.declared.batch.Batch.{Batch}
 use Rattle.catalogue_editions.specs.declared.edition.Edition.{Edition}
-use Rattle.catalogue_core.specs.declared.home.Home.{Home}
-use Rattle.catalogue_core.specs.declared.place.Place.{Place}
+use Rattle.record_homes.specs.declared.home.Home.{Home}
+use Rattle.record_homes.specs.declared.place.Place.{Place}
 
 -- under each id is the edition of that one record
 abbrev pub AreSingle : MapOf Edition → Type 0

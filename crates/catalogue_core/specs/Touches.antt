@@ -11,8 +11,8 @@ use Rattle.catalogue_core.specs.Keeping.{loaded_at}
 use Rattle.catalogue_core.specs.Plans.{AreSingle}
 use Rattle.catalogue_editions.specs.declared.batch.Batch.{Batch}
 use Rattle.catalogue_editions.specs.declared.edition.Edition.{Edition}
-use Rattle.catalogue_core.specs.declared.home.Home.{Home}
-use Rattle.catalogue_core.specs.declared.place.Place.{Place}
+use Rattle.record_homes.specs.declared.home.Home.{Home}
+use Rattle.record_homes.specs.declared.place.Place.{Place}
 
 -- the records of these editions are current: each is found at its place in the batches
 pub record IsTouched (all : List Batch) (homes : MapOf Home) (editions : MapOf Edition) (touched : MapOf (Option Place)) : Type 0 where

@@ -20,17 +20,16 @@ ghost use Rattle.catalogue_editions.specs.Net.{net};
 ghost use Rattle.catalogue_core.specs.PreparedReaches.{IsReachOfParts};
 ghost use Rattle.catalogue_core.specs.Reaches.{IsReachOf};
 ghost use Rattle.catalogue_editions.specs.Resolutions.{IsOrderedResolution};
-ghost use Rattle.catalogue_core.specs.Walks.{first_of, first_behind, holder_of};
+ghost use Rattle.catalogue_core.specs.Walks.{holder_of};
 
 use crate::by_key;
 use crate::grouping::{Grouping, grouped};
 use crate::history_entry::HistoryEntry;
-use crate::home::Home;
 use crate::installing::install;
 use crate::keeping::loaded_at;
 use crate::parts_turn::apply_parts;
 use crate::turn::planned;
-use crate::walk::first_named;
+use crate::walk::in_order;
 use catalogue_editions::batch::Batch;
 use catalogue_editions::edition::Edition;
 use catalogue_editions::outcome::Outcome;
@@ -39,10 +38,9 @@ use edition_blocks::delta::Delta;
 use edition_blocks::telling::delta_of;
 use match_features::keys::FeatureKey;
 use merge_laws::steps::Steps;
+use record_homes::table::HomeTable;
 use std::alloc::Global;
-use std::collections::BTreeMap;
 use std::marker::Model;
-use std::ops::Bound;
 use std::sync::ledger::Ledger;
 use swoosh_resolver::blocks::Blocks;
 use union_base::memory::Memory;
@@ -52,7 +50,7 @@ use work_clusters::works::Works;
 /// The union catalogue of some libraries. Contracts see it as its history.
 pub struct Catalogue {
     history: Vec<HistoryEntry>,
-    homes: BTreeMap<RecordId, Home>,
+    homes: HomeTable,
     blocks: Blocks<Edition>,
     works: Option<Works>,
 }
@@ -90,7 +88,7 @@ impl Catalogue {
     {
         Ok(Catalogue {
             history: Vec::new(alloc),
-            homes: BTreeMap::new(alloc),
+            homes: HomeTable::new(alloc),
             blocks: Blocks::empty(alloc),
             works: None,
         })
@@ -103,7 +101,7 @@ impl Catalogue {
     pub fn keep_works(&mut self, alloc: Global) -> Result<(), Memory>
         ensures { self.new ≡ self.old }
     {
-        let works = grouped(alloc, &self.blocks, &self.homes)?;
+        let works = grouped(alloc, &self.blocks)?;
         self.works = Some(works);
         Ok(())
     }
@@ -226,19 +224,14 @@ impl Catalogue {
         )
     }
 
-    /// The first edition in order of the least contributors: None exactly where there is none. Takes no memory.
-    pub fn first(&self) -> Option<&Edition>
-        ensures { (all : List EditionModel) × AreEditionsOf self.now all × (option_copied result ≡ first_of all) }
+    /// The editions in order of their least contributors. They are kept in no order, and sorted at each call.
+    ///
+    /// Returns `Memory` if allocation fails.
+    pub fn editions(&self, alloc: Global) -> Result<Vec<&Edition>, Memory>
+        ensures { (all : List EditionModel) × AreEditionsOf self.now all
+            × IfOk result (λ found. map (λ e. e.now) found.items ≡ all) }
     {
-        first_named(&self.blocks, self.homes.range(..))
-    }
-
-    /// The first edition whose least contributor is after that id: None exactly where there is none. Takes no memory.
-    pub fn after(&self, id: &RecordId) -> Option<&Edition>
-        ensures { (all : List EditionModel) × AreEditionsOf self.now all × (option_copied result ≡ first_behind all id.now) }
-    {
-        let behind = self.homes.range((Bound::Excluded(id), Bound::Unbounded));
-        first_named(&self.blocks, behind)
+        in_order(alloc, &self.blocks)
     }
 
     /// The edition that the record of that id is a contributor of: None exactly where it is not current. Takes no memory.
@@ -284,7 +277,7 @@ impl Catalogue {
     pub fn record_count(&self) -> u64
         ensures { result ≡ length (bases self.now) }
     {
-        self.homes.len() as u64
+        self.homes.len()
     }
 
     /// The works of the editions: under each work key, by their least contributors, the editions that have it. Where they are
@@ -297,7 +290,7 @@ impl Catalogue {
     {
         match &self.works {
             Some(works) => Ok(Grouping::Kept(works)),
-            None => match grouped(alloc, &self.blocks, &self.homes) {
+            None => match grouped(alloc, &self.blocks) {
                 Ok(made) => Ok(Grouping::Made(made)),
                 Err(Memory) => Err(Memory),
             },

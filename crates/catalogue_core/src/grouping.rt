@@ -2,16 +2,13 @@
 ghost use Rattle.std.specs.Prelude.{◌≡◌, IfOk};
 ghost use Rattle.work_clusters.specs.Works.{works_of};
 ghost use Rattle.catalogue_core.specs.Grouping.{works_in};
-ghost use Rattle.catalogue_core.specs.Homes.{named_in};
+ghost use Rattle.swoosh_resolver.specs.Tables.{blocks_in, values_of};
 ghost use Rattle.catalogue_editions.specs.EditionKeys.{work_key_of, work_pairs};
 ghost use Rattle.catalogue_editions.specs.Ids.{least};
 
-use crate::home::Home;
-use crate::walk::named;
 use catalogue_editions::edition::Edition;
 use catalogue_editions::work_key::work_key_of;
 use std::alloc::Global;
-use std::collections::BTreeMap;
 use swoosh_resolver::blocks::Blocks;
 use union_base::bytes::Bytes;
 use union_base::copied::Copied;
@@ -47,32 +44,22 @@ pub fn work_pair(alloc: Global, edition: &Edition) -> Result<(Bytes, RecordId), 
 }
 
 /// The work keys of the editions, each with its edition's least contributor. Returns `Memory` if allocation fails.
-fn pairs(
-    alloc: Global,
-    blocks: &Blocks<Edition>,
-    homes: &BTreeMap<RecordId, Home>,
-) -> Result<Vec<(Bytes, RecordId)>, Memory>
-    ensures { IfOk result (λ pairs. pairs.items ≡ work_pairs (named_in blocks.now.blocks homes.now.entries)) }
+fn pairs(alloc: Global, blocks: &Blocks<Edition>) -> Result<Vec<(Bytes, RecordId)>, Memory>
+    ensures { IfOk result (λ pairs. pairs.items ≡ work_pairs (values_of (blocks_in blocks.now.blocks))) }
 {
     let mut pairs = Vec::with_capacity(alloc, blocks.count())?;
-    for (id, home) in homes.iter() {
-        if let Some(edition) = named(blocks, id, *home) {
-            pairs.push(work_pair(alloc, edition)?)?;
-        }
+    for edition in blocks.values(alloc)? {
+        pairs.push(work_pair(alloc, edition)?)?;
     }
     Ok(pairs)
 }
 
 /// The works of the editions. Returns `Memory` if allocation fails.
-pub fn grouped(
-    alloc: Global,
-    blocks: &Blocks<Edition>,
-    homes: &BTreeMap<RecordId, Home>,
-) -> Result<Works, Memory>
-    ensures { IfOk result (λ works. works.works ≡ works_of (work_pairs (named_in blocks.now.blocks homes.now.entries))) }
+pub fn grouped(alloc: Global, blocks: &Blocks<Edition>) -> Result<Works, Memory>
+    ensures { IfOk result (λ works. works.works ≡ works_of (work_pairs (values_of (blocks_in blocks.now.blocks)))) }
 {
     let mut works = Works::empty(alloc);
-    let change = works.plan(alloc, Vec::new(alloc), pairs(alloc, blocks, homes)?)?;
+    let change = works.plan(alloc, Vec::new(alloc), pairs(alloc, blocks)?)?;
     works.make_room(alloc, &change)?;
     works.install(change);
     Ok(works)

@@ -3,11 +3,12 @@
 //! A map may want memory for a new key. So new ids are let in first, each with a home that says nothing yet, or none of them
 //! where memory runs out; what follows changes homes that are there, or takes them away, and wants no memory.
 ghost use Rattle.std.specs.Prelude.{◌≡◌, ◌≤◌, length, fold, IfOk, OnOk, OnErr};
-ghost use Rattle.catalogue_core.specs.Homes.{change_at, standing, admitted, moved, housed, housed_all};
+ghost use Rattle.catalogue_core.specs.Homes.{standing, admitted, moved, housed, housed_all};
 
-use crate::home::Home;
-use crate::place::Place;
 use catalogue_editions::edition::Edition;
+use record_homes::home::Home;
+use record_homes::place::Place;
+use record_homes::table::HomeTable;
 use std::alloc::Global;
 use std::collections::BTreeMap;
 use swoosh_resolver::keyed::Keyed;
@@ -38,11 +39,7 @@ pub fn standing(
 }
 
 /// Lets each of the ids in that has no home. Memory where it runs out, and then none of them is let in.
-pub fn admit(
-    alloc: Global,
-    homes: &mut BTreeMap<RecordId, Home>,
-    ids: &[RecordId],
-) -> Result<(), Memory>
+pub fn admit(alloc: Global, homes: &mut HomeTable, ids: &[RecordId]) -> Result<(), Memory>
     ensures admitted { OnOk result (homes.new.entries ≡ admitted homes.old.entries ids.now) }
     ensures kept { OnErr result (homes.new.entries ≡ homes.old.entries) }
 {
@@ -52,7 +49,7 @@ pub fn admit(
     if homes.contains_key(id) {
         return admit(alloc, homes, rest);
     }
-    homes.insert(id.copied(alloc)?, BLANK)?;
+    homes.insert(alloc, id.copied(alloc)?, BLANK)?;
     match admit(alloc, homes, rest) {
         Ok(()) => Ok(()),
         Err(refused) => {
@@ -63,23 +60,17 @@ pub fn admit(
 }
 
 /// Moves the home under the id to that place; takes it away where there is none. Takes no memory.
-fn move_one(homes: &mut BTreeMap<RecordId, Home>, id: &RecordId, place: Option<Place>)
+fn move_one(homes: &mut HomeTable, id: &RecordId, place: Option<Place>)
     ensures { homes.new.entries ≡ moved homes.old.entries (id.now, place) }
 {
     match place {
-        Some(place) => {
-            if let Some(home) = homes.get_mut(id) {
-                home.place = place;
-            }
-        }
-        None => {
-            homes.remove(id);
-        }
+        Some(place) => homes.set_place(id, place),
+        None => homes.remove(id),
     }
 }
 
 /// Moves the homes as the plan has it. Takes no memory.
-pub fn move_all(homes: &mut BTreeMap<RecordId, Home>, touched: &BTreeMap<RecordId, Option<Place>>)
+pub fn move_all(homes: &mut HomeTable, touched: &BTreeMap<RecordId, Option<Place>>)
     ensures { homes.new.entries ≡ fold moved homes.old.entries touched.now.entries }
 {
     for (id, place) in touched.iter() {
@@ -87,26 +78,17 @@ pub fn move_all(homes: &mut BTreeMap<RecordId, Home>, touched: &BTreeMap<RecordI
     }
 }
 
-/// Puts the number into the home under the id, where there is one. Takes no memory.
-fn house_one(homes: &mut BTreeMap<RecordId, Home>, id: &RecordId, number: u64)
-    ensures { homes.new.entries ≡ change_at id.now (λ home. record { place = home.place; block = number }) homes.old.entries }
-{
-    if let Some(home) = homes.get_mut(id) {
-        home.block = number;
-    }
-}
-
 /// Puts the number into the home under each of the ids. Takes no memory.
-fn house(homes: &mut BTreeMap<RecordId, Home>, ids: &[RecordId], number: u64)
+fn house(homes: &mut HomeTable, ids: &[RecordId], number: u64)
     ensures { homes.new.entries ≡ housed number homes.old.entries ids.now }
 {
     for id in ids {
-        house_one(homes, id, number);
+        homes.set_block(id, number);
     }
 }
 
 /// Gives each contributor of each opened block its number. Takes no memory.
-pub fn house_all(homes: &mut BTreeMap<RecordId, Home>, opened: &[Keyed<Edition>], numbers: &[u64])
+pub fn house_all(homes: &mut HomeTable, opened: &[Keyed<Edition>], numbers: &[u64])
     requires { length opened.now ≤ length numbers.now }
     ensures { homes.new.entries ≡ housed_all homes.old.entries opened.now numbers.now }
 {

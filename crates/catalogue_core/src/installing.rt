@@ -17,12 +17,11 @@ ghost use Rattle.catalogue_core.specs.Plans.{IsPlanned};
 
 use crate::grouping::work_pair;
 use crate::history_entry::HistoryEntry;
-use crate::home::Home;
 use crate::homes::{admit, house_all, move_all, standing};
 use crate::plan::Plan;
 use catalogue_editions::edition::Edition;
+use record_homes::table::HomeTable;
 use std::alloc::Global;
-use std::collections::BTreeMap;
 use swoosh_resolver::blocks::Blocks;
 use swoosh_resolver::change::Change;
 use swoosh_resolver::keyed::Keyed;
@@ -116,7 +115,7 @@ fn regroup(works: &mut Option<Works>, change: Option<WorkChange>)
 pub fn install(
     alloc: Global,
     history: &mut Vec<HistoryEntry>,
-    homes: &mut BTreeMap<RecordId, Home>,
+    homes: &mut HomeTable,
     blocks: &mut Blocks<Edition>,
     works: &mut Option<Works>,
     entry: HistoryEntry,

@@ -7,10 +7,10 @@ ghost use Rattle.std.specs.Option.{option_copied};
 ghost use Rattle.catalogue_core.specs.Keeping.{batches, loaded, loaded_at};
 
 use crate::history_entry::HistoryEntry;
-use crate::place::Place;
 use catalogue_editions::batch::Batch;
 use catalogue_editions::edition::Edition;
 use catalogue_editions::op::Op;
+use record_homes::place::Place;
 
 /// The edition that the operation loads: None exactly where it is no load. Takes no memory.
 fn loaded(op: &Op) -> Option<&Edition>

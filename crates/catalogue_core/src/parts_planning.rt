@@ -22,8 +22,6 @@ ghost use Rattle.catalogue_editions.specs.declared.edition.Edition.{Edition as E
 ghost use Rattle.catalogue_editions.specs.declared.batch.Batch.{Batch as BatchModel};
 
 use crate::history_entry::HistoryEntry;
-use crate::home::Home;
-use crate::place::Place;
 use crate::plan::Plan;
 use crate::planning::{place_of, withdraw};
 use catalogue_editions::batch::Batch;
@@ -31,6 +29,8 @@ use catalogue_editions::edition::Edition;
 use catalogue_editions::op::Op;
 use catalogue_editions::outcome::Outcome;
 use merge_laws::steps::Steps;
+use record_homes::place::Place;
+use record_homes::table::HomeTable;
 use std::alloc::Global;
 use std::collections::BTreeMap;
 use std::sync::ledger::Ledger;
@@ -58,7 +58,7 @@ fn named(alloc: Global, library: &LibraryCode, op: &Op) -> Result<RecordId, Memo
 fn withdraw_current<L: Ledger>(
     alloc: Global,
     history: &[HistoryEntry],
-    homes: &BTreeMap<RecordId, Home>,
+    homes: &HomeTable,
     blocks: &Blocks<Edition>,
     batch: &Batch,
     plan: Plan,
@@ -114,7 +114,7 @@ fn insert_parts<L: Ledger>(
 fn without_named<L: Ledger>(
     alloc: Global,
     history: &[HistoryEntry],
-    homes: &BTreeMap<RecordId, Home>,
+    homes: &HomeTable,
     blocks: &Blocks<Edition>,
     batch: &Batch,
     steps: &mut Steps<L>,
@@ -144,7 +144,7 @@ fn without_named<L: Ledger>(
 /// where it runs out.
 fn touch_op(
     alloc: Global,
-    homes: &BTreeMap<RecordId, Home>,
+    homes: &HomeTable,
     touched: &mut BTreeMap<RecordId, Option<Place>>,
     library: &LibraryCode,
     place: Place,
@@ -184,7 +184,7 @@ fn touch_op(
 fn touch_all(
     alloc: Global,
     history: &[HistoryEntry],
-    homes: &BTreeMap<RecordId, Home>,
+    homes: &HomeTable,
     batch: &Batch,
 ) -> Result<(BTreeMap<RecordId, Option<Place>>, Vec<Outcome>), Memory>
     requires { StandFor (batches history.now) (places_in homes.now.entries) (current history.now) }
@@ -209,7 +209,7 @@ fn touch_all(
 pub fn planned_parts<L: Ledger>(
     alloc: Global,
     history: &[HistoryEntry],
-    homes: &BTreeMap<RecordId, Home>,
+    homes: &HomeTable,
     blocks: &Blocks<Edition>,
     batch: &Batch,
     parts: Vec<Edition>,

@@ -10,15 +10,14 @@ ghost use Rattle.catalogue_editions.specs.Net.{net};
 ghost use Rattle.catalogue_core.specs.PreparedReaches.{IsReachOfParts};
 
 use crate::history_entry::HistoryEntry;
-use crate::home::Home;
 use crate::installing::install;
 use crate::parts_planning::planned_parts;
 use catalogue_editions::batch::Batch;
 use catalogue_editions::edition::Edition;
 use catalogue_editions::outcome::Outcome;
 use merge_laws::steps::Steps;
+use record_homes::table::HomeTable;
 use std::alloc::Global;
-use std::collections::BTreeMap;
 use std::sync::ledger::Ledger;
 use swoosh_resolver::blocks::Blocks;
 use union_base::memory::Memory;
@@ -32,7 +31,7 @@ use work_clusters::works::Works;
 pub fn apply_parts<L: Ledger>(
     alloc: Global,
     history: &mut Vec<HistoryEntry>,
-    homes: &mut BTreeMap<RecordId, Home>,
+    homes: &mut HomeTable,
     blocks: &mut Blocks<Edition>,
     works: &mut Option<Works>,
     number: u32,

@@ -1,6 +1,6 @@
 //! Plans: what a turn makes of a catalogue, worked out before anything of the catalogue changes.
-use crate::place::Place;
 use catalogue_editions::edition::Edition;
+use record_homes::place::Place;
 use std::collections::BTreeMap;
 use swoosh_resolver::change::Change;
 use union_base::record_id::RecordId;

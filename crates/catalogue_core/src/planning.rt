@@ -22,9 +22,7 @@ ghost use Rattle.catalogue_core.specs.Reaches.{IsReachOfWithdrawal, IsReachOfIns
 ghost use Rattle.catalogue_editions.specs.declared.edition.Edition.{Edition as EditionModel};
 
 use crate::history_entry::HistoryEntry;
-use crate::home::Home;
 use crate::keeping::loaded_in;
-use crate::place::Place;
 use crate::plan::Plan;
 use catalogue_editions::batch::Batch;
 use catalogue_editions::edition::Edition;
@@ -33,6 +31,8 @@ use catalogue_editions::outcome::Outcome;
 use cluster_reopen::parts::reopen;
 use merge_laws::join::Join;
 use merge_laws::steps::Steps;
+use record_homes::place::Place;
+use record_homes::table::HomeTable;
 use std::alloc::Global;
 use std::collections::BTreeMap;
 use std::sync::ledger::Ledger;
@@ -47,7 +47,7 @@ use union_base::record_id::RecordId;
 /// The place at which the record under the id was loaded that is current by the plan: None exactly where none is. Takes no
 /// memory.
 pub fn place_of(
-    homes: &BTreeMap<RecordId, Home>,
+    homes: &HomeTable,
     touched: &BTreeMap<RecordId, Option<Place>>,
     id: &RecordId,
 ) -> Option<Place>
@@ -64,7 +64,7 @@ pub fn place_of(
 fn base_beside<'a>(
     history: &'a [HistoryEntry],
     batch: &'a Batch,
-    homes: &BTreeMap<RecordId, Home>,
+    homes: &HomeTable,
     touched: &BTreeMap<RecordId, Option<Place>>,
     gone: &RecordId,
     id: &RecordId,
@@ -84,7 +84,7 @@ fn bases_beside(
     alloc: Global,
     history: &[HistoryEntry],
     batch: &Batch,
-    homes: &BTreeMap<RecordId, Home>,
+    homes: &HomeTable,
     touched: &BTreeMap<RecordId, Option<Place>>,
     gone: &RecordId,
     ids: &[RecordId],
@@ -104,7 +104,7 @@ fn bases_beside(
 /// The number of the block that has the contributor, where the change does not close it: None exactly where it closes it, or
 /// where no record of that id has a home. Takes no memory.
 fn kept_holder(
-    homes: &BTreeMap<RecordId, Home>,
+    homes: &HomeTable,
     blocks: &Blocks<Edition>,
     change: &Change<Edition>,
     id: &RecordId,
@@ -148,7 +148,7 @@ fn opened_holder(opened: &[Keyed<Edition>], id: &RecordId) -> Option<usize>
 /// Where in the view of the change the edition stands that has the contributor: None exactly where none has it. Takes no
 /// memory.
 fn holder_at(
-    homes: &BTreeMap<RecordId, Home>,
+    homes: &HomeTable,
     blocks: &Blocks<Edition>,
     change: &Change<Edition>,
     id: &RecordId,
@@ -174,7 +174,7 @@ fn holder_at(
 fn left_behind(
     alloc: Global,
     history: &[HistoryEntry],
-    homes: &BTreeMap<RecordId, Home>,
+    homes: &HomeTable,
     blocks: &Blocks<Edition>,
     batch: &Batch,
     plan: &Plan,
@@ -203,7 +203,7 @@ fn left_behind(
 pub fn withdraw<L: Ledger>(
     alloc: Global,
     history: &[HistoryEntry],
-    homes: &BTreeMap<RecordId, Home>,
+    homes: &HomeTable,
     blocks: &Blocks<Edition>,
     batch: &Batch,
     plan: Plan,
@@ -238,7 +238,7 @@ pub fn withdraw<L: Ledger>(
 fn insert<L: Ledger>(
     alloc: Global,
     history: &[HistoryEntry],
-    homes: &BTreeMap<RecordId, Home>,
+    homes: &HomeTable,
     blocks: &Blocks<Edition>,
     batch: &Batch,
     plan: Plan,
@@ -275,7 +275,7 @@ fn insert<L: Ledger>(
 fn plan_load<L: Ledger>(
     alloc: Global,
     history: &[HistoryEntry],
-    homes: &BTreeMap<RecordId, Home>,
+    homes: &HomeTable,
     blocks: &Blocks<Edition>,
     batch: &Batch,
     plan: Plan,
@@ -323,7 +323,7 @@ fn plan_load<L: Ledger>(
 fn plan_withdrawal<L: Ledger>(
     alloc: Global,
     history: &[HistoryEntry],
-    homes: &BTreeMap<RecordId, Home>,
+    homes: &HomeTable,
     blocks: &Blocks<Edition>,
     batch: &Batch,
     plan: Plan,
@@ -363,7 +363,7 @@ fn plan_withdrawal<L: Ledger>(
 pub fn plan_op<L: Ledger>(
     alloc: Global,
     history: &[HistoryEntry],
-    homes: &BTreeMap<RecordId, Home>,
+    homes: &HomeTable,
     blocks: &Blocks<Edition>,
     batch: &Batch,
     plan: Plan,

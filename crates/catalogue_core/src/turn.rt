@@ -14,14 +14,14 @@ ghost use Rattle.catalogue_core.specs.Plans.{IsPlanned};
 ghost use Rattle.catalogue_core.specs.Reaches.{IsReachOf};
 
 use crate::history_entry::HistoryEntry;
-use crate::home::Home;
-use crate::place::Place;
 use crate::plan::Plan;
 use crate::planning::plan_op;
 use catalogue_editions::batch::Batch;
 use catalogue_editions::edition::Edition;
 use catalogue_editions::outcome::Outcome;
 use merge_laws::steps::Steps;
+use record_homes::place::Place;
+use record_homes::table::HomeTable;
 use std::alloc::Global;
 use std::collections::BTreeMap;
 use std::sync::ledger::Ledger;
@@ -34,7 +34,7 @@ use union_base::record_id::RecordId;
 pub fn planned<L: Ledger>(
     alloc: Global,
     history: &[HistoryEntry],
-    homes: &BTreeMap<RecordId, Home>,
+    homes: &HomeTable,
     blocks: &Blocks<Edition>,
     batch: &Batch,
     steps: &mut Steps<L>,

@@ -1,41 +1,23 @@
-//! The editions in order, along the homes of the records.
+//! The editions in order.
 //!
-//! An edition is met at its least contributor, and the homes of its other contributors are passed over: a walk over all editions
-//! passes each home once. No call takes memory.
-ghost use Rattle.std.specs.Prelude.{◌≡◌};
-ghost use Rattle.std.specs.Option.{option_copied};
-ghost use Rattle.catalogue_core.specs.Homes.{named, named_in};
-ghost use Rattle.catalogue_core.specs.Walks.{first_of};
+//! Blocks are kept in no order, so they are sorted for whoever asks.
+ghost use Rattle.std.specs.Prelude.{map, IfOk};
+ghost use Rattle.std.specs.List.Sorted.{IsPermutation, IsSorted};
+ghost use Rattle.swoosh_resolver.specs.Tables.{blocks_in, values_of};
+ghost use Rattle.catalogue_editions.specs.Ids.{edition_cmp};
 
-use crate::home::Home;
 use catalogue_editions::edition::Edition;
-use std::collections::btree_map::Range;
+use edition_blocks::looking::by_least;
+use std::alloc::Global;
 use swoosh_resolver::blocks::Blocks;
-use union_base::record_id::RecordId;
+use union_base::memory::Memory;
 
-/// The block of the home, where its least contributor is the id.
-pub fn named<'a>(blocks: &'a Blocks<Edition>, id: &RecordId, home: Home) -> Option<&'a Edition>
-    ensures { option_copied result ≡ named blocks.now.blocks (id.now, home) }
+/// The editions among the blocks, in order of their least contributors. Returns `Memory` if allocation fails.
+pub fn in_order(alloc: Global, blocks: &Blocks<Edition>) -> Result<Vec<&Edition>, Memory>
+    ensures same { IfOk result (λ found. IsPermutation (values_of (blocks_in blocks.now.blocks))
+        (map (λ e. e.now) found.items)) }
+    ensures ascending { IfOk result (λ found. IsSorted edition_cmp (map (λ e. e.now) found.items)) }
 {
-    let edition = blocks.block(home.block)?;
-    if id.cmp(edition.least()).is_eq() {
-        Some(edition)
-    } else {
-        None
-    }
-}
-
-/// The first edition of which the least contributor is among those homes: None exactly where there is none.
-pub fn first_named<'a>(
-    blocks: &'a Blocks<Edition>,
-    homes: Range<'_, RecordId, Home>,
-) -> Option<&'a Edition>
-    ensures { option_copied result ≡ first_of (named_in blocks.now.blocks homes.entry) }
-{
-    for (id, home) in homes {
-        if let Some(edition) = named(blocks, id, *home) {
-            return Some(edition);
-        }
-    }
-    None
+    let editions = blocks.values(alloc)?;
+    by_least(editions)
 }

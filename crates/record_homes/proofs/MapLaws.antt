@@ -18,8 +18,7 @@ use Rattle.union_base.specs.IdLaws.{ids_apart}
 use Rattle.merge_laws.proofs.Places.{Contains-head, Contains-tail, Contains-cases}
 use Rattle.field_merge.specs.Kept.{id_cmp}
 use Rattle.field_merge.specs.KeptLaws.{id_total}
-use Rattle.catalogue_core.specs.Histories.{MapOf, at_id}
-use Rattle.catalogue_core.specs.Homes.{change_at}
+use Rattle.record_homes.specs.Maps.{MapOf, at_id, change_at}
 
 -- whether they are one id
 abbrev pub same : RecordId → RecordId → Bool

@@ -1,7 +1,7 @@
-use Rattle.std.proofs.Common.{◌≡◌, ◌++◌}
+use Rattle.std.proofs.Common.{◌≡◌, ◌++◌, map}
+use Rattle.swoosh_resolver.specs.Tables.{blocks_in, values_of}
 use Rattle.catalogue_editions.specs.EditionKeys.{work_pairs}
-use Rattle.catalogue_core.specs.Homes.{named_in}
 use Rattle.catalogue_core.proofs.grouping.pairs.Given as goal
 
-abbrev pub invariant-loop-id : goal.invariant-loop-id
-invariant-loop-id l = l.pairs.items ++ work_pairs (named_in l.blocks.blocks l.id-iterator) ≡ work_pairs (named_in l.blocks.blocks l.homes.entries)
+abbrev pub invariant-loop-edition : goal.invariant-loop-edition
+invariant-loop-edition l = l.pairs.items ≡ work_pairs (map (λ e. e.now) l.yielded)

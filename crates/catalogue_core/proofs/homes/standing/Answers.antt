@@ -3,7 +3,7 @@ use Rattle.std.specs.Prelude.{Option, None, Some, is_some}
 use Rattle.union_base.specs.declared.record_id.RecordId.{RecordId}
 use Rattle.catalogue_core.specs.Histories.{MapOf}
 use Rattle.catalogue_core.specs.Homes.{standing}
-use Rattle.catalogue_core.specs.declared.place.Place.{Place}
+use Rattle.record_homes.specs.declared.place.Place.{Place}
 use Rattle.catalogue_core.proofs.homes.standing.Goals as goal
 
 -- an id whose record stands is the first of those that stand

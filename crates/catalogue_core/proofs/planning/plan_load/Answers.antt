@@ -8,7 +8,7 @@ use Rattle.catalogue_core.specs.Keeping.{batches}
 use Rattle.catalogue_core.specs.Plans.{IsPlanned}
 use Rattle.catalogue_core.specs.Reaches.{IsReachOfInsertion, IsReachOfWithdrawal}
 use Rattle.catalogue_editions.specs.declared.outcome.Outcome.TheVariants.{Replaced, Added}
-use Rattle.catalogue_core.proofs.MapLaws.{same}
+use Rattle.record_homes.proofs.MapLaws.{same}
 use Rattle.catalogue_core.proofs.PlanLaws.{current-from_place, not-current, inserted-again, replacement-paid, insertion-paid}
 use Rattle.catalogue_core.proofs.planning.plan_load.Goals as goal
 

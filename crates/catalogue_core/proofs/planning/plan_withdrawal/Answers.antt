@@ -7,7 +7,7 @@ use Rattle.catalogue_core.specs.Keeping.{batches}
 use Rattle.catalogue_core.specs.Plans.{IsPlanned}
 use Rattle.catalogue_core.specs.Reaches.{IsReachOfWithdrawal}
 use Rattle.catalogue_core.proofs.Growing.{remove-none}
-use Rattle.catalogue_core.proofs.MapLaws.{same}
+use Rattle.record_homes.proofs.MapLaws.{same}
 use Rattle.catalogue_core.proofs.PlanLaws.{current-from_place, withdrawal-paid}
 use Rattle.catalogue_core.proofs.planning.plan_withdrawal.Goals as goal
 

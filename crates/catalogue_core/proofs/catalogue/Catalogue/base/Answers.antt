@@ -4,7 +4,7 @@ use Rattle.std.specs.Option.{option_map, option_and_then, option_copied}
 use Rattle.catalogue_core.specs.Grouping.{kept_works}
 use Rattle.catalogue_core.specs.Histories.{at_id, current}
 use Rattle.catalogue_core.specs.Keeping.{batches, loaded_at}
-use Rattle.catalogue_core.specs.declared.home.Home.{Home}
+use Rattle.record_homes.specs.declared.home.Home.{Home}
 use Rattle.catalogue_core.proofs.NamedLaws.{base-is}
 use Rattle.catalogue_core.proofs.catalogue.Catalogue.base.Goals as goal
 
@@ -12,8 +12,8 @@ pub returns-in-Some : goal.returns-in-Some
 returns-in-Some c =
     let x = c.self.inside in
     let id = c.args.id.now in
-    let home = c.in-Some.home.now in
-    let at : at_id x.homes.entries id ≡ Some home = sym c.get.ensures.value ∙ ap option_copied c.in-Some.is in
+    let home = c.in-Some.home in
+    let at : at_id x.homes.entries id ≡ Some home = sym c.get.ensures ∙ c.in-Some.is in
     c.loaded_at.ensures ∙ ap (λ turns. loaded_at (batches turns) home.place) c.deref.ensures.value
     ∙ ap (λ o. option_and_then (loaded_at (batches x.history.items)) (option_map (λ (h : Home). h.place) o)) (sym at)
     ∙ base-is x.history.items x.homes.entries x.blocks.blocks (kept_works x.works) c.self.invariant id ∙ ap (λ turns. at_id (current turns) id) c.self.view_is
@@ -22,6 +22,6 @@ pub returns-in-None : goal.returns-in-None
 returns-in-None c =
     let x = c.self.inside in
     let id = c.args.id.now in
-    let at : at_id x.homes.entries id ≡ None = sym c.get.ensures.value ∙ ap option_copied c.in-None.is in
+    let at : at_id x.homes.entries id ≡ None = sym c.get.ensures ∙ c.in-None.is in
     ap (λ o. option_and_then (loaded_at (batches x.history.items)) (option_map (λ (h : Home). h.place) o)) (sym at)
     ∙ base-is x.history.items x.homes.entries x.blocks.blocks (kept_works x.works) c.self.invariant id ∙ ap (λ turns. at_id (current turns) id) c.self.view_is

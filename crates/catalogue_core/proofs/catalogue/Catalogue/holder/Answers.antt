@@ -15,8 +15,8 @@ returns-in-Some-clause-holder c =
     let x = c.self.inside in
     let k = c.self.invariant in
     let id = c.args.id.now in
-    let home = c.in-Some.home.now in
-    let at : at_id x.homes.entries id ≡ Some home = sym c.get.ensures.value ∙ ap option_copied c.in-Some.is in
+    let home = c.in-Some.home in
+    let at : at_id x.homes.entries id ≡ Some home = sym c.get.ensures ∙ c.in-Some.is in
     let (e, stands, bears) = k.housed.each id home at in
     subst (λ turns. (all : List Edition) × AreEditionsOf turns all × (option_copied c.block.result ≡ holder_of all id)) c.self.view_is (
       named_in x.blocks.blocks x.homes.entries,
@@ -29,8 +29,8 @@ returns-in-Some-clause-none c =
     let x = c.self.inside in
     let k = c.self.invariant in
     let id = c.args.id.now in
-    let home = c.in-Some.home.now in
-    let at : at_id x.homes.entries id ≡ Some home = sym c.get.ensures.value ∙ ap option_copied c.in-Some.is in
+    let home = c.in-Some.home in
+    let at : at_id x.homes.entries id ≡ Some home = sym c.get.ensures ∙ c.in-Some.is in
     let (e, stands, bears) = k.housed.each id home at in
     sym (none-copied c.block.result) ∙ ap is_none (c.block.ensures ∙ ap (option_map (λ (b : Block). b.value)) stands)
     ∙ ap not (ap is_some (sym at) ∙ home-current x.history.items x.homes.entries x.blocks.blocks (kept_works x.works) k id) ∙ ap (λ turns. not (is_current (current turns) id)) c.self.view_is
@@ -40,7 +40,7 @@ returns-in-None-clause-holder c =
     let x = c.self.inside in
     let k = c.self.invariant in
     let id = c.args.id.now in
-    let at : at_id x.homes.entries id ≡ None = sym c.get.ensures.value ∙ ap option_copied c.in-None.is in
+    let at : at_id x.homes.entries id ≡ None = sym c.get.ensures ∙ c.in-None.is in
     subst (λ turns. (all : List Edition) × AreEditionsOf turns all × (◌≡◌ {A = Option Edition} None (holder_of all id))) c.self.view_is (
       named_in x.blocks.blocks x.homes.entries,
       named-editions x.history.items x.homes.entries x.blocks.blocks (kept_works x.works) k,
@@ -52,5 +52,5 @@ returns-in-None-clause-none c =
     let x = c.self.inside in
     let k = c.self.invariant in
     let id = c.args.id.now in
-    let at : at_id x.homes.entries id ≡ None = sym c.get.ensures.value ∙ ap option_copied c.in-None.is in
+    let at : at_id x.homes.entries id ≡ None = sym c.get.ensures ∙ c.in-None.is in
     ap not (ap is_some (sym at) ∙ home-current x.history.items x.homes.entries x.blocks.blocks (kept_works x.works) k id) ∙ ap (λ turns. not (is_current (current turns) id)) c.self.view_is

@@ -13,5 +13,5 @@ invariant_of-self c =
       housed = k.housed;
       clustered = λ ws is.
           let same : c.in_ok-works.works.works ≡ ws = cc in
-          sym same ∙ c.in_ok-works.ensures ∙ sym (works-in_order x.history.items x.homes.entries x.blocks.blocks (kept_works x.works) k);
+          sym same ∙ c.in_ok-works.ensures;
     }

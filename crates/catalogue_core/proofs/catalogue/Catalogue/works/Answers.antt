@@ -25,7 +25,7 @@ returns-in-Ok c =
     let k = c.self.invariant in
     let all = named_in x.blocks.blocks x.homes.entries in
     subst (λ turns. (all : List Edition) × AreEditionsOf turns all × (c.in-Ok.made.works ≡ works_of (work_pairs all))) c.self.view_is
-    (all, named-editions x.history.items x.homes.entries x.blocks.blocks (kept_works x.works) k, c.in-Ok.ensures)
+    (all, named-editions x.history.items x.homes.entries x.blocks.blocks (kept_works x.works) k, c.in-Ok.ensures ∙ works-in_order x.history.items x.homes.entries x.blocks.blocks (kept_works x.works) k)
 
 pub returns-in-Err : goal.returns-in-Err
 returns-in-Err c =

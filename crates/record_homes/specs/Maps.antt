@@ -1,0 +1,36 @@
+-- Finite maps from record ids.
+use Rattle.std.specs.Prelude.{Bool, if◌then◌else◌, List, [], ◌∷◌, Option}
+use Rattle.std.specs.BTreeMap.{is_at, insert_entry}
+use Rattle.std.specs.Map.{lookup}
+use Rattle.union_base.specs.declared.record_id.RecordId.{RecordId}
+use Rattle.field_merge.specs.Kept.{id_cmp}
+use Rattle.record_homes.specs.declared.home.Home.{Home}
+use Rattle.record_homes.specs.declared.move_to.MoveTo.{MoveTo}
+use Rattle.record_homes.specs.declared.move_to.MoveTo.TheVariants.{Place, Block}
+
+-- a finite map from ids: its pairs in the order of the ids
+abbrev pub MapOf : Type 0 → Type 0
+MapOf X = List (RecordId × X)
+
+-- the value under the id
+abbrev pub at_id : {X : Type 0} → MapOf X → RecordId → Option X
+at_id all id = lookup (is_at (id_cmp id)) all
+
+-- the map with what change makes of the value under the id
+abbrev pub change_at : {X : Type 0} → RecordId → (X → X) → MapOf X → MapOf X
+change_at id change [] = []
+change_at id change (p ∷ all) = if is_at (id_cmp id) p.0 then (p.0, change p.1) ∷ all else p ∷ change_at id change all
+
+-- the pairs in the order of their ids; of two with one id the first stands
+abbrev pub in_order : {X : Type 0} → MapOf X → MapOf X
+in_order [] = []
+in_order (p ∷ all) = insert_entry id_cmp (in_order all) p.0 p.1
+
+-- the homes of records
+pub record Homes : Type 0 where
+  pub entries : MapOf Home
+
+-- the home of a record that moves
+abbrev pub moved_to : MoveTo → Home → Home
+moved_to (Place place) home = record { place = place; block = home.block }
+moved_to (Block block) home = record { place = home.place; block = block }

@@ -1,0 +1,74 @@
+//! The homes of one library's records.
+ghost use Rattle.std.specs.Prelude.{◌≡◌, [], None, Some, is_some, OnOk, OnErr};
+ghost use Rattle.std.specs.Option.{option_map};
+ghost use Rattle.record_homes.specs.Maps.{moved_to};
+ghost use Rattle.record_homes.specs.Libraries.{row_at, Sets};
+
+use crate::home::Home;
+use crate::move_to::MoveTo;
+use indexmap::IndexMap;
+use std::alloc::Global;
+use std::marker::Model;
+use union_base::bytes::Bytes;
+use union_base::memory::Memory;
+
+/// The homes of one library's records, under their control numbers.
+#[derive(Drop)]
+pub struct LibraryHomes {
+    rows: IndexMap<Bytes, Home>,
+}
+
+impl Model for LibraryHomes {
+    ghost use Rattle.record_homes.specs.Libraries.{Rows};
+
+    ghost Value = { Rows };
+
+    ghost view = { λ s. s.rows.entries };
+}
+
+impl LibraryHomes {
+    /// No homes. Takes no memory.
+    pub(crate) fn empty(alloc: Global) -> LibraryHomes
+        ensures { result ≡ [] }
+    {
+        LibraryHomes {
+            rows: IndexMap::new(alloc),
+        }
+    }
+
+    /// The home under the control number: None exactly where there is none. Takes no memory.
+    pub(crate) fn get(&self, control: &Bytes) -> Option<Home>
+        ensures { result ≡ row_at self.now control.now }
+    {
+        match self.rows.get(control) {
+            Some(home) => Some(*home),
+            None => None,
+        }
+    }
+
+    /// Puts a home under the control number. Returns `Memory` if allocation fails; all is as before then.
+    pub(crate) fn put(&mut self, control: Bytes, home: Home) -> Result<(), Memory>
+        ensures set { OnOk result (Sets self.old self.new control (Some home)) }
+        ensures kept { OnErr result (self.new ≡ self.old) }
+    {
+        self.rows.insert(control, home)?;
+        Ok(())
+    }
+
+    /// Takes the home under the control number away, and answers whether there was one. Takes no memory.
+    pub(crate) fn take(&mut self, control: &Bytes) -> bool
+        ensures was { result ≡ is_some (row_at self.old control.now) }
+        ensures set { Sets self.old self.new control.now None }
+    {
+        self.rows.swap_remove(control).is_some()
+    }
+
+    /// Moves the home under the control number, where there is one. Takes no memory.
+    pub(crate) fn change(&mut self, control: &Bytes, to: MoveTo)
+        ensures { Sets self.old self.new control.now (option_map (moved_to to) (row_at self.old control.now)) }
+    {
+        if let Some(home) = self.rows.get_mut(control) {
+            *home = to.of(*home);
+        }
+    }
+}
