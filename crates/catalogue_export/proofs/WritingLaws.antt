@@ -12,6 +12,7 @@ use Rattle.std.specs.Prelude.{OnOk, OnErr}
 use Rattle.union_io.specs.Causes.{Rose}
 use Rattle.catalogue_export.specs.Writing.{IsWrittenTo, HasMoved, HasWritten, GainsFront}
 use Rattle.catalogue_export.specs.declared.export_fail.ExportFail.{ExportFail}
+use Rattle.catalogue_export.specs.declared.export_fail.ExportFail.TheVariants.{Memory}
 
 pub Appends-nothing : (written : Option (List ℕ)) → Appends written written []
 Appends-nothing None = tt
@@ -107,3 +108,12 @@ gains-more old mid new before more later whole so_far gained is = record {
 pub on-err : {T E : Type 0} {P : Type 0} (result : Result T E) → P → OnErr result P
 on-err (Ok value) p = tt
 on-err (Err fail) p = p
+
+-- where nothing was begun, nothing was written, and no write failed
+pub none-written : (written : Option (List ℕ)) (faults : ℕ) (text : List ℕ)
+    → HasWritten text (record { old = written; new = written; before = faults; after = faults }) (Err Memory)
+none-written written faults text = record {
+  written = (0, omega arith, Appends-nothing written);
+  failed = λ is. cc;
+  calm = λ is. refl;
+}

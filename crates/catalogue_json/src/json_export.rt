@@ -1,5 +1,5 @@
 //! The export of a catalogue as lines of JSON.
-ghost use Rattle.std.specs.Prelude.{◌≡◌, ◌++◌, OnOk, OnErr, IfOk, List};
+ghost use Rattle.std.specs.Prelude.{◌≡◌, ◌++◌, map, OnOk, OnErr, IfOk, List};
 ghost use Rattle.catalogue_core.specs.Histories.{AreEditionsOf};
 ghost use Rattle.catalogue_editions.specs.declared.edition.Edition.{Edition as EditionModel};
 ghost use Rattle.catalogue_export.specs.Editions.{fields_left, left_of_one, left_of};
@@ -37,14 +37,29 @@ pub fn export_json<O: Sink>(
         × OnOk result (left.new.items ≡ left.old.items ++ left_of all)
         × OnErr result (GainsFront left.old.items left.new.items (left_of all)) }
 {
+    match catalogue.editions(alloc) {
+        Ok(editions) => write_editions(alloc, editions.as_slice(), out, left),
+        Err(Memory) => Err(ExportFail::Memory),
+    }
+}
+
+/// Writes the lines of the editions, one after the other, and notes those of which fields were left out.
+fn write_editions<O: Sink>(
+    alloc: Global,
+    editions: &[&Edition],
+    out: &mut O,
+    left: &mut Vec<(RecordId, usize)>,
+) -> Result<(), ExportFail>
+    ensures written { HasWritten (json_export_text (map (λ e. e.now) editions.now))
+        (record { old = O.written out.old; new = O.written out.new; before = O.faults out.old; after = O.faults out.new }) result }
+    ensures left { OnOk result (left.new.items ≡ left.old.items ++ left_of (map (λ e. e.now) editions.now)) }
+    ensures stopped { OnErr result (GainsFront left.old.items left.new.items (left_of (map (λ e. e.now) editions.now))) }
+{
     let mut pending = Vec::new(alloc);
-    let mut next = catalogue.first();
-    for _ in 0..catalogue.edition_count() {
-        if let Some(edition) = next {
-            match write_edition(alloc, edition, &mut pending, left, out) {
-                Ok(()) => next = catalogue.after(edition.least()),
-                Err(fail) => return Err(fail),
-            }
+    for edition in editions {
+        match write_edition(alloc, edition, &mut pending, left, out) {
+            Ok(()) => (),
+            Err(fail) => return Err(fail),
         }
     }
     hand_on_rest(pending.as_slice(), out)

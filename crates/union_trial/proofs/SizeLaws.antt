@@ -1,7 +1,9 @@
 -- How many bytes the export has.
 use Rattle.std.proofs.Common.{◌≡◌, ℕ, ◌+◌, ◌≤◌, List, length, take, ap, ◌∙◌, length-append}
-use Rattle.std.specs.Prelude.{Some, slice_get}
+use Rattle.std.specs.Prelude.{Some, slice_get, Result, Ok, Err, IfOk}
 use Rattle.catalogue_core.specs.EditionKeys.{work_key_of}
+use Rattle.catalogue_core.specs.Histories.{AreEditionsOf}
+use Rattle.catalogue_core.specs.declared.history_entry.HistoryEntry.{HistoryEntry}
 use Rattle.catalogue_editions.specs.declared.edition.Edition.{Edition}
 use Rattle.catalogue_core.proofs.WalkLaws.{told-more}
 use Rattle.catalogue_export.specs.Editions.{edition_text, export_text}
@@ -16,3 +18,10 @@ edition-size e = (exported-whole e.content (work_key_of e) e.sound).size
 pub size-more : (all : List Edition) (place : ℕ) (e : Edition) → slice_get all place ≡ Some e
     → length (export_text (take (place + 1) all)) ≡ length (export_text (take place all)) + length (edition_text e)
 size-more all place e at = ap length (told-more edition_text all place e at) ∙ length-append (export_text (take place all)) (edition_text e)
+
+-- what was counted of the editions is the size of the export
+pub sized-whole : {E : Type 0} (result : Result ℕ E) (history : List HistoryEntry) (all seen : List Edition) → AreEditionsOf history all → seen ≡ all
+    → IfOk result (λ size. size ≡ length (export_text seen))
+    → IfOk result (λ size. (all : List Edition) × AreEditionsOf history all × (size ≡ length (export_text all)))
+sized-whole (Ok size) history all seen are same is = (all, are, is ∙ ap (λ es. length (export_text es)) same)
+sized-whole (Err e) history all seen are same is = tt

@@ -1,5 +1,5 @@
 //! The counting of a catalogue.
-ghost use Rattle.std.specs.Prelude.{◌≡◌, ◌≤◌, IfOk, List, length};
+ghost use Rattle.std.specs.Prelude.{◌≡◌, ◌≤◌, IfOk, List, length, map};
 ghost use Rattle.catalogue_core.specs.Histories.{AreEditionsOf};
 ghost use Rattle.catalogue_editions.specs.declared.edition.Edition.{Edition as EditionModel};
 ghost use Rattle.catalogue_export.specs.Editions.{edition_text, export_text};
@@ -26,14 +26,18 @@ fn record_size(alloc: Global, edition: &Edition, buffer: &mut Vec<u8>) -> Result
 fn export_size(alloc: Global, catalogue: &Catalogue) -> Result<u128, Memory>
     ensures { IfOk result (λ size. (all : List EditionModel) × AreEditionsOf catalogue.now all × (size ≡ length (export_text all))) }
 {
+    let editions = catalogue.editions(alloc)?;
+    records_size(alloc, editions.as_slice())
+}
+
+/// How many bytes the records of the editions have.
+fn records_size(alloc: Global, editions: &[&Edition]) -> Result<u128, Memory>
+    ensures { IfOk result (λ size. size ≡ length (export_text (map (λ e. e.now) editions.now))) }
+{
     let mut buffer = Vec::new(alloc);
     let mut size: u128 = 0;
-    let mut next = catalogue.first();
-    for _ in 0..catalogue.edition_count() {
-        if let Some(edition) = next {
-            size += record_size(alloc, edition, &mut buffer)? as u128;
-            next = catalogue.after(edition.least());
-        }
+    for edition in editions {
+        size += record_size(alloc, edition, &mut buffer)? as u128;
     }
     Ok(size)
 }
