@@ -138,23 +138,14 @@ pub fn same(one: Option<&Edition>, other: Option<&Edition>) -> bool {
     }
 }
 
-/// Whether walks through the two meet the same editions.
-fn same_walks(catalogue: &Catalogue, plain: &PlainCatalogue) -> bool {
-    let mut at = catalogue.first();
-    let mut beside = plain.first();
-    for _ in 0..catalogue.edition_count() {
-        if !same(at, beside) {
+/// Whether the editions are the same, place by place.
+pub fn same_editions(one: &[&Edition], other: &[Edition]) -> bool {
+    for (place, edition) in one.iter().enumerate() {
+        if !same(Some(*edition), other.get(place)) {
             return false;
         }
-        match at {
-            Some(edition) => {
-                at = catalogue.after(edition.least());
-                beside = plain.after(edition.least());
-            }
-            None => return false,
-        }
     }
-    at.is_none() && beside.is_none()
+    one.len() == other.len()
 }
 
 /// Whether the two have the same works.
@@ -214,7 +205,7 @@ pub fn same_answers(
         catalogue.record_count() == plain.record_count()
             && catalogue.edition_count() == plain.edition_count()
             && catalogue.turns() == plain.turns()
-            && same_walks(catalogue, plain)
+            && same_editions(catalogue.editions(alloc)?.as_slice(), plain.editions())
             && same_works(catalogue.works(alloc)?.works(), plain.works()),
     )
 }

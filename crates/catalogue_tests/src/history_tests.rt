@@ -46,23 +46,22 @@ fn id_of(alloc: Global, control: &[u8]) -> Result<RecordId, Fail> {
     })
 }
 
-/// Whether a walk through the catalogue meets these editions, by their names and how many records they have.
-fn meets(catalogue: &Catalogue, editions: &[Edition]) -> bool {
-    let mut at = catalogue.first();
-    for edition in editions {
-        match at {
-            Some(found) => {
-                let same = found.content().contributors.as_slice()
+/// Whether the catalogue's editions are these, by their contributors.
+fn meets(alloc: Global, catalogue: &Catalogue, editions: &[Edition]) -> Result<bool, Fail> {
+    let found = catalogue.editions(alloc)?;
+    for (place, edition) in editions.iter().enumerate() {
+        match found.as_slice().get(place) {
+            Some(beside) => {
+                let same = beside.content().contributors.as_slice()
                     == edition.content().contributors.as_slice();
                 if !same {
-                    return false;
+                    return Ok(false);
                 }
-                at = catalogue.after(found.least());
             }
-            None => return false,
+            None => return Ok(false),
         }
     }
-    at.is_none()
+    Ok(found.len() == editions.len())
 }
 
 /// What comes of a load, a correction and a withdrawal of one record, and of a second withdrawal.
@@ -115,7 +114,7 @@ fn bridge_goes<L: Ledger>(alloc: Global, blank: Blank) -> Result<Catalogue, Fail
     for (frame, count, current) in turns {
         apply_one(alloc, &mut catalogue, frame, &mut steps)?;
         let editions = resolved(alloc, "LIBA", current)?;
-        if catalogue.edition_count() != count || !meets(&catalogue, &editions) {
+        if catalogue.edition_count() != count || !meets(alloc, &catalogue, &editions)? {
             let wrong: Result<Catalogue, &str> = Err("other editions");
             return Ok(wrong?);
         }

@@ -5,7 +5,6 @@
 ghost use Rattle.std.specs.Prelude.{◌≡◌, ◌++◌, ◌∷◌, [], List, length, not, is_none, IfOk, OnOk, OnErr};
 ghost use Rattle.std.specs.Map.{values_of};
 ghost use Rattle.std.specs.Option.{option_copied};
-ghost use Rattle.std.specs.Ordering.{is_lt};
 ghost use Rattle.union_base.specs.SortedLists.{has};
 ghost use Rattle.field_merge.specs.Kept.{id_cmp};
 ghost use Rattle.work_clusters.specs.Works.{works_of};
@@ -13,7 +12,7 @@ ghost use Rattle.catalogue_core.specs.EditionKeys.{work_pairs};
 ghost use Rattle.catalogue_core.specs.Histories.{after_batch, after_op, at_id, bases, current, is_current, outcome_of, outcomes, AreEditionsOf};
 ghost use Rattle.catalogue_core.specs.Ids.{least};
 ghost use Rattle.catalogue_core.specs.Resolutions.{IsOrderedResolution};
-ghost use Rattle.catalogue_core.specs.Walks.{first_of, first_behind, holder_of};
+ghost use Rattle.catalogue_core.specs.Walks.{holder_of};
 ghost use Rattle.catalogue_editions.specs.declared.edition.Edition.{Edition as EditionModel};
 
 use catalogue_core::batch::Batch;
@@ -102,18 +101,11 @@ impl PlainCatalogue {
         Ok(outcomes)
     }
 
-    /// The first edition in order of the least contributors: None exactly where there is none.
-    pub fn first(&self) -> Option<&Edition>
-        ensures { (all : List EditionModel) × AreEditionsOf self.now all × (option_copied result ≡ first_of all) }
+    /// The editions in order of their least contributors.
+    pub fn editions(&self) -> &[Edition]
+        ensures { AreEditionsOf self.now result.now }
     {
-        self.editions.first()
-    }
-
-    /// The first edition whose least contributor is after that id: None exactly where there is none.
-    pub fn after(&self, id: &RecordId) -> Option<&Edition>
-        ensures { (all : List EditionModel) × AreEditionsOf self.now all × (option_copied result ≡ first_behind all id.now) }
-    {
-        first_behind(&self.editions, id)
+        self.editions.as_slice()
     }
 
     /// The edition that the record of that id is a contributor of: None exactly where it is not current.
@@ -268,20 +260,6 @@ fn paired(alloc: Global, editions: &[Edition]) -> Result<Vec<(Bytes, RecordId)>,
         pairs.push((key, edition.least().copied(alloc)?))?;
     }
     Ok(pairs)
-}
-
-/// Whether the least contributor is after the id.
-fn is_behind(edition: &Edition, id: &RecordId) -> bool
-    ensures { result ≡ is_lt (id_cmp id.now (least edition.now)) }
-{
-    id.cmp(edition.least()).is_lt()
-}
-
-/// The first of the editions whose least contributor is after the id.
-fn first_behind<'a>(editions: &'a [Edition], id: &RecordId) -> Option<&'a Edition>
-    ensures { option_copied result ≡ first_behind editions.now id.now }
-{
-    editions.iter().find(|edition| is_behind(edition, id))
 }
 
 /// Whether the record of that id is a contributor.

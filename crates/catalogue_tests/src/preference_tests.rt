@@ -158,28 +158,26 @@ fn consortium_by_preferences(rt: HostRuntime) -> Result<(), Fail> {
     for text in ["LIBB", "LIBC,LIBA", "LIBB,LIBC,LIBA", "LIBX", "LIBX,LIBC"] {
         let other = catalogue_of(alloc, text)?;
         assert!(rt; agree(alloc, &plain, &other)?, "{text}");
-        assert!(rt; shows_preferred(&other, &preference_in(text)?), "{text}");
+        assert!(rt; shows_preferred(alloc, &other, &preference_in(text)?)?, "{text}");
     }
     Ok(())
 }
 
-/// Whether walks through the two meet editions that differ in their fixed parts and slots alone.
+/// Whether the editions of the two differ, place by place, in their fixed parts and slots alone.
 fn agree(alloc: Global, one: &Catalogue, other: &Catalogue) -> Result<bool, Fail> {
-    let mut at = one.first();
-    let mut beside = other.first();
-    for _ in 0..one.edition_count() {
-        match (at, beside) {
-            (Some(a), Some(b)) => {
-                if !are_alike(alloc, a, b)? {
+    let editions = one.editions(alloc)?;
+    let beside = other.editions(alloc)?;
+    for (place, edition) in editions.as_slice().iter().enumerate() {
+        match beside.as_slice().get(place) {
+            Some(second) => {
+                if !are_alike(alloc, edition, second)? {
                     return Ok(false);
                 }
-                at = one.after(a.least());
-                beside = other.after(b.least());
             }
-            _ => return Ok(false),
+            None => return Ok(false),
         }
     }
-    Ok(at.is_none() && beside.is_none())
+    Ok(editions.len() == beside.len())
 }
 
 /// Whether the editions have the same contributors and features, and their records the same holdings and contributors, and the
@@ -236,23 +234,20 @@ fn texts_under(alloc: Global, tag: &[u8; 3], rec: &Record) -> Result<Vec<u8>, Me
 }
 
 /// Whether each edition shows the fixed part and the title of one of its best libraries by the preference.
-fn shows_preferred(catalogue: &Catalogue, prefer: &Preference) -> bool {
-    let mut at = catalogue.first();
-    for _ in 0..catalogue.edition_count() {
-        match at {
-            Some(edition) => {
-                let content = edition.content();
-                if !is_best(content, prefer, &content.f245)
-                    || content.fixed.rank != content.f245.rank
-                {
-                    return false;
-                }
-                at = catalogue.after(edition.least());
-            }
-            None => return false,
+fn shows_preferred(
+    alloc: Global,
+    catalogue: &Catalogue,
+    prefer: &Preference,
+) -> Result<bool, Fail> {
+    for edition in catalogue.editions(alloc)? {
+        let content = edition.content();
+        if !is_best(content, prefer, &content.f245)
+            || content.fixed.rank != content.f245.rank
+        {
+            return Ok(false);
         }
     }
-    at.is_none()
+    Ok(true)
 }
 
 /// Whether the slot's record has its library's level, and no contributor has a higher one.

@@ -134,26 +134,21 @@ fn prepared<L: Ledger>(
     Ok(Prepared::of(batch, parts))
 }
 
-/// Whether walks through the two meet the same editions, of so many records each.
-fn same_walks(one: &Catalogue, other: &Catalogue, sizes: &[usize]) -> bool {
-    let mut at = one.first();
-    let mut beside = other.first();
-    for size in sizes {
-        if !same(at, beside) {
+/// Whether the editions are the same, place by place, of so many records each.
+fn same_editions(one: &[&Edition], other: &[&Edition], sizes: &[usize]) -> bool {
+    for (place, edition) in one.iter().enumerate() {
+        let beside = match other.get(place) {
+            Some(beside) => Some(*beside),
+            None => None,
+        };
+        if !same(Some(*edition), beside) {
             return false;
         }
-        match at {
-            Some(edition) => {
-                if edition.content().contributors.as_slice().len() != *size {
-                    return false;
-                }
-                at = one.after(edition.least());
-                beside = other.after(edition.least());
-            }
-            None => return false,
+        if sizes.get(place) != Some(&edition.content().contributors.as_slice().len()) {
+            return false;
         }
     }
-    at.is_none() && beside.is_none()
+    one.len() == other.len() && one.len() == sizes.len()
 }
 
 /// A turn of the library LIBA: its operations, what comes of them, and how many records each edition has then.
@@ -178,7 +173,11 @@ fn apply_both<L: Ledger>(
     Ok(
         found.as_slice() == turn.outcomes.as_slice()
             && beside.as_slice() == turn.outcomes.as_slice()
-            && same_walks(one, other, turn.sizes)
+            && same_editions(
+                one.editions(alloc)?.as_slice(),
+                other.editions(alloc)?.as_slice(),
+                turn.sizes,
+            )
             && same_works(one.works(alloc)?.works(), other.works(alloc)?.works())
             && one.record_count() == other.record_count()
             && one.turns() == other.turns(),

@@ -17,21 +17,21 @@ use std::sync::ledger::{Blank, Ledger};
 use std::test::Fail;
 use union_base::bytes::Bytes;
 
-/// Whether a walk through the catalogue meets the editions of the follower.
-fn holds(catalogue: &Catalogue, follower: &Follower) -> bool {
-    let mut at = catalogue.first();
-    for edition in follower.editions() {
-        match at {
-            Some(found) => {
-                if !is_same(found, edition) {
-                    return false;
+/// Whether the catalogue's editions are those of the follower, place by place.
+fn holds(alloc: Global, catalogue: &Catalogue, follower: &Follower) -> Result<bool, Fail> {
+    let found = catalogue.editions(alloc)?;
+    let editions = follower.editions();
+    for (place, edition) in editions.iter().enumerate() {
+        match found.as_slice().get(place) {
+            Some(beside) => {
+                if !is_same(beside, edition) {
+                    return Ok(false);
                 }
-                at = catalogue.after(found.least());
             }
-            None => return false,
+            None => return Ok(false),
         }
     }
-    at.is_none()
+    Ok(found.len() == editions.len())
 }
 
 /// The name of an edition: that of its first record.
@@ -79,7 +79,7 @@ fn turn_is_followed<L: Ledger>(
     }
     Ok(
         follower.take(alloc, delta).is_ok()
-            && holds(catalogue, follower)
+            && holds(alloc, catalogue, follower)?
             && reads(alloc, follower.editions(), reader)?,
     )
 }
