@@ -19,3 +19,4 @@ mod ToldLaws
 mod Images
 mod Unranked
 mod ReachLaws
+mod DividedLaws

@@ -24,3 +24,4 @@ pub mod Kept
 pub mod PreparedReaches
 pub mod Touches
 pub mod Preferring
+pub mod Parts

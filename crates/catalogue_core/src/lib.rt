@@ -24,6 +24,7 @@ mod homes;
 mod installing;
 mod keeping;
 pub mod laws;
+pub mod parts_laws;
 mod parts_planning;
 mod parts_turn;
 mod plan;
