@@ -1,0 +1,537 @@
+"""The union catalogue of deliveries that no one machine holds, by Dask's distributed scheduler.
+
+The way of the data, the law that makes it right and what it needs stand in docs/CLUSTER.md. Each worker runs the two programs
+`union-keys` and `union`; the engine shuffles, restarts and keeps the load. All of `run` is in the order of the page.
+"""
+
+import argparse
+import hashlib
+import heapq
+import logging
+import os
+import re
+import resource
+import shutil
+import subprocess
+import sys
+import tempfile
+import time
+
+import dask
+import dask.dataframe as dd
+import pandas as pd
+from distributed import Client, LocalCluster, wait
+
+TERMINATOR = b"\x1d"
+BREAKS = b"\r\n"
+PIECE = 1 << 16
+MOST_LIBRARIES = 64
+REPORT = ("added", "replaced", "removed", "absent")
+
+# A row of the table: one accepted record, that is one load or one withdrawal. `keys` has the keys of the group, on one row of it.
+TABLE = pd.DataFrame(
+    {
+        "group": pd.Series([], dtype="object"),
+        "id": pd.Series([], dtype="object"),
+        "at": pd.Series([], dtype="int64"),
+        "size": pd.Series([], dtype="int64"),
+        "current": pd.Series([], dtype="bool"),
+        "keys": pd.Series([], dtype="object"),
+    }
+)
+POSTS = pd.DataFrame({c: pd.Series([], dtype="object") for c in ("key", "marks", "group")})
+EDGES = pd.DataFrame({c: pd.Series([], dtype="object") for c in ("node", "other")})
+LABELS = pd.DataFrame({c: pd.Series([], dtype="object") for c in ("group", "label")})
+ENDS = pd.DataFrame(
+    {"part": pd.Series([], dtype="int64"), "status": pd.Series([], dtype="int64"), "why": pd.Series([], dtype="object")}
+)
+
+
+class Ended(Exception):
+    """The run ends with this status, and a line that says why."""
+
+    def __init__(self, status, line):
+        super().__init__(line)
+        self.status = status
+        self.line = line
+
+
+# ---- a delivery in blocks
+
+
+def frames_from(file, start, end):
+    """The frames that begin in file[start:end], each with its offset. A piece begins behind each record terminator, and CR and LF at
+    its head are no part of its frame; the last piece may have no terminator."""
+    at = start
+    if start > 0:
+        file.seek(start - 1)
+        at = start - 1 + len(piece_in(file))
+    file.seek(at)
+    while at < end:
+        piece = piece_in(file)
+        if not piece:
+            return
+        frame = piece.lstrip(BREAKS)
+        if frame:
+            yield at + len(piece) - len(frame), frame
+        at += len(piece)
+
+
+def piece_in(file):
+    """What the file has up to and with its next record terminator."""
+    begun = file.tell()
+    pieces = []
+    while True:
+        data = file.read(PIECE)
+        cut = data.find(TERMINATOR)
+        if cut < 0:
+            pieces.append(data)
+            if not data:
+                return b"".join(pieces)
+        else:
+            pieces.append(data[: cut + 1])
+            whole = b"".join(pieces)
+            file.seek(begun + len(whole))
+            return whole
+
+
+# ---- the program union-keys
+
+
+def run_keys(plan, words, scratch):
+    """What union-keys writes on both outputs. It takes what memory a worker has."""
+    with open(f"{scratch}/lines", "wb") as out, open(f"{scratch}/notes", "wb") as notes:
+        ended = subprocess.run([plan["keys"], *words], stdout=out, stderr=notes, preexec_fn=within(plan["memory"]), check=False)
+    with open(f"{scratch}/notes", "rb") as notes:
+        told = notes.read()
+    if ended.returncode not in (0, 1):
+        raise Ended(ended.returncode if ended.returncode > 0 else 7, f"union-keys ended with {ended.returncode}: {told[-300:].decode(errors='replace')}")
+    return open(f"{scratch}/lines", "rb"), told
+
+
+def within(memory):
+    """Lets a program have so many bytes of addresses."""
+    if not memory:
+        return None
+    return lambda: resource.setrlimit(resource.RLIMIT_AS, (memory, memory))
+
+
+def read_line(line):
+    """The records of a line of union-keys, and its keys."""
+    cells = line.rstrip(b"\n").decode("latin-1").split("\t")
+    last = 2 + 3 * int(cells[0])
+    records = [(cells[i], int(cells[i + 1]), int(cells[i + 2])) for i in range(2, last, 3)]
+    return records, short_keys(cells[last:])
+
+
+def short_keys(cells):
+    """Each key once, as a short hash with its marks: `s` where it is sought, `p` where an index has the edition under it. Keys whose
+    hashes are equal by chance put records into one part that need not be, which changes nothing."""
+    marks = {}
+    for cell in cells:
+        key = hashlib.blake2b(cell[1:].encode("latin-1"), digest_size=12).hexdigest()
+        marks[key] = marks.get(key, "") + (cell[0] if cell[0] not in marks.get(key, "") else "")
+    return " ".join(f"{key}{''.join(sorted(mark))}" for key, mark in sorted(marks.items()))
+
+
+def read_block(plan, library, number, start, end):
+    """The rows of the frames that begin in a block of a delivery. The lines on refused ones go into a file of the block."""
+    stand_still(plan["victim"])
+    with tempfile.TemporaryDirectory(dir=plan["scratch"]) as scratch:
+        places = []
+        block = f"{scratch}/block"
+        with open(plan["paths"][library], "rb") as file, open(block, "wb") as copy:
+            to = 0
+            for at, frame in frames_from(file, start, end):
+                copy.write(frame)
+                places.append((to, at))
+                to += len(frame)
+        lines, told = run_keys(plan, [f"{library}={block}"], scratch)
+        with lines:
+            rows = rows_of(lines, dict(places))
+        refused = re.findall(rb"^\S+ refused (\d+) (\S+) (\d+)$", told, re.M)
+        kept = f"{plan['scratch']}/refused/{library}-{number:08}"
+        with open(f"{kept}.{os.getpid()}", "wb") as file:
+            file.write(f"{len(places)} {len(refused)}\n".encode())
+            file.writelines(b" ".join(line) + b"\n" for line in refused)
+        os.replace(f"{kept}.{os.getpid()}", kept)
+        return rows
+
+
+def stand_still(victim):
+    """The first worker that comes here waits to be killed, where a test wants that."""
+    try:
+        with open(victim, "x", encoding="ascii") as file:
+            file.write(str(os.getpid()))
+    except OSError:
+        return
+    time.sleep(60)
+
+
+def rows_of(lines, places):
+    rows = []
+    for line in lines:
+        ((name, to, size),), keys = read_line(line)
+        rows.append((name, name, places[to], size, keys != "", keys))
+    return pd.DataFrame(rows, columns=list(TABLE.columns)).astype(TABLE.dtypes.to_dict())
+
+
+def current_rows(rows):
+    """Of the rows of each id, the last one alone is current, where it is a load."""
+    rows = rows.sort_values(["id", "at"], kind="stable").reset_index(drop=True)
+    last = ~rows["id"].duplicated(keep="last")
+    rows["current"] = rows["current"] & last
+    rows.loc[~rows["current"], "keys"] = ""
+    return rows
+
+
+# ---- groups that share a key
+
+
+def posts_of(rows):
+    """The keys of each group, one a row."""
+    found = []
+    for group, keys in rows.loc[rows["keys"] != "", ["group", "keys"]].itertuples(index=False):
+        found.extend((key[:24], key[24:], group) for key in keys.split(" "))
+    return pd.DataFrame(found, columns=list(POSTS.columns)).astype("object")
+
+
+def edges_of(posts):
+    """Where a group seeks a key under which a group is posted, all groups with the key are joined to the least of them."""
+    edges = []
+    for _, same in posts.groupby("key", sort=False):
+        if len(same) > 1 and same["marks"].str.contains("s").any() and same["marks"].str.contains("p").any():
+            groups = sorted(set(same["group"]))
+            edges.extend((group, groups[0]) for group in groups[1:])
+            edges.extend((groups[0], group) for group in groups[1:])
+    return pd.DataFrame(edges, columns=list(EDGES.columns)).astype("object").drop_duplicates()
+
+
+def star_of(edges):
+    """Each node tells its neighbours of the least of them, and that one of its neighbours."""
+    told = set()
+    for node, same in edges.groupby("node", sort=False):
+        near = set(same["other"]) | {node}
+        least = min(near)
+        told.update((other, least) for other in near if other != least)
+        told.update((least, other) for other in near if other != least)
+    return pd.DataFrame(sorted(told), columns=list(EDGES.columns)).astype("object")
+
+
+def unsettled(edges):
+    """How many nodes have neighbours that are not yet those of a star round the least."""
+    count = 0
+    for node, same in edges.groupby("node", sort=False):
+        near = set(same["other"])
+        least = min(near | {node})
+        count += least != node and near != {least}
+    return pd.Series([count])
+
+
+def labels_of(edges):
+    """The least group of each component, for each of its groups: of settled edges."""
+    found = []
+    for node, same in edges.groupby("node", sort=False):
+        found.append((node, min(set(same["other"]) | {node})))
+    return pd.DataFrame(found, columns=list(LABELS.columns)).astype("object")
+
+
+def placed(rows):
+    """The rows with the group that they go to: that of the label, where there is one."""
+    return rows.assign(place=rows["label"].where(rows["label"].notna(), rows["group"]))
+
+
+def joined_groups(plan, rows):
+    """The rows of whole groups, some of which are joined of several and get the keys of what their records resolve to."""
+    fresh = rows["label"].notna()
+    rows["group"] = rows["label"].where(fresh, rows["group"])
+    rows = rows.drop(columns="label")
+    if fresh.any():
+        rows.loc[fresh, "keys"] = ""
+        keys = group_keys(plan, rows[fresh & rows["current"]])
+        first = fresh & ~rows["group"].duplicated()
+        rows.loc[first, "keys"] = rows.loc[first, "group"].map(keys).fillna("")
+    return rows.reset_index(drop=True)
+
+
+def group_keys(plan, rows):
+    """The keys of the editions to which the current records of each group resolve."""
+    with tempfile.TemporaryDirectory(dir=plan["scratch"]) as scratch:
+        words = write_files(plan, rows, scratch)
+        names = []
+        with open(f"{scratch}/groups", "w", encoding="latin-1") as file:
+            for group, same in rows.groupby("group", sort=True):
+                names.append(group)
+                file.write("\n".join(same["id"]) + "\n\n")
+        lines, _ = run_keys(plan, [f"--groups={scratch}/groups", *words], scratch)
+        with lines:
+            return {group: read_line(line)[1] for group, line in zip(names, lines)}
+
+
+def write_files(plan, rows, scratch):
+    """A file for each library with the records of these rows in the order of the delivery, and the words that name the files."""
+    words = []
+    place = rows["id"].str.split(".", n=1).str[0]
+    for library, path in plan["paths"].items():
+        mine = rows[place == library].sort_values("at")
+        with open(f"{scratch}/{library}.mrc", "wb") as copy, open(path, "rb") as file:
+            for at, size in zip(mine["at"], mine["size"]):
+                file.seek(at)
+                copy.write(file.read(size))
+        words.append(f"{library}={scratch}/{library}.mrc")
+    return words
+
+
+# ---- parts
+
+
+def part_of(rows, parts):
+    """The part of a group is told by its name."""
+    hashes = rows["group"].map(lambda name: int.from_bytes(hashlib.blake2b(name.encode(), digest_size=8).digest(), "big"))
+    return rows.assign(part=(hashes % parts).astype("int64"))
+
+
+def export_parts(plan, rows):
+    """Runs union export on each part, and answers how it ended."""
+    ends = []
+    for part, mine in rows.groupby("part", sort=True):
+        with tempfile.TemporaryDirectory(dir=plan["scratch"]) as scratch:
+            words = write_files(plan, mine, scratch)
+            command = [plan["union"], "export", *plan["options"], *words]
+            with open(f"{scratch}/out", "wb") as out, open(f"{scratch}/notes", "wb") as notes:
+                ended = subprocess.run(command, stdout=out, stderr=notes, preexec_fn=within(plan["part_memory"]), check=False)
+            why = ""
+            if ended.returncode in (0, 1):
+                for name in ("out", "notes"):
+                    os.replace(f"{scratch}/{name}", f"{plan['scratch']}/parts/{part:08}.{name}")
+            else:
+                sizes = mine.groupby("group")["size"].sum()
+                why = f"part {part}: {len(mine)} records, {mine['size'].sum()} bytes; the largest group, of {sizes.idxmax()}, has {sizes.max()} bytes"
+            ends.append((part, ended.returncode if ended.returncode >= 0 else 7, why))
+    return pd.DataFrame(ends, columns=list(ENDS.columns)).astype(ENDS.dtypes.to_dict())
+
+
+def exported(path):
+    """The records of an export, each with its id."""
+    with open(path, "rb") as file:
+        while True:
+            head = file.read(24)
+            if not head:
+                return
+            frame = head + file.read(int(head[:5]) - 24)
+            base = int(frame[12:17])
+            entry = next(frame[i : i + 12] for i in range(24, base - 1, 12) if frame[i : i + 3] == b"001")
+            start = base + int(entry[7:12])
+            yield order_of(frame[start : start + int(entry[3:7]) - 1]), frame
+
+
+def order_of(name):
+    """Ids are in order of the library's code, and then of the control number."""
+    library, _, control = name.partition(b".")
+    return library, control
+
+
+# ---- the run
+
+
+def told(text, *say):
+    """Tells the progress, where that is wanted."""
+    if text:
+        print("union-cluster:", *say, file=sys.stderr, flush=True)
+
+
+def sole(series):
+    return int(series.compute().sum())
+
+
+def components(edges):
+    """The component of each group that has an edge, by its least group."""
+    while True:
+        edges = edges.shuffle("node").map_partitions(star_of, meta=EDGES).shuffle("node").persist()
+        if sole(edges.map_partitions(unsettled, meta=pd.Series([], dtype="int64"))) == 0:
+            return edges.map_partitions(labels_of, meta=LABELS)
+
+
+def tables(plan, client, progress):
+    """The rows of all deliveries, each in a group that shares no key with another group."""
+    blocks = []
+    for library, path in plan["paths"].items():
+        size = os.path.getsize(path)
+        for number, start in enumerate(range(0, max(size, 1), plan["block"])):
+            blocks.append(dask.delayed(read_block, pure=False)(plan, library, number, start, min(start + plan["block"], size)))
+    rows = dd.from_delayed(blocks, meta=TABLE, verify_meta=False)
+    rows = rows.repartition(npartitions=plan["shards"]) if rows.npartitions > plan["shards"] else rows
+    rows = rows.shuffle("id", npartitions=plan["shards"]).map_partitions(current_rows, meta=TABLE).persist()
+    wait(rows)
+    told(progress, f"read {len(blocks)} blocks")
+    turn = 0
+    while True:
+        turn += 1
+        posts = rows.map_partitions(posts_of, meta=POSTS)
+        edges = posts.shuffle("key").map_partitions(edges_of, meta=EDGES).persist()
+        count = sole(edges.map_partitions(lambda e: pd.Series([len(e)]), meta=pd.Series([], dtype="int64")))
+        told(progress, f"round {turn}: {count // 2} joins")
+        if count == 0:
+            return rows
+        labels = components(edges)
+        rows = rows.merge(labels, on="group", how="left")
+        rows = rows.map_partitions(placed, meta=TABLE.assign(label=LABELS["label"], place=LABELS["label"]))
+        rows = rows.shuffle("place", npartitions=plan["shards"]).drop(columns="place")
+        rows = rows.map_partitions(lambda r, p=plan: joined_groups(p, r), meta=TABLE).persist()
+        wait(rows)
+
+
+def write_merged(plan, parts, out):
+    """The exports of the parts, merged by id: one record of each is in memory."""
+    paths = [f"{plan['scratch']}/parts/{part:08}.out" for part in parts]
+    for _, frame in heapq.merge(*(exported(path) for path in paths), key=lambda pair: pair[0]):
+        out.write(frame)
+
+
+def write_notes(plan, parts, notes):
+    """The reports added up, and the lines on what was left out, merged by id. Answers whether a record was refused."""
+    counts = {library: dict.fromkeys(REPORT, 0) for library in plan["paths"]}
+    left = []
+    for part in parts:
+        path = f"{plan['scratch']}/parts/{part:08}.notes"
+        with open(path, "rb") as file:
+            for line in file:
+                words = line.split()
+                if len(words) == 13 and words[1] == b"frames":
+                    for name in REPORT:
+                        counts[words[0].decode()][name] += int(words[words.index(name.encode()) + 1])
+        left.append(left_lines(path))
+    some = False
+    for library in plan["paths"]:
+        frames, refused = write_refused(plan, library, notes)
+        some = some or refused > 0
+        told_of = " ".join(f"{name} {counts[library][name]}" for name in REPORT)
+        notes.write(f"{library} frames {frames} {told_of} refused {refused}\n".encode())
+    for _, line in heapq.merge(*left, key=lambda pair: pair[0]):
+        notes.write(line)
+    return some
+
+
+def left_lines(path):
+    with open(path, "rb") as file:
+        for line in file:
+            if line.startswith(b"left "):
+                yield order_of(line[5:].rpartition(b" ")[0]), line
+
+
+def write_refused(plan, library, notes):
+    """The lines on the refused records of a library, with the numbers that they have in the whole delivery."""
+    frames = refused = 0
+    names = sorted(name for name in os.listdir(f"{plan['scratch']}/refused") if re.fullmatch(re.escape(library) + r"-\d{8}", name))
+    for name in names:
+        with open(f"{plan['scratch']}/refused/{name}", "rb") as file:
+            count, some = map(int, file.readline().split())
+            for line in file:
+                number, rest = line.split(b" ", 1)
+                notes.write(f"{library} refused {frames + int(number)} ".encode() + rest)
+        frames += count
+        refused += some
+    return frames, refused
+
+
+def run(plan, client, out, notes, progress=False):
+    """Writes on out and notes what `union export` writes, and answers its status."""
+    for library, path in plan["paths"].items():
+        try:
+            open(path, "rb").close()
+        except OSError:
+            raise Ended(3, f"union: cannot open {library}") from None
+    for name in ("refused", "parts"):
+        os.makedirs(f"{plan['scratch']}/{name}", exist_ok=True)
+    rows = tables(plan, client, progress)
+    parts = plan["parts"]
+    rows = rows.map_partitions(part_of, parts, meta=TABLE.assign(part=pd.Series([], dtype="int64")))
+    rows = rows.shuffle("part", npartitions=parts)
+    ends = rows.map_partitions(lambda r, p=plan: export_parts(p, r), meta=ENDS).compute()
+    told(progress, f"exported {len(ends)} parts")
+    failed = ends[~ends["status"].isin([0, 1])].sort_values("part")
+    if len(failed):
+        raise Ended(int(failed["status"].max()), "\n".join(f"union-cluster: {why}: union export ended with {status}" for status, why in zip(failed["status"], failed["why"])))
+    done = sorted(ends["part"])
+    write_merged(plan, done, out)
+    out.flush()
+    some = write_notes(plan, done, notes)
+    notes.flush()
+    return 1 if some else 0
+
+
+def words_of(arguments):
+    here = os.path.dirname(os.path.abspath(__file__))
+    parser = argparse.ArgumentParser(prog="union-cluster", description="union export on a cluster of workers: see docs/CLUSTER.md")
+    parser.add_argument("--scheduler", help="the address of a Dask scheduler; without it, workers are started on this machine")
+    parser.add_argument("--workers", type=int, default=os.cpu_count(), help="how many workers are started on this machine")
+    parser.add_argument("--memory", type=int, default=0, help="how many megabytes a program of a worker may have")
+    parser.add_argument("--parts", type=int, default=0, help="in how many parts the catalogue is made")
+    parser.add_argument("--block", type=int, default=16, help="how many megabytes of a delivery are read at once")
+    parser.add_argument("--block-bytes", type=int, default=0, help=argparse.SUPPRESS)
+    parser.add_argument("--part-memory", type=int, default=0, help=argparse.SUPPRESS)
+    parser.add_argument("--victim", default="", help=argparse.SUPPRESS)
+    parser.add_argument("--scratch", help="a folder that all workers see, for files that are gone at the end")
+    parser.add_argument("--prefer", help="as of union export")
+    parser.add_argument("--union", default=f"{here}/../crates/union_main/out/union_main", help="the program union")
+    parser.add_argument("--keys", default=f"{here}/../crates/union_keys_main/out/union_keys_main", help="the program union-keys")
+    parser.add_argument("--progress", action="store_true", help="tell the progress on standard error")
+    parser.add_argument("libraries", nargs="+", metavar="LIB=PATH")
+    return parser.parse_args(arguments)
+
+
+def plan_of(words, scratch):
+    paths = {}
+    for word in words.libraries:
+        library, equals, path = word.partition("=")
+        if not re.fullmatch("[A-Z0-9]{1,16}", library) or not path or library in paths:
+            raise Ended(2, "union: bad command line")
+        paths[library] = os.path.abspath(path)
+    if len(paths) > MOST_LIBRARIES:
+        raise Ended(2, "union: bad command line")
+    return {
+        "paths": paths,
+        "scratch": scratch,
+        "union": os.path.abspath(words.union),
+        "keys": os.path.abspath(words.keys),
+        "options": [f"--prefer={words.prefer}"] if words.prefer else [],
+        "memory": words.memory << 20,
+        "part_memory": (words.part_memory or words.memory) << 20,
+        "victim": words.victim,
+        "block": words.block_bytes or words.block << 20,
+        "shards": 2 * max(words.workers, 1),
+        "parts": words.parts or max(words.workers, 1),
+    }
+
+
+def main(arguments):
+    words = words_of(arguments)
+    scratch = tempfile.mkdtemp(prefix="union-cluster-", dir=words.scratch)
+    cluster = client = None
+    try:
+        plan = plan_of(words, scratch)
+        if words.scheduler:
+            client = Client(words.scheduler)
+            client.upload_file(os.path.abspath(__file__))
+        else:
+            cluster = LocalCluster(
+                n_workers=words.workers,
+                threads_per_worker=1,
+                processes=True,
+                dashboard_address=":0" if words.progress else None,
+                local_directory=scratch,
+                silence_logs=logging.CRITICAL,
+            )
+            client = Client(cluster)
+        told(words.progress, f"the engine's page is {client.dashboard_link}")
+        with dask.config.set({"dataframe.shuffle.method": "tasks", "dataframe.shuffle.algorithm": "tasks"}):
+            return run(plan, client, sys.stdout.buffer, sys.stderr.buffer, words.progress)
+    except Ended as end:
+        sys.stderr.write(end.line + "\n")
+        return end.status
+    finally:
+        if client:
+            client.close()
+        if cluster:
+            cluster.close()
+        shutil.rmtree(scratch, ignore_errors=True)
