@@ -43,7 +43,12 @@ POSTS = pd.DataFrame({c: pd.Series([], dtype="object") for c in ("key", "marks",
 EDGES = pd.DataFrame({c: pd.Series([], dtype="object") for c in ("node", "other")})
 LABELS = pd.DataFrame({c: pd.Series([], dtype="object") for c in ("group", "label")})
 ENDS = pd.DataFrame(
-    {"part": pd.Series([], dtype="int64"), "status": pd.Series([], dtype="int64"), "why": pd.Series([], dtype="object")}
+    {
+        "part": pd.Series([], dtype="int64"),
+        "status": pd.Series([], dtype="int64"),
+        "bytes": pd.Series([], dtype="int64"),
+        "why": pd.Series([], dtype="object"),
+    }
 )
 
 
@@ -307,7 +312,7 @@ def export_parts(plan, rows):
             else:
                 sizes = mine.groupby("group")["size"].sum()
                 why = f"part {part}: {len(mine)} records, {mine['size'].sum()} bytes; the largest group, of {sizes.idxmax()}, has {sizes.max()} bytes"
-            ends.append((part, ended.returncode if ended.returncode >= 0 else 7, why))
+            ends.append((part, ended.returncode if ended.returncode >= 0 else 7, mine["size"].sum(), why))
     return pd.DataFrame(ends, columns=list(ENDS.columns)).astype(ENDS.dtypes.to_dict())
 
 
@@ -344,6 +349,16 @@ def sole(series):
     return int(series.compute().sum())
 
 
+def total(frame, measure):
+    """The sum of what a function answers of each share of a table."""
+    return sole(frame.map_partitions(lambda share: pd.Series([measure(share)]), meta=pd.Series([], dtype="int64")))
+
+
+def weight(share):
+    """How many bytes the rows of a share have as text, which is what a shuffle moves of them at least."""
+    return int(sum(share[name].astype(str).str.len().sum() for name in share.columns))
+
+
 def components(edges):
     """The component of each group that has an edge, by its least group."""
     while True:
@@ -352,7 +367,7 @@ def components(edges):
             return edges.map_partitions(labels_of, meta=LABELS)
 
 
-def tables(plan, client, progress):
+def tables(plan, progress):
     """The rows of all deliveries, each in a group that shares no key with another group."""
     blocks = []
     for library, path in plan["paths"].items():
@@ -363,14 +378,15 @@ def tables(plan, client, progress):
     rows = rows.repartition(npartitions=plan["shards"]) if rows.npartitions > plan["shards"] else rows
     rows = rows.shuffle("id", npartitions=plan["shards"]).map_partitions(current_rows, meta=TABLE).persist()
     wait(rows)
-    told(progress, f"read {len(blocks)} blocks")
+    told(progress, f"read {len(blocks)} blocks: {total(rows, len)} rows")
     turn = 0
     while True:
         turn += 1
         posts = rows.map_partitions(posts_of, meta=POSTS)
         edges = posts.shuffle("key").map_partitions(edges_of, meta=EDGES).persist()
-        count = sole(edges.map_partitions(lambda e: pd.Series([len(e)]), meta=pd.Series([], dtype="int64")))
-        told(progress, f"round {turn}: {count // 2} joins")
+        count = total(edges, len)
+        if progress:
+            told(progress, f"round {turn}: {count // 2} joins; keys {total(posts, weight)} bytes, rows {total(rows, weight)} bytes")
         if count == 0:
             return rows
         labels = components(edges)
@@ -434,21 +450,16 @@ def write_refused(plan, library, notes):
     return frames, refused
 
 
-def run(plan, client, out, notes, progress=False):
+def run(plan, out, notes, progress=False):
     """Writes on out and notes what `union export` writes, and answers its status."""
-    for library, path in plan["paths"].items():
-        try:
-            open(path, "rb").close()
-        except OSError:
-            raise Ended(3, f"union: cannot open {library}") from None
     for name in ("refused", "parts"):
         os.makedirs(f"{plan['scratch']}/{name}", exist_ok=True)
-    rows = tables(plan, client, progress)
+    rows = tables(plan, progress)
     parts = plan["parts"]
     rows = rows.map_partitions(part_of, parts, meta=TABLE.assign(part=pd.Series([], dtype="int64")))
     rows = rows.shuffle("part", npartitions=parts)
     ends = rows.map_partitions(lambda r, p=plan: export_parts(p, r), meta=ENDS).compute()
-    told(progress, f"exported {len(ends)} parts")
+    told(progress, f"exported {len(ends)} parts, the greatest of {ends['bytes'].max()} bytes")
     failed = ends[~ends["status"].isin([0, 1])].sort_values("part")
     if len(failed):
         raise Ended(int(failed["status"].max()), "\n".join(f"union-cluster: {why}: union export ended with {status}" for status, why in zip(failed["status"], failed["why"])))
@@ -481,6 +492,8 @@ def words_of(arguments):
 
 
 def plan_of(words, scratch):
+    """What the workers are told. A share of the rows is of some 64 MB of deliveries, and a part of some 256 MB, of which union takes
+    five to six times as much memory."""
     paths = {}
     for word in words.libraries:
         library, equals, path = word.partition("=")
@@ -489,6 +502,12 @@ def plan_of(words, scratch):
         paths[library] = os.path.abspath(path)
     if len(paths) > MOST_LIBRARIES:
         raise Ended(2, "union: bad command line")
+    for library, path in paths.items():
+        try:
+            open(path, "rb").close()
+        except OSError:
+            raise Ended(3, f"union: cannot open {library}") from None
+    size = sum(os.path.getsize(path) for path in paths.values())
     return {
         "paths": paths,
         "scratch": scratch,
@@ -499,8 +518,8 @@ def plan_of(words, scratch):
         "part_memory": (words.part_memory or words.memory) << 20,
         "victim": words.victim,
         "block": words.block_bytes or words.block << 20,
-        "shards": 2 * max(words.workers, 1),
-        "parts": words.parts or max(words.workers, 1),
+        "shards": max(2 * words.workers, size >> 26),
+        "parts": words.parts or max(words.workers, size >> 28),
     }
 
 
@@ -525,7 +544,7 @@ def main(arguments):
             client = Client(cluster)
         told(words.progress, f"the engine's page is {client.dashboard_link}")
         with dask.config.set({"dataframe.shuffle.method": "tasks", "dataframe.shuffle.algorithm": "tasks"}):
-            return run(plan, client, sys.stdout.buffer, sys.stderr.buffer, words.progress)
+            return run(plan, sys.stdout.buffer, sys.stderr.buffer, words.progress)
     except Ended as end:
         sys.stderr.write(end.line + "\n")
         return end.status

@@ -1,0 +1,5 @@
+mod PlacedLaws
+mod TakingLaws
+mod GroupLaws
+mod FileLaws
+mod SourceLaws

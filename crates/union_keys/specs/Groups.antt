@@ -1,0 +1,46 @@
+-- Groups of records, as a text names them: an id `LIB.CTL` on each line, and a line that is empty behind each group.
+use Rattle.std.specs.Prelude.{ℕ, ◌==◌, List, [], ◌∷◌, ◌++◌, fold, Option, Some, None, if◌then◌else◌}
+use Rattle.std.specs.BTreeMap.{is_at, insert_entry}
+use Rattle.std.specs.List.{before_first, after_first}
+use Rattle.std.specs.Map.{lookup}
+use Rattle.std.specs.Option.{option_to_list}
+use Rattle.field_merge.specs.Kept.{id_cmp}
+use Rattle.union_base.specs.declared.record_id.RecordId.{RecordId}
+use Rattle.union_base.specs.LibraryCodes.{is_library_code}
+use Rattle.union_keys.specs.declared.standing.Standing.{Standing}
+
+-- records under their ids
+abbrev pub Table : Type 0
+Table = List (RecordId × Standing)
+
+-- a record takes the place of an earlier one of its id
+abbrev pub put : Table → Standing → Table
+put table s = insert_entry id_cmp table s.id s
+
+-- the last record of each id
+abbrev pub table_of : List Standing → Table
+table_of standings = fold put [] standings
+
+-- the id in a text `LIB.CTL`
+abbrev pub id_in : List ℕ → Option RecordId
+id_in text =
+    (if is_library_code (before_first (λ b. b == 0x2E) text)
+    then Some (record { library = before_first (λ b. b == 0x2E) text; control = after_first (λ b. b == 0x2E) text })
+    else None)
+
+abbrev pub at_id : Table → Option RecordId → Option Standing
+at_id table None = None
+at_id table (Some id) = lookup (is_at (id_cmp id)) table
+
+-- the record that a line names
+abbrev pub named_by : Table → List ℕ → Option Standing
+named_by table line = at_id table (id_in line)
+
+-- the groups of lines, where the first of them go on with a group that has these records already. A line that names no record adds
+-- none. What follows the last empty line is a group too, where it names a record
+abbrev pub groups_from : Table → List (List ℕ) → List Standing → List (List Standing)
+groups_from table [] [] = []
+groups_from table [] (s ∷ members) = (s ∷ members) ∷ []
+groups_from table ([] ∷ lines) members = members ∷ groups_from table lines []
+groups_from table ((b ∷ line) ∷ lines) members =
+    groups_from table lines (members ++ option_to_list (named_by table (b ∷ line)))

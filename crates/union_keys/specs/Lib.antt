@@ -1,0 +1,7 @@
+pub mod Rules
+pub mod Standings
+pub mod Placed
+pub mod Readings
+pub mod Lines
+pub mod Groups
+pub mod Requests

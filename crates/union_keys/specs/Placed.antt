@@ -1,0 +1,36 @@
+-- Where the frames of a text stand. They are those of `frames`: a piece ends behind each record terminator, and CR and LF at its
+-- beginning are no part of its frame. Offsets are counted from 0.
+use Rattle.std.specs.Prelude.{ℕ, ◌+◌, ◌-◌, if◌then◌else◌, List, [], ◌∷◌, ◌++◌, length, map}
+use Rattle.iso2709_frame.specs.declared.cut.Cut.{Cut}
+use Rattle.iso2709_frame.specs.Frames.{is_terminator, first_piece, skip_breaks, cut_piece}
+
+-- a frame: how many bytes stand before it, how many it has, how it was cut, and its bytes where it is whole
+pub record Placed : Type 0 where
+  pub first : ℕ
+  pub size : ℕ
+  pub cut : Cut
+  pub bytes : List ℕ
+
+abbrev pub placed_at : ℕ → ℕ → Cut × List ℕ → Placed
+placed_at first size cut = record { first = first; size = size; cut = cut.0; bytes = cut.1 }
+
+-- the frame in a piece that begins at that offset: none where the piece is CR and LF alone
+abbrev pub placed_piece : ℕ → List ℕ → List Placed
+placed_piece at piece =
+    map (placed_at (at + (length piece - length (skip_breaks piece))) (length (skip_breaks piece))) (cut_piece piece)
+
+-- the frames behind the first piece of a text that begins at that offset
+abbrev pub placed_later : ℕ → List ℕ → List Placed
+placed_later at [] = []
+placed_later at (byte ∷ rest) =
+    (if is_terminator byte
+    then placed_piece (at + 1) (first_piece rest) ++ placed_later (at + 1) rest
+    else placed_later (at + 1) rest)
+
+-- the frames of a text that begins at that offset
+abbrev pub placed_from : ℕ → List ℕ → List Placed
+placed_from at text = placed_piece at (first_piece text) ++ placed_later at text
+
+-- the frames of a file in their order, the first of which has the number 1
+abbrev pub placed : List ℕ → List Placed
+placed text = placed_from 0 text

@@ -1,0 +1,42 @@
+-- What is taken of the frames of libraries' files.
+use Rattle.std.specs.Prelude.{◌≡◌, ℕ, suc, List, [], ◌∷◌, ◌++◌, Option, Some, None, decimal, codes}
+use Rattle.marc_fields.specs.Spelling.{Spells}
+use Rattle.marc_fields.specs.declared.marc_record.Record.{Record}
+use Rattle.marc_fields.specs.declared.rules.Failure.{Failure}
+use Rattle.marc_rules.specs.NineteenRules.{first_rule}
+use Rattle.union_keys.specs.Rules.{name_of}
+use Rattle.union_words.specs.Words.{LibraryFile}
+use Rattle.union_keys.specs.Placed.{Placed, placed}
+use Rattle.union_keys.specs.Standings.{standing_of}
+use Rattle.union_keys.specs.declared.standing.Standing.{Standing}
+
+-- the accepted records so far, and the lines on refused ones
+pub record Read : Type 0 where
+  pub standings : List Standing
+  pub notes : List ℕ
+
+-- `LIB refused FRAME RULE PLACE`
+unfoldable pub refused_line : List ℕ → ℕ → Failure → List ℕ
+refused_line library number failure =
+    library ++ (codes " refused " ++ (decimal number ++ (codes " " ++ (name_of failure.rule ++ (codes " " ++ (decimal failure.place ++ 0x0A ∷ []))))))
+
+-- a frame that breaks a rule gets a line, and of one that breaks none the record is taken that it spells
+abbrev pub Takes : List ℕ → ℕ → Placed → Option Failure → Read → Read → Type 0
+Takes library number frame (Some failure) before after =
+    after ≡ record { standings = before.standings; notes = before.notes ++ refused_line library number failure }
+Takes library number frame None before after =
+    (r : Record) × Spells frame.bytes r
+    × (after ≡ record { standings = before.standings ++ standing_of library frame.first frame.size r ∷ []; notes = before.notes })
+
+-- the frames are taken in their order, the first of which has that number
+abbrev pub TakesAll : List ℕ → ℕ → List Placed → Read → Read → Type 0
+TakesAll library number [] before after = after ≡ before
+TakesAll library number (frame ∷ rest) before after =
+    (between : Read) × Takes library number frame (first_rule frame.cut frame.bytes) before between
+    × TakesAll library (suc number) rest between after
+
+-- the files are read in their order
+abbrev pub ReadsFiles : (List ℕ → List ℕ) → List LibraryFile → Read → Read → Type 0
+ReadsFiles contents [] before after = after ≡ before
+ReadsFiles contents (file ∷ rest) before after =
+    (between : Read) × TakesAll file.library 1 (placed (contents file.path)) before between × ReadsFiles contents rest between after

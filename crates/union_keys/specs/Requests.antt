@@ -1,0 +1,41 @@
+-- The forms of words that the program has, and what each asks for.
+use Rattle.std.specs.Prelude.{ℕ, List, [], ◌∷◌, Option, Some, None, if◌then◌else◌, codes}
+use Rattle.std.specs.Option.{option_copied}
+use Rattle.union_words.specs.Meanings.{libraries_meaning}
+use Rattle.union_words.specs.Numbers.{option_text}
+use Rattle.union_words.specs.Words.{LibraryFile, is_text, are_libraries, libraries_of}
+use Rattle.union_keys.specs.declared.request.Request.{Request as RequestInPlace}
+use Rattle.union_keys.specs.declared.request.Request.TheVariants.{Keys as KeysInPlace, Help as HelpInPlace, Version as VersionInPlace}
+
+pub data Request : Type 0 where
+  Keys : (groups : Option (List ℕ)) (libraries : List LibraryFile) → Request
+  Help : Request
+  Version : Request
+
+-- what the code's request stands for
+abbrev pub request_meaning : RequestInPlace → Request
+request_meaning (KeysInPlace groups libraries) = Keys (option_copied groups) (libraries_meaning libraries)
+request_meaning HelpInPlace = Help
+request_meaning VersionInPlace = Version
+
+-- one to 64 words `LIB=PATH`, no library twice
+abbrev pub keys_of : Option (List ℕ) → List (List ℕ) → Option Request
+keys_of groups words = (if are_libraries words then Some (Keys groups (libraries_of words)) else None)
+
+-- the same behind a word `--groups=PATH`
+abbrev pub grouped_of : Option (List ℕ) → List ℕ → List (List ℕ) → Option Request
+grouped_of None word rest = keys_of None (word ∷ rest)
+grouped_of (Some path) word rest = keys_of (Some path) rest
+
+-- a word that stands alone
+abbrev pub alone_of : Request → List (List ℕ) → Option Request
+alone_of request [] = Some request
+alone_of request (word ∷ rest) = None
+
+-- what the words after the program's name ask for
+abbrev pub request_of : List (List ℕ) → Option Request
+request_of [] = None
+request_of (word ∷ rest) =
+    (if is_text word (codes "--help") then alone_of Help rest
+    else (if is_text word (codes "--version") then alone_of Version rest
+    else grouped_of (option_text (codes "--groups=") word) word rest))

@@ -1,0 +1,189 @@
+//! What is taken of the frames of a library's file.
+ghost use Rattle.std.specs.Prelude.{◌≡◌, ◌+◌, ◌-◌, ◌<◌, ◌≤◌, ◌++◌, ◌^◌, [], IfOk, OnOk, length, codes, decimal};
+ghost use Rattle.iso2709_frame.specs.Frames.{IsWhole, first_piece, skip_breaks};
+ghost use Rattle.marc_fields.specs.declared.rules.Failure.{Failure as FailureModel};
+ghost use Rattle.marc_rules.specs.NineteenRules.{first_rule};
+ghost use Rattle.union_keys.specs.Placed.{placed, placed_at, placed_piece};
+ghost use Rattle.union_keys.specs.Readings.{Takes, TakesAll, refused_line};
+
+use crate::frame_cut::{behind_breaks, cut_frame, piece_size};
+use crate::rules::rule_name;
+use crate::standing::Standing;
+use iso2709_frame::cut::Cut;
+use itoa::Buffer;
+use marc_fields::rules::Rule;
+use marc_rules::check::{Refusal, check_frame};
+use std::alloc::{AllocError, Global};
+use std::marker::Model;
+use union_base::library_code::LibraryCode;
+use union_base::memory::Memory;
+
+/// The accepted records so far, and the lines on refused ones. Contracts see the two lists.
+#[derive(Drop)]
+pub struct Reading {
+    pub(crate) standings: Vec<Standing>,
+    pub(crate) notes: Vec<u8>,
+}
+
+impl Model for Reading {
+    ghost use Rattle.union_keys.specs.Readings.{Read};
+
+    ghost Value = { Read };
+
+    ghost view = { λ r. record { standings = r.standings.items; notes = r.notes.items } };
+}
+
+/// Where a frame stands: its library, its number in the file, and how many bytes of the file are before it.
+#[derive(Clone, Copy)]
+pub(crate) struct Place<'a> {
+    pub(crate) library: &'a LibraryCode,
+    pub(crate) number: u64,
+    pub(crate) first: u64,
+}
+
+/// Adds a blank, and a number.
+fn add_number(text: &mut Vec<u8>, number: u64) -> Result<(), AllocError>
+    ensures { OnOk result (text.new.items ≡ text.old.items ++ (codes " " ++ decimal number)) }
+{
+    let mut digits = Buffer::new();
+    text.push(b' ')?;
+    text.extend_from_slice(digits.format(number).as_bytes())?;
+    Ok(())
+}
+
+/// Adds `LIB refused FRAME RULE PLACE`.
+fn add_refused_line(
+    text: &mut Vec<u8>,
+    library: &[u8],
+    number: u64,
+    rule: Rule,
+    place: u32,
+) -> Result<(), AllocError>
+    ensures { OnOk result (text.new.items ≡ text.old.items ++ refused_line library.now number (record { rule = rule; place = place })) }
+{
+    text.extend_from_slice(library)?;
+    text.extend_from_slice(b" refused")?;
+    add_number(text, number)?;
+    text.push(b' ')?;
+    text.extend_from_slice(rule_name(rule))?;
+    add_number(text, u64::from(place))?;
+    text.push(b'\n')?;
+    Ok(())
+}
+
+impl Reading {
+    /// Nothing read yet. Takes no memory.
+    pub fn begun(alloc: Global) -> Reading
+        ensures { result ≡ record { standings = []; notes = [] } }
+    {
+        Reading {
+            standings: Vec::new(alloc),
+            notes: Vec::new(alloc),
+        }
+    }
+
+    /// Takes a frame of so many bytes, which are given where it is whole. Returns `Memory` if allocation fails.
+    fn take(
+        &mut self,
+        alloc: Global,
+        place: Place<'_>,
+        size: usize,
+        cut: Cut,
+        bytes: &[u8],
+    ) -> Result<(), Memory>
+        requires { cut ≡ Cut.Whole → IsWhole bytes.now }
+        ensures { OnOk result (Takes place.entry.library.now place.entry.number
+            (placed_at place.entry.first size (cut, bytes.now))
+            (first_rule cut bytes.now) self.old self.new) }
+    {
+        match check_frame(alloc, cut, bytes) {
+            Ok(rec) => {
+                let standing = Standing::of(alloc, place.library, place.first, size as u64, rec)?;
+                self.standings.push(standing)?;
+                Ok(())
+            }
+            Err(Refusal::Rule { rule, place: at }) => {
+                let library = place.library.bytes();
+                add_refused_line(&mut self.notes, library, place.number, rule, at)?;
+                Ok(())
+            }
+            Err(Refusal::Memory) => Err(Memory),
+        }
+    }
+
+    /// Takes the frame of a piece of the text, if it has one, and answers the number of the next frame.
+    ///
+    /// Returns `Memory` if allocation fails.
+    fn take_piece(&mut self, alloc: Global, place: Place<'_>, piece: &[u8]) -> Result<u64, Memory>
+        requires number { place.number < 2 ^ 64 - 1 }
+        requires first { place.first + length piece.now ≤ 2 ^ 64 - 1 }
+        requires piece { first_piece piece.now ≡ piece.now }
+        ensures next { IfOk result (λ next. next ≡ place.entry.number + length (placed_piece place.entry.first piece.now)) }
+        ensures few { IfOk result (λ next. next ≤ place.entry.number + length piece.now) }
+        ensures taken { OnOk result (TakesAll place.entry.library.now place.entry.number (placed_piece place.entry.first piece.now) self.old self.new) }
+    {
+        let frame = behind_breaks(piece);
+        if frame.is_empty() {
+            return Ok(place.number);
+        }
+        let (cut, bytes) = cut_frame(piece, frame);
+        let begun = Place {
+            library: place.library,
+            number: place.number,
+            first: place.first + (piece.len() - frame.len()) as u64,
+        };
+        self.take(alloc, begun, frame.len(), cut, bytes)?;
+        Ok(place.number + 1)
+    }
+
+    /// Takes the frames of a library's file, whose text is given. Returns `Memory` if allocation fails.
+    pub(crate) fn take_text(
+        &mut self,
+        alloc: Global,
+        library: &LibraryCode,
+        text: &[u8],
+    ) -> Result<(), Memory>
+        ensures { OnOk result (TakesAll library.now 1 (placed text.now) self.old self.new) }
+    {
+        let mut rest = text;
+        let mut first = 0;
+        let mut number = 1;
+        while !rest.is_empty() {
+            let (piece, behind) = rest.split_at(piece_size(rest));
+            let place = Place {
+                library,
+                number,
+                first,
+            };
+            number = self.take_piece(alloc, place, piece)?;
+            first += piece.len() as u64;
+            rest = behind;
+        }
+        Ok(())
+    }
+
+    /// The accepted records, in the order of the files. Takes no memory.
+    pub fn standings(&self) -> &[Standing]
+        ensures { result.now ≡ self.now.standings }
+    {
+        self.standings.as_slice()
+    }
+
+    /// The lines on refused records. Takes no memory.
+    pub fn notes(&self) -> &[u8]
+        ensures { result.now ≡ self.now.notes }
+    {
+        self.notes.as_slice()
+    }
+
+    /// The accepted records, given away with the reading. Takes no memory.
+    pub fn into_standings(self) -> Vec<Standing>
+        ensures { result.items ≡ self.standings }
+    {
+        let Reading {
+            standings,
+            notes: _,
+        } = self;
+        standings
+    }
+}

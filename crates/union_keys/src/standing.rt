@@ -1,0 +1,84 @@
+//! A record and where it stands.
+ghost use Rattle.std.specs.Prelude.{◌≡◌, IfOk};
+ghost use Rattle.marc_rules.specs.Accepted.{IsAccepted};
+ghost use Rattle.union_keys.specs.Standings.{edition_by, standing_of};
+
+use catalogue_editions::edition::Edition;
+use catalogue_editions::laws::accepted_can_be_loaded;
+use catalogue_editions::records::{control_of, edition_of};
+use field_merge::preference::Preference;
+use marc_fields::marc_record::Record;
+use marc_parts::loads::is_deleted;
+use std::alloc::Global;
+use union_base::copied::Copied;
+use union_base::library_code::LibraryCode;
+use union_base::memory::Memory;
+use union_base::record_id::RecordId;
+
+/// An accepted record of a library's file.
+#[derive(Debug, Drop)]
+pub struct Standing {
+    /// The library, and the record's control number there.
+    pub id: RecordId,
+    /// How many bytes of the file stand before its frame.
+    pub first: u64,
+    /// How many bytes its frame has.
+    pub size: u64,
+    /// What it loads: None where it withdraws the record under its id.
+    pub edition: Option<Edition>,
+}
+
+/// What the library's record loads: None where it withdraws.
+fn edition_by(alloc: Global, library: &LibraryCode, rec: Record) -> Result<Option<Edition>, Memory>
+    requires { IsAccepted rec }
+    ensures { IfOk result (λ found. found ≡ edition_by library.now rec) }
+{
+    if is_deleted(rec.leader.status) {
+        return Ok(None);
+    }
+    accepted_can_be_loaded();
+    let edition = edition_of(alloc, &Preference::none(), library, rec)?;
+    Ok(Some(edition))
+}
+
+impl Standing {
+    /// The library's record whose frame stands there. Returns `Memory` if allocation fails.
+    pub(crate) fn of(
+        alloc: Global,
+        library: &LibraryCode,
+        first: u64,
+        size: u64,
+        rec: Record,
+    ) -> Result<Standing, Memory>
+        requires { IsAccepted rec }
+        ensures { IfOk result (λ s. s ≡ standing_of library.now first size rec) }
+    {
+        let control = control_of(alloc, &rec)?;
+        let edition = edition_by(alloc, library, rec)?;
+        Ok(Standing {
+            id: RecordId {
+                library: *library,
+                control,
+            },
+            first,
+            size,
+            edition,
+        })
+    }
+
+    /// An equal value. Returns `Memory` if allocation fails.
+    pub(crate) fn copied(&self, alloc: Global) -> Result<Standing, Memory>
+        ensures { IfOk result (λ s. s ≡ self.now) }
+    {
+        let edition = match &self.edition {
+            Some(edition) => Some(edition.shared()?),
+            None => None,
+        };
+        Ok(Standing {
+            id: self.id.copied(alloc)?,
+            first: self.first,
+            size: self.size,
+            edition,
+        })
+    }
+}
