@@ -16,10 +16,12 @@ pub record Part : Type 0 where
   pub editions : List Edition
   pub resolved : IsOrderedResolution records editions
 
+-- the records of all parts
 abbrev pub records_of : List Part → List Edition
 records_of [] = []
 records_of (part ∷ rest) = part.records ++ records_of rest
 
+-- the editions of all parts
 abbrev pub editions_of : List Part → List Edition
 editions_of [] = []
 editions_of (part ∷ rest) = part.editions ++ editions_of rest

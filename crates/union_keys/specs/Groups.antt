@@ -28,6 +28,7 @@ id_in text =
     then Some (record { library = before_first (λ b. b == 0x2E) text; control = after_first (λ b. b == 0x2E) text })
     else None)
 
+-- the record under the id, if the text is one
 abbrev pub at_id : Table → Option RecordId → Option Standing
 at_id table None = None
 at_id table (Some id) = lookup (is_at (id_cmp id)) table

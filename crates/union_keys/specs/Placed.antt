@@ -11,6 +11,7 @@ pub record Placed : Type 0 where
   pub cut : Cut
   pub bytes : List ℕ
 
+-- the frame that is cut so
 abbrev pub placed_at : ℕ → ℕ → Cut × List ℕ → Placed
 placed_at first size cut = record { first = first; size = size; cut = cut.0; bytes = cut.1 }
 

@@ -7,6 +7,7 @@ use Rattle.union_words.specs.Words.{LibraryFile, is_text, are_libraries, librari
 use Rattle.union_keys.specs.declared.request.Request.{Request as RequestInPlace}
 use Rattle.union_keys.specs.declared.request.Request.TheVariants.{Keys as KeysInPlace, Help as HelpInPlace, Version as VersionInPlace}
 
+-- what the words ask for
 pub data Request : Type 0 where
   Keys : (groups : Option (List ℕ)) (libraries : List LibraryFile) → Request
   Help : Request
