@@ -18,7 +18,8 @@ pub record Read : Type 0 where
 -- `LIB refused FRAME RULE PLACE`
 unfoldable pub refused_line : List ℕ → ℕ → Failure → List ℕ
 refused_line library number failure =
-    library ++ (codes " refused " ++ (decimal number ++ (codes " " ++ (name_of failure.rule ++ (codes " " ++ (decimal failure.place ++ 0x0A ∷ []))))))
+    library
+    ++ (codes " refused " ++ (decimal number ++ (codes " " ++ (name_of failure.rule ++ (codes " " ++ (decimal failure.place ++ 0x0A ∷ []))))))
 
 -- a frame that breaks a rule gets a line, and of one that breaks none the record is taken that it spells
 abbrev pub Takes : List ℕ → ℕ → Placed → Option Failure → Read → Read → Type 0

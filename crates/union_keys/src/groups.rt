@@ -83,7 +83,8 @@ fn add_counted(text: &mut Vec<u8>, word: &[u8], number: u64) -> Result<(), Alloc
 impl Written {
     /// Adds the line of the group that is ended, and tells where it is not one edition.
     fn end_group(&mut self, alloc: Global) -> Result<(), Memory>
-        ensures line { OnOk result ((count : ℕ) × AddsLine self.old.members.items self.old.text.items self.new.text.items count) }
+        ensures line { OnOk result ((count : ℕ)
+            × AddsLine self.old.members.items self.old.text.items self.new.text.items count) }
         ensures members { OnOk result (self.new.members.items ≡ []) }
     {
         self.groups = self.groups.saturating_add(1);
@@ -104,7 +105,8 @@ impl Written {
         table: &BTreeMap<RecordId, Standing>,
         line: &[u8],
     ) -> Result<(), Memory>
-        ensures members { OnOk result (self.new.members.items ≡ self.old.members.items ++ option_to_list (named_by table.now.entries line.now)) }
+        ensures members { OnOk result (self.new.members.items
+            ≡ self.old.members.items ++ option_to_list (named_by table.now.entries line.now)) }
         ensures text { OnOk result (self.new.text.items ≡ self.old.text.items) }
     {
         match named_by(alloc, table, line)? {
@@ -128,7 +130,8 @@ pub fn group_lines(
     table: &BTreeMap<RecordId, Standing>,
     groups: &[u8],
 ) -> Result<(Vec<u8>, Vec<u8>), Memory>
-    ensures { IfOk result (λ written. AddsLines (groups_from table.now.entries (lines_of groups.now) []) [] written.0.items) }
+    ensures { IfOk result (λ written.
+        AddsLines (groups_from table.now.entries (lines_of groups.now) []) [] written.0.items) }
 {
     let mut written = Written {
         text: Vec::new(alloc),

@@ -50,7 +50,8 @@ fn add_places(text: &mut Vec<u8>, members: &[Standing]) -> Result<(), AllocError
 
 /// Adds what a record loads. Returns `Memory` if allocation fails.
 fn push_edition(editions: &mut Vec<Edition>, member: &Standing) -> Result<(), Memory>
-    ensures { OnOk result (editions.new.items ≡ editions.old.items ++ option_to_list member.now.edition) }
+    ensures { OnOk result (editions.new.items
+        ≡ editions.old.items ++ option_to_list member.now.edition) }
 {
     if let Some(edition) = &member.edition {
         editions.push(edition.shared()?)?;

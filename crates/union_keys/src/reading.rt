@@ -59,7 +59,8 @@ fn add_refused_line(
     rule: Rule,
     place: u32,
 ) -> Result<(), AllocError>
-    ensures { OnOk result (text.new.items ≡ text.old.items ++ refused_line library.now number (record { rule = rule; place = place })) }
+    ensures { OnOk result (text.new.items
+        ≡ text.old.items ++ refused_line library.now number (record { rule = rule; place = place })) }
 {
     text.extend_from_slice(library)?;
     text.extend_from_slice(b" refused")?;
@@ -118,9 +119,11 @@ impl Reading {
         requires number { place.number < 2 ^ 64 - 1 }
         requires first { place.first + length piece.now ≤ 2 ^ 64 - 1 }
         requires piece { first_piece piece.now ≡ piece.now }
-        ensures next { IfOk result (λ next. next ≡ place.entry.number + length (placed_piece place.entry.first piece.now)) }
+        ensures next { IfOk result (λ next.
+            next ≡ place.entry.number + length (placed_piece place.entry.first piece.now)) }
         ensures few { IfOk result (λ next. next ≤ place.entry.number + length piece.now) }
-        ensures taken { OnOk result (TakesAll place.entry.library.now place.entry.number (placed_piece place.entry.first piece.now) self.old self.new) }
+        ensures taken { OnOk result (TakesAll place.entry.library.now place.entry.number
+            (placed_piece place.entry.first piece.now) self.old self.new) }
     {
         let frame = behind_breaks(piece);
         if frame.is_empty() {

@@ -41,7 +41,8 @@ fn text_of<F: Shelf>(
     shelf: &mut F,
 ) -> Result<Vec<u8>, Status>
     ensures files { F.files shelf.new ≡ F.files shelf.old }
-    ensures text { IfOk result (λ text. (contents : List ℕ → List ℕ) → F.files shelf.old ≡ Some contents
+    ensures text { IfOk result (λ text. (contents : List ℕ → List ℕ)
+        → F.files shelf.old ≡ Some contents
         → text.items ≡ contents file.now.path.now) }
     ensures early { IfErr result (λ status. IsTrue (is_early status)) }
 {
@@ -88,7 +89,8 @@ pub fn read_files<F: Shelf>(
     libraries: &Libraries<'_>,
     shelf: &mut F,
 ) -> Result<Reading, Status>
-    ensures read { IfOk result (λ reading. (contents : List ℕ → List ℕ) → F.files shelf.old ≡ Some contents
+    ensures read { IfOk result (λ reading. (contents : List ℕ → List ℕ)
+        → F.files shelf.old ≡ Some contents
         → ReadsFiles contents (libraries_meaning libraries.now) (record { standings = []; notes = [] }) reading) }
     ensures early { IfErr result (λ status. IsTrue (is_early status)) }
 {
