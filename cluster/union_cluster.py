@@ -518,7 +518,7 @@ def plan_of(words, scratch):
         "part_memory": (words.part_memory or words.memory) << 20,
         "victim": words.victim,
         "block": words.block_bytes or words.block << 20,
-        "shards": max(2 * words.workers, size >> 26),
+        "shards": max(words.workers, size >> 26),
         "parts": words.parts or max(words.workers, size >> 28),
     }
 
