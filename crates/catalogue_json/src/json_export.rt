@@ -58,7 +58,7 @@ fn write_editions<O: Sink>(
     let mut pending = Vec::new(alloc);
     for edition in editions {
         match write_edition(alloc, edition, &mut pending, left, out) {
-            Ok(()) => (),
+            Ok(()) => {}
             Err(fail) => return Err(fail),
         }
     }
