@@ -10,7 +10,6 @@ ghost use Rattle.field_merge.specs.Kept.{id_cmp};
 ghost use Rattle.work_clusters.specs.Works.{works_of};
 ghost use Rattle.catalogue_core.specs.EditionKeys.{work_pairs};
 ghost use Rattle.catalogue_core.specs.Histories.{after_batch, after_op, at_id, bases, current, is_current, outcome_of, outcomes, AreEditionsOf};
-ghost use Rattle.catalogue_core.specs.Ids.{least};
 ghost use Rattle.catalogue_core.specs.Resolutions.{IsOrderedResolution};
 ghost use Rattle.catalogue_core.specs.Walks.{holder_of};
 ghost use Rattle.catalogue_editions.specs.declared.edition.Edition.{Edition as EditionModel};

@@ -158,7 +158,10 @@ fn consortium_by_preferences(rt: HostRuntime) -> Result<(), Fail> {
     for text in ["LIBB", "LIBC,LIBA", "LIBB,LIBC,LIBA", "LIBX", "LIBX,LIBC"] {
         let other = catalogue_of(alloc, text)?;
         assert!(rt; agree(alloc, &plain, &other)?, "{text}");
-        assert!(rt; shows_preferred(alloc, &other, &preference_in(text)?)?, "{text}");
+        assert!(rt;
+            shows_preferred(alloc, &other, &preference_in(text)?)?,
+            "{text}"
+        );
     }
     Ok(())
 }
@@ -241,9 +244,7 @@ fn shows_preferred(
 ) -> Result<bool, Fail> {
     for edition in catalogue.editions(alloc)? {
         let content = edition.content();
-        if !is_best(content, prefer, &content.f245)
-            || content.fixed.rank != content.f245.rank
-        {
+        if !is_best(content, prefer, &content.f245) || content.fixed.rank != content.f245.rank {
             return Ok(false);
         }
     }
