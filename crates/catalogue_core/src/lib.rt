@@ -8,7 +8,7 @@
 //! resolve, from scratch.
 //! Cost: a turn tests, for a record that comes, the editions that share an index key with it, and for one that goes, the other
 //! records of its edition: at most the reach of its batch (specs/Reaches.antt), whatever the size of the catalogue. No edition
-//! that is not merged is copied. A walk passes each current record once.
+//! that is not merged is copied. The editions in order are sorted for whoever asks for them.
 #![tactic(auto)]
 
 pub use catalogue_editions::{
