@@ -51,8 +51,16 @@ fn noted(end: End, notes: &mut ErrSink) -> u8 {
             b"union-keys: cannot open ".as_slice(),
             b"groups".as_slice(),
         ),
-        End::Groups => (4, b"union-keys: read failed in ".as_slice(), b"groups".as_slice()),
-        End::LongGroups => (6, b"union-keys: too long is ".as_slice(), b"groups".as_slice()),
+        End::Groups => (
+            4,
+            b"union-keys: read failed in ".as_slice(),
+            b"groups".as_slice(),
+        ),
+        End::LongGroups => (
+            6,
+            b"union-keys: too long is ".as_slice(),
+            b"groups".as_slice(),
+        ),
         End::Status(status) => (status.exit_number(), before(status), name(status)),
     };
     if !before.is_empty() {
