@@ -97,6 +97,11 @@ fn told(alloc: Global, job: &Option<Job<'_>>) -> Result<Vec<u8>, AllocError> {
             text.extend_from_slice(asks)?;
             tell_libraries(&mut text, &loading.libraries)?;
         }
+        Some(Job::Follow(asks, libraries)) => {
+            text.extend_from_slice(b"follow ")?;
+            text.extend_from_slice(asks)?;
+            tell_libraries(&mut text, libraries)?;
+        }
         Some(Job::Script(path)) => {
             text.extend_from_slice(b"script ")?;
             text.extend_from_slice(path)?;
@@ -121,7 +126,7 @@ fn asks(alloc: Global, line: &[u8], want: &[u8]) -> Result<bool, Fail> {
 }
 
 /// Lines of words, and what each asks for.
-const FORMS: [(&[u8], &[u8]); 26] = [
+const FORMS: [(&[u8], &[u8]); 27] = [
     (b"check LIBA=a", b"check LIBA a"),
     (b"tojson LIBA=a", b"to json LIBA a"),
     (b"tojson LIBA=a=b", b"to json LIBA a=b"),
@@ -158,6 +163,7 @@ const FORMS: [(&[u8], &[u8]); 26] = [
         b"watch 4 LIBB first q LIBA a",
     ),
     (b"export --prefer=LIBA LIBA=a", b"export 4 LIBA a"),
+    (b"follow --ask=q LIBA=a LIBB=b", b"follow q LIBA a LIBB b"),
     (b"script s.txt", b"script s.txt"),
     (b"trial 0 1 1", b"trial 1 least"),
     (b"trial 18446744073709551615 200000 64", b"trial 64 most"),

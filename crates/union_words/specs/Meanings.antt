@@ -5,13 +5,13 @@ use Rattle.union_words.specs.declared.libraries.Libraries.{Libraries}
 use Rattle.union_words.specs.declared.loading.Loading.{Loading as LoadingInPlace}
 use Rattle.union_words.specs.declared.options.Options.{Options as OptionsInPlace}
 use Rattle.union_words.specs.declared.job.Job.{Job as JobInPlace}
-use Rattle.union_words.specs.declared.job.Job.TheVariants.{Check as CheckInPlace, ToJson as ToJsonInPlace, FromJson as FromJsonInPlace, Export as ExportInPlace, Works as WorksInPlace, Watch as WatchInPlace, Script as ScriptInPlace, Trial as TrialInPlace, Help as HelpInPlace, Version as VersionInPlace}
+use Rattle.union_words.specs.declared.job.Job.TheVariants.{Check as CheckInPlace, ToJson as ToJsonInPlace, FromJson as FromJsonInPlace, Export as ExportInPlace, Works as WorksInPlace, Watch as WatchInPlace, Follow as FollowInPlace, Script as ScriptInPlace, Trial as TrialInPlace, Help as HelpInPlace, Version as VersionInPlace}
 use Rattle.union_words.specs.declared.trial.Trial.{Trial as TrialOfNumbers}
 use Rattle.union_words.specs.declared.script_line.ScriptLine.{ScriptLine as LineInPlace}
 use Rattle.union_words.specs.declared.script_line.ScriptLine.TheVariants.{Load as LoadInPlace, Export as ExportLineInPlace, Works as WorksLineInPlace, Notices as NoticesInPlace, Ask as AskInPlace, Word as WordInPlace}
 use Rattle.union_words.specs.ScriptLines.{ScriptLine, Load, Notices, Ask, Word}
 use Rattle.union_words.specs.ScriptLines as lines
-use Rattle.union_words.specs.Words.{LibraryFile, Loading, Options, Job, Check, ToJson, FromJson, Export, Works, Watch, Script, Trial, Help, Version, libraries_of}
+use Rattle.union_words.specs.Words.{LibraryFile, Loading, Options, Job, Check, ToJson, FromJson, Export, Works, Watch, Follow, Script, Trial, Help, Version, libraries_of}
 
 -- the library and the path that the code borrows
 abbrev pub file_meaning : FileInPlace → LibraryFile
@@ -45,6 +45,7 @@ job_meaning (FromJsonInPlace file) = FromJson (file_meaning file)
 job_meaning (ExportInPlace form loading) = Export form (loading_meaning loading)
 job_meaning (WorksInPlace loading) = Works (loading_meaning loading)
 job_meaning (WatchInPlace asks loading) = Watch asks.now (loading_meaning loading)
+job_meaning (FollowInPlace asks libraries) = Follow asks.now (libraries_meaning libraries)
 job_meaning (ScriptInPlace path) = Script path.now
 job_meaning (TrialInPlace trial) = trial_meaning trial
 job_meaning HelpInPlace = Help

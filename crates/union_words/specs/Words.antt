@@ -29,6 +29,7 @@ pub data Job : Type 0 where
   Export : (form : Form) (loading : Loading) → Job
   Works : (loading : Loading) → Job
   Watch : (asks : List ℕ) (loading : Loading) → Job
+  Follow : (asks : List ℕ) (libraries : List LibraryFile) → Job
   Script : (path : List ℕ) → Job
   Trial : (seed : ℕ) (count : ℕ) (workers : ℕ) → Job
   Help : Job
@@ -42,6 +43,7 @@ has_report (FromJson file) = true
 has_report (Export form loading) = true
 has_report (Works loading) = true
 has_report (Watch asks loading) = true
+has_report (Follow asks libraries) = true
 has_report (Script path) = false
 has_report (Trial seed count workers) = false
 has_report Help = false
@@ -195,6 +197,16 @@ abbrev pub watch_job : List (List ℕ) → Option Job
 watch_job [] = None
 watch_job (word ∷ rest) = asking_job (ask_word word) rest
 
+-- after the word that names the file of questions of `follow`
+abbrev pub following_job : Option (List ℕ) → List (List ℕ) → Option Job
+following_job None words = None
+following_job (Some asks) words = (if are_libraries words then Some (Follow asks (libraries_of words)) else None)
+
+-- and after `follow`
+abbrev pub follow_job : List (List ℕ) → Option Job
+follow_job [] = None
+follow_job (word ∷ rest) = following_job (ask_word word) rest
+
 -- a path after `script`
 abbrev pub script_job : List (List ℕ) → Option Job
 script_job (word ∷ []) = (if is_path word then Some (Script word) else None)
@@ -231,8 +243,9 @@ command_job command words =
     else (if is_text command (codes "export") then export_job words
     else (if is_text command (codes "works") then works_job words
     else (if is_text command (codes "watch") then watch_job words
+    else (if is_text command (codes "follow") then follow_job words
     else (if is_text command (codes "script") then script_job words
-    else (if is_text command (codes "trial") then trial_job words else None))))))))
+    else (if is_text command (codes "trial") then trial_job words else None)))))))))
 
 -- what the words after the program's name ask for: None where they are in no form that the program has
 abbrev pub job_of : List (List ℕ) → Option Job

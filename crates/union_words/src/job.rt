@@ -5,6 +5,7 @@ ghost use Rattle.union_words.specs.Meanings.{job_meaning};
 ghost use Rattle.union_words.specs.Words;
 
 use crate::form::{Form, form_in};
+use crate::libraries::Libraries;
 use crate::library_file::{LibraryFile, is_path};
 use crate::loading::Loading;
 use crate::number::option_text;
@@ -27,6 +28,8 @@ pub enum Job<'a> {
     Works(Loading<'a>),
     /// `watch --ask=PATH [--workers=N] [--prefer=LIB,..] LIB=PATH ..`: load, and answer the questions of that file beside.
     Watch(&'a [u8], Loading<'a>),
+    /// `follow --ask=PATH LIB=PATH ..`: load one library after the other, and answer the questions of that file beside.
+    Follow(&'a [u8], Libraries<'a>),
     /// `script PATH`: run a script.
     Script(&'a [u8]),
     /// `trial SEED COUNT WORKERS`: generate records, load them and measure the catalogue.
@@ -80,6 +83,8 @@ fn command_job<'a>(command: &[u8], words: &'a [Bytes]) -> Option<Job<'a>>
         works_job(words)
     } else if command == b"watch".as_slice() {
         watch_job(words)
+    } else if command == b"follow".as_slice() {
+        follow_job(words)
     } else if command == b"script".as_slice() {
         script_job(words)
     } else if command == b"trial".as_slice() {
@@ -162,6 +167,25 @@ fn asking_job<'a>(asks: &'a [u8], words: &'a [Bytes]) -> Option<Job<'a>>
     let common = Options::read(words);
     match Loading::read(common.workers, common.prefer, common.rest) {
         Some(loading) => Some(Job::Watch(asks, loading)),
+        None => None,
+    }
+}
+
+fn follow_job(words: &[Bytes]) -> Option<Job<'_>>
+    ensures { option_map job_meaning result ≡ Words.follow_job words.now }
+{
+    match words {
+        [word, words @ ..] => following_job(ask_word(word.bytes())?, words),
+        [] => None,
+    }
+}
+
+/// What `follow` asks for with the file of questions of that path.
+fn following_job<'a>(asks: &'a [u8], words: &'a [Bytes]) -> Option<Job<'a>>
+    ensures { option_map job_meaning result ≡ Words.following_job (Some asks.now) words.now }
+{
+    match Libraries::read(words) {
+        Some(libraries) => Some(Job::Follow(asks, libraries)),
         None => None,
     }
 }

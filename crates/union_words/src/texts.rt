@@ -24,6 +24,9 @@ USAGE
     union watch --ask=PATH [--workers=N] [--prefer=LIB,..] LIB=PATH ..
                                  load the files, and answer the questions of a
                                  file beside
+    union follow --ask=PATH LIB=PATH ..
+                                 load one file after the other, and answer the
+                                 questions of a file without waiting for a turn
     union script PATH            run a script
     union trial SEED COUNT WORKERS
                                  generate COUNT records, load them and measure
@@ -35,9 +38,9 @@ USAGE
     file, at least one byte and UTF-8: everything after the first '='.
     A path is taken from the folder in which union runs, also one in a script.
     '-' is no file: standard input is /dev/stdin.
-    export, works and watch take 1 to 64 libraries, each under a code of its
-    own. N workers load them at once, 1 to 64: without the option there are 4.
-    With --json the export is MARC in JSON. Options stand in the order above.
+    export, works, watch and follow take 1 to 64 libraries, each under a code of
+    its own. N workers load them at once, 1 to 64: without the option there are
+    4. With --json the export is MARC in JSON. Options stand in the order above.
     --prefer has 1 to 64 different codes, the most trusted first. An edition has
     its leader and 008, and each of 005, 010, 040, 1XX, 240 and 245, of the one
     record that has it and whose library is named first; a library that is not
@@ -105,6 +108,10 @@ WHAT GOES WHERE
               question is asked when all is loaded, and with one worker so is
               each; the others are asked meanwhile.
               Standard error is as with works.
+    follow    As watch, but the libraries are loaded one after the other, in the
+              order of the command, and an answer is over the turns that were
+              published when it was asked for. The last question is asked when
+              all is loaded.
     script    Standard output has what each line writes: a load its report, a
               question its answer. After a line 'notices' each load first has
               for each of its turns a line 'notice T', the turn's number, and
@@ -146,6 +153,8 @@ EXAMPLES
         union export --prefer=LIBB LIBA=liba.mrc LIBB=libb.mrc > union.mrc
     Questions that are answered while two libraries are loaded:
         union watch --ask=questions.txt LIBA=liba.mrc LIBB=libb.mrc
+    The same, with readers that never wait for a turn:
+        union follow --ask=questions.txt LIBA=liba.mrc LIBB=libb.mrc
     What a night's script comes to:
         union script night.txt
     The measures of a catalogue of 20000 generated records:
