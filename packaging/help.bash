@@ -94,18 +94,18 @@ wrong_word() {
         [ -n "$wrong" ] || wrong=$(wrong_number "$3" "$3" 1 64)
       fi
       ;;
-    export | works | watch)
-      if [ "$command" = watch ]; then
+    export | works | watch | follow)
+      if [ "$command" = watch ] || [ "$command" = follow ]; then
         case ${1-} in
           --ask=?*) shift ;;
-          *) wrong="watch begins with --ask=PATH, the file of questions" ;;
+          *) wrong="$command begins with --ask=PATH, the file of questions" ;;
         esac
       fi
-      if [[ -z $wrong && ${1-} == --workers=* ]]; then
+      if [[ -z $wrong && $command != follow && ${1-} == --workers=* ]]; then
         wrong=$(wrong_number "$1" "${1#--workers=}" 1 64)
         shift
       fi
-      if [[ -z $wrong && ${1-} == --prefer=* ]]; then
+      if [[ -z $wrong && $command != follow && ${1-} == --prefer=* ]]; then
         wrong=$(wrong_preference "${1#--prefer=}")
         shift
       fi

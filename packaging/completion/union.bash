@@ -4,7 +4,7 @@ _union() {
   local word=$2 command=${COMP_WORDS[1]-} path code
   COMPREPLY=()
   if [ "$COMP_CWORD" -eq 1 ]; then
-    mapfile -t COMPREPLY < <(compgen -W "check export works watch script trial --help --version" -- "$word")
+    mapfile -t COMPREPLY < <(compgen -W "check export works watch follow script trial --help --version" -- "$word")
     return
   fi
   # The line is parted at each '=', so the word after one is a path.
@@ -26,6 +26,10 @@ _union() {
     watch)
       compopt -o nospace 2>/dev/null
       mapfile -t COMPREPLY < <(compgen -W "--ask= --workers= --prefer=" -- "$word")
+      ;;
+    follow)
+      compopt -o nospace 2>/dev/null
+      mapfile -t COMPREPLY < <(compgen -W "--ask=" -- "$word")
       ;;
   esac
 }
