@@ -1,4 +1,4 @@
-"""Judges what `watch` wrote with several workers, where more than one text is right.
+"""Judges what `watch` with several workers or `follow` wrote, where more than one text is right.
 
     python3 check_watch.py CASE STATUS OUTFILE NOTESFILE
 
@@ -7,7 +7,8 @@ its standard output and standard error. `answers.json` in the folder has the lib
 of the words, the numbers of operations of their turns, the lines of the ask file, and the answers
 for each number of turns taken of each library. It is to hold that
 - the `turn` lines are numbered from 1, and their order is an interleaving of the
-  libraries' turns, each library's in their order and with their numbers of operations;
+  libraries' turns, each library's in their order and with their numbers of operations; of
+  `follow` all turns of a library stand before those of the next;
 - then there is one text per line of the ask file, in order: the refused line, or a reply;
 - the T of the replies have at least six digits, never fall and are at most the number of
   all turns; the last reply has that number;
@@ -23,6 +24,8 @@ import sys
 def problem(case, status, out, notes):
     with open(os.path.join(case, "answers.json"), encoding="utf-8") as f:
         want = json.load(f)
+    with open(os.path.join(case, "args"), encoding="utf-8") as f:
+        in_order = f.readline() == "follow\n"
     with open(os.path.join(case, "notes"), "rb") as f:
         if f.read() != notes:
             return "notes differ"
@@ -40,7 +43,8 @@ def problem(case, status, out, notes):
         if at == len(lines):
             return "turn %d is missing" % turn
         for place, library in enumerate(want["libraries"]):
-            if taken[place] < len(want["turns"][place]):
+            earlier = all(n == len(t) for n, t in zip(taken[:place], want["turns"]))
+            if taken[place] < len(want["turns"][place]) and (earlier or not in_order):
                 line = "turn %06d %s %d" % (turn, library, want["turns"][place][taken[place]])
                 if lines[at] == line.encode():
                     taken[place] += 1
