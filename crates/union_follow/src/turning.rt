@@ -1,0 +1,73 @@
+//! One turn: a batch is applied to the catalogue of the load, and published.
+ghost use Rattle.std.specs.Prelude.{◌≡◌, ◌<◌, ◌++◌, ◌∷◌, [], IfOk, OnOk};
+ghost use Rattle.catalogue_core.specs.Histories.{current, outcomes};
+ghost use Rattle.union_follow.specs.Turning.{IsShown};
+
+use catalogue_core::batch::Batch;
+use catalogue_core::catalogue::Catalogue;
+use catalogue_core::history_entry::HistoryEntry;
+use catalogue_core::outcome::Outcome;
+use merge_laws::steps::Steps;
+use snapshot_desk::publisher::Publisher;
+use std::alloc::Global;
+use std::marker::Brand;
+use std::sync::Wait;
+use std::sync::ledger::{Blank, Ledger};
+use union_base::copied::Copied;
+use union_base::memory::Memory;
+use union_sessions::reports::Reports;
+
+/// A load: its catalogue, the publisher that shows its history, and the reports of the libraries that are loaded.
+pub struct Load {
+    pub catalogue: Catalogue,
+    pub publisher: Publisher,
+    pub reports: Reports,
+}
+
+/// Applies a batch under that number, with the match tests counted in a ledger of their own. Answers what came of its operations.
+///
+/// Returns `Memory` if allocation fails; the catalogue is as before then.
+fn apply_by<L: Ledger>(
+    alloc: Global,
+    catalogue: &mut Catalogue,
+    pass: u32,
+    batch: Batch,
+    blank: Blank,
+) -> Result<Vec<Outcome>, Memory>
+    requires name { blank.name ≡ L.name }
+    requires parts { blank.parts ≡ L.parts }
+    requires some { 0 < L.parts }
+    ensures appended { OnOk result (catalogue.new
+        ≡ catalogue.old ++ record { pass = pass; batch = batch } ∷ []) }
+    ensures outcomes { IfOk result (λ found.
+        found.items ≡ outcomes batch.library (current catalogue.old) batch.ops) }
+{
+    let mut steps: Steps<L> = Steps::open(blank);
+    catalogue.apply(alloc, pass, batch, &mut steps)
+}
+
+/// Applies a batch under that number and publishes the turn. Answers what came of the batch's operations.
+///
+/// Returns `Memory` if allocation fails. The turn may be applied then and not published.
+pub fn publish_batch<R: Wait>(
+    rt: &R,
+    alloc: Global,
+    load: &mut Load,
+    pass: u32,
+    batch: Batch,
+) -> Result<Vec<Outcome>, Memory>
+    requires shown { IsShown load.old.catalogue load.old.publisher }
+    ensures book { load.new.publisher.book ≡ load.old.publisher.book }
+    ensures reports { load.new.reports ≡ load.old.reports }
+    ensures appended { OnOk result (load.new.catalogue
+        ≡ load.old.catalogue ++ record { pass = pass; batch = batch } ∷ []) }
+    ensures outcomes { IfOk result (λ found.
+        found.items ≡ outcomes batch.library (current load.old.catalogue) batch.ops) }
+    ensures shown { OnOk result (IsShown load.new.catalogue load.new.publisher) }
+{
+    let copy = batch.copied(alloc)?;
+    let found = apply_by::<Brand>(alloc, &mut load.catalogue, pass, batch, Blank::new(1))?;
+    load.publisher.add(HistoryEntry { pass, batch: copy })?;
+    load.publisher.publish(rt)?;
+    Ok(found)
+}
