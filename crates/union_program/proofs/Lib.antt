@@ -1,2 +1,3 @@
 mod AnsweredLaws
+mod FollowLaws
 mod JsonLaws

@@ -1,9 +1,10 @@
 //! The loading of libraries' files, and the answers to the questions of a file beside it.
-ghost use Rattle.std.specs.Prelude.{◌≡◌, ◌++◌, map, length, IfOk};
+ghost use Rattle.std.specs.Prelude.{◌≡◌, ◌++◌, [], map, length, IfOk};
 ghost use Rattle.union_words.specs.Flows.{shelf_flow};
 ghost use Rattle.union_words.specs.Meanings.{libraries_meaning, loading_meaning};
-ghost use Rattle.union_files.specs.Inputs.{Gathers};
+ghost use Rattle.union_files.specs.Inputs.{Gathers, deliveries};
 ghost use Rattle.union_files.specs.Unions.{HasUnited};
+ghost use Rattle.union_follow.specs.Following.{HasFollowed};
 ghost use Rattle.union_watch.specs.AskLines.{line_meaning, asked_lines, lines_in, questions_in, has_refused_line};
 ghost use Rattle.union_watch.specs.Lateness.{beside, late, AreTimely};
 ghost use Rattle.union_watch.specs.Told.{AreTold, numbers_of, told_of};
@@ -15,6 +16,7 @@ use std::alloc::{AllocError, Global};
 use std::sync::Wait;
 use std::thread::Threads;
 use union_base::memory::Memory;
+use union_follow::following::follow_and_ask;
 use union_io::gate::Gate;
 use union_io::shelf::Shelf;
 use union_sessions::sessions::load_and_ask;
@@ -23,8 +25,12 @@ use union_watch::answered::Answered;
 use union_watch::ask_file::AskFile;
 use union_watch::ask_line::AskLine;
 use union_watch::questions::divide;
+use union_words::libraries::Libraries;
 use union_words::loading::Loading;
 use union_words::status::Status;
+
+/// How many workers `follow` counts as: one loads, and one asks.
+const FOLLOWERS: u32 = 2;
 
 /// The lines of a file of questions, and the questions of those that ask something.
 #[derive(Drop)]
@@ -106,6 +112,43 @@ pub fn load_and_answer<'a, R: Threads + Wait + Sync, F: Shelf, G: Gate>(
         refused,
     } = asked;
     match load_and_ask(host.rt, host.alloc, loading, questions, shelf, host.gate) {
+        Ok(watched) => Ok(answered(watched, lines, refused)),
+        Err(status) => Err(status),
+    }
+}
+
+/// Reads the lines of a file of questions, loads the files of the libraries one after the other, and asks beside the load and
+/// after it, without a wait for a turn.
+///
+/// # Errors
+///
+/// As those of `follow_and_ask`: the first file that could not be opened, or read to its end, or is too long; or `Memory`.
+pub fn follow_and_answer<'a, R: Threads + Wait + Sync, F: Shelf, G>(
+    host: &Host<'_, R, G>,
+    text: &'a [u8],
+    libraries: &Libraries<'_>,
+    shelf: &mut F,
+) -> Result<Answered<'a>, Status>
+    ensures gathers { Gathers result (libraries_meaning libraries.now)
+        (shelf_flow F.files F.faults shelf.old shelf.new)
+        (λ answered contents. HasFollowed (deliveries [] contents (libraries_meaning libraries.now))
+        answered.loaded) }
+    ensures lines { IfOk result (λ answered. map line_meaning answered.lines.items ≡ lines_in text.now) }
+    ensures told { IfOk result (λ answered. AreTold answered.loaded.catalogue (asked_lines text.now)
+        (told_of (lines_in text.now) (answered.beside.items ++ answered.late.items))) }
+    ensures timely { IfOk result (λ answered. AreTimely 2 (length answered.loaded.catalogue)
+        (numbers_of (told_of (lines_in text.now) (answered.beside.items ++ answered.late.items)))) }
+    ensures refused { IfOk result (λ answered. answered.refused ≡ has_refused_line text.now) }
+{
+    let Ok(asked) = read_asked(host.alloc, FOLLOWERS, text) else {
+        return Err(Status::Memory);
+    };
+    let Asked {
+        lines,
+        questions,
+        refused,
+    } = asked;
+    match follow_and_ask(host.rt, host.alloc, libraries, questions, shelf) {
         Ok(watched) => Ok(answered(watched, lines, refused)),
         Err(status) => Err(status),
     }

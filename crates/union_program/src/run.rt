@@ -5,7 +5,7 @@
 ghost use Rattle.std.specs.Prelude.{◌≡◌, ◌≢◌, ◌↔◌, ◌⊎◌, ℕ, List, IsTrue, Some, None, false};
 ghost use Rattle.std.specs.Io.KnownBytes.{Keeps};
 ghost use Rattle.union_io.specs.Counts.{SameElsewhere};
-ghost use Rattle.union_words.specs.Meanings.{loading_meaning};
+ghost use Rattle.union_words.specs.Meanings.{libraries_meaning, loading_meaning};
 ghost use Rattle.union_words.specs.Texts.{early_text};
 ghost use Rattle.union_words.specs.Words;
 ghost use Rattle.union_words.specs.Flows.{shelf_flow, file_flow, outflow, IsNoted};
@@ -14,10 +14,11 @@ ghost use Rattle.union_words.specs.declared.form.Form.{Form as ExportForm};
 ghost use Rattle.union_script.specs.Runs.{IsScript};
 ghost use Rattle.union_trial.specs.Trials.{IsTrial};
 ghost use Rattle.union_watch.specs.Runs.{watch_of, IsWatchRun};
+ghost use Rattle.union_program.specs.Follow.{IsFollowRun};
 ghost use Rattle.union_commands.specs.Runs.{exported_as, listed, showing_of, IsCheck, IsUnionRun, IsTold};
 ghost use Rattle.union_json.specs.Runs.{IsToJsonRun, IsFromJsonRun};
 
-use crate::answering::load_and_answer;
+use crate::answering::{follow_and_answer, load_and_answer};
 use crate::host::Host;
 use crate::json::{from_json_file, to_json_file};
 use std::alloc::Global;
@@ -38,6 +39,7 @@ use union_script::run::script_run;
 use union_sessions::sessions::load_by_sessions;
 use union_trial::trial::trial_run;
 use union_words::job::Job;
+use union_words::libraries::Libraries;
 use union_words::library_file::LibraryFile;
 use union_words::loading::Loading;
 use union_words::status::Status;
@@ -216,6 +218,29 @@ fn run_watch<R: Threads + Wait + Sync, F: Shelf, O: Sink, N: Sink, G: Gate>(
     }
 }
 
+/// Loads the files of libraries one after the other, and shows their turns and the answers to the questions of a file.
+fn run_follow<R: Threads + Wait + Sync, F: Shelf, O: Sink, N: Sink, G>(
+    host: &Host<'_, R, G>,
+    asks: &[u8],
+    libraries: &Libraries<'_>,
+    shelf: &mut F,
+    out: &mut O,
+    notes: &mut N,
+) -> Status
+    ensures run { IsFollowRun asks.now (libraries_meaning libraries.now) (shelf_flow F.files F.faults shelf.old shelf.new)
+        (outflow O.written O.faults out.old out.new) (outflow N.written N.faults notes.old notes.new) result }
+    ensures noted { IsTrue (is_early result)
+        → IsNoted (outflow N.written N.faults notes.old notes.new) (early_text result) }
+{
+    match read_asks(host.alloc, asks, shelf) {
+        Ok(text) => match follow_and_answer(host, text.as_slice(), libraries, shelf) {
+            Ok(answered) => write_answered(host.alloc, answered, out, notes),
+            Err(status) => end(notes, status),
+        },
+        Err(status) => end(notes, status),
+    }
+}
+
 /// Does what the words after the program's name say.
 ///
 /// | Words | `out` | `notes` |
@@ -226,6 +251,7 @@ fn run_watch<R: Threads + Wait + Sync, F: Shelf, O: Sink, N: Sink, G: Gate>(
 /// | `export LIB=PATH ..` | the union catalogue of the libraries' current records; with `--json` as lines of JSON | the reports |
 /// | `works LIB=PATH ..` | its works | the reports |
 /// | `watch --ask=PATH LIB=PATH ..` | the turns in the order in which they were made, and the answers to the file's questions | the reports |
+/// | `follow --ask=PATH LIB=PATH ..` | the same, where the libraries are loaded one after the other | the reports |
 /// | `script PATH` | what the lines of the script write | |
 /// | `trial SEED COUNT WORKERS` | the measures of a catalogue of generated records | |
 /// | `--help`, `--version` | a text of the program's own | |
@@ -268,6 +294,9 @@ pub fn union_run<R: Threads + Wait + Sync, F: Shelf, O: Sink, N: Sink, G: Gate>(
         (outflow O.written O.faults out.old out.new) (outflow N.written N.faults notes.old notes.new) result }
     ensures watch { (asks : List ℕ) (loading : Words.Loading) → Words.job_of words.now ≡ Some (Words.Watch asks loading)
         → IsWatchRun (watch_of asks loading) (shelf_flow F.files F.faults shelf.old shelf.new)
+        (outflow O.written O.faults out.old out.new) (outflow N.written N.faults notes.old notes.new) result }
+    ensures follow { (asks : List ℕ) (libraries : List Words.LibraryFile) → Words.job_of words.now ≡ Some (Words.Follow asks libraries)
+        → IsFollowRun asks libraries (shelf_flow F.files F.faults shelf.old shelf.new)
         (outflow O.written O.faults out.old out.new) (outflow N.written N.faults notes.old notes.new) result }
     ensures script { (path : List ℕ) → Words.job_of words.now ≡ Some (Words.Script path) → IsScript path
         (shelf_flow F.files F.faults shelf.old shelf.new)
@@ -316,6 +345,9 @@ pub fn union_run<R: Threads + Wait + Sync, F: Shelf, O: Sink, N: Sink, G: Gate>(
         }
         Some(Job::Works(loading)) => run_union(&host, Shown::Works, &loading, shelf, out, notes),
         Some(Job::Watch(asks, loading)) => run_watch(&host, asks, &loading, shelf, out, notes),
+        Some(Job::Follow(asks, libraries)) => {
+            run_follow(&host, asks, &libraries, shelf, out, notes)
+        }
         Some(Job::Script(path)) => {
             let status = run_script(alloc, path, shelf, out);
             end(notes, status)
