@@ -4,4 +4,8 @@
 #![tactic(auto)]
 
 #[cfg(test)]
+mod records;
+#[cfg(test)]
 mod snapshot_desk_tests;
+#[cfg(test)]
+mod two_threads_tests;
