@@ -67,7 +67,7 @@ fn longer_record_is_refused(rt: HostRuntime) -> Result<(), Fail> {
 }
 
 /// Words that name a file of which a read fails or that is not there, and whether that is so and what is told.
-const FAULTS: [(&[u8], bool, &[u8]); 3] = [
+const FAULTS: [(&[u8], bool, &[u8]); 5] = [
     (
         b"export LIBA=a LIBB=b LIBC=c",
         false,
@@ -79,6 +79,16 @@ const FAULTS: [(&[u8], bool, &[u8]); 3] = [
         b"union: cannot open LIBB\n",
     ),
     (b"export LIBA=b LIBB=x", true, b"union: cannot open LIBB\n"),
+    (
+        b"follow --ask=c LIBA=a LIBB=b",
+        false,
+        b"union: read failed in LIBB\n",
+    ),
+    (
+        b"follow --ask=c LIBA=a LIBB=x",
+        true,
+        b"union: cannot open LIBB\n",
+    ),
 ];
 
 #[test]
@@ -116,5 +126,28 @@ fn each_fault_of_a_library_has_its_status(rt: HostRuntime) -> Result<(), Fail> {
             (front, b"")
         )?
     );
+    Ok(())
+}
+
+/// The words that load two files one after the other, in each order, and what is written of the turns and of one question.
+const FOLLOWED: [(&[u8], &[u8], &[u8]); 2] = [
+    (
+        b"follow --ask=c LIBA=a LIBB=b",
+        b"turn 000001 LIBA 1\nturn 000002 LIBB 1\nreply 000002 count\neditions 2 works 2 records 2\n",
+        b"LIBA frames 1 added 1 replaced 0 removed 0 absent 0 refused 0\nLIBB frames 1 added 1 replaced 0 removed 0 absent 0 refused 0\n",
+    ),
+    (
+        b"follow --ask=c LIBB=b LIBA=a",
+        b"turn 000001 LIBB 1\nturn 000002 LIBA 1\nreply 000002 count\neditions 2 works 2 records 2\n",
+        b"LIBB frames 1 added 1 replaced 0 removed 0 absent 0 refused 0\nLIBA frames 1 added 1 replaced 0 removed 0 absent 0 refused 0\n",
+    ),
+];
+
+#[test]
+fn libraries_are_followed_in_the_order_of_the_words(rt: HostRuntime) -> Result<(), Fail> {
+    let files = calm(ONE, OTHER, b"count");
+    for (line, out, notes) in FOLLOWED {
+        assert!(rt; ends(&rt, rt.alloc(), line, &files, Status::Done, (out, notes))?);
+    }
     Ok(())
 }
