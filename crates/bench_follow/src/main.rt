@@ -30,12 +30,14 @@ fn main(rt: HostRuntime) -> io::Result<()> {
     let mut shelf = FileShelf::new(alloc, rt.clone()?);
     let is_beside = first.bytes() == b"beside".as_slice();
     match measured(&rt, alloc, &libraries, is_beside, &mut shelf) {
-        Ok(Measures {
-            load,
-            turns,
-            answers,
-            slowest,
-        }) => println!(rt; "load {load} turns {turns} answers {answers} slowest {slowest}"),
+        Ok(
+            Measures {
+                load,
+                turns,
+                answers,
+                slowest,
+            },
+        ) => println!(rt; "load {load} turns {turns} answers {answers} slowest {slowest}"),
         Err(Memory) => println!(rt; "not loaded"),
     }
 }

@@ -97,12 +97,7 @@ fn publish_both<R: Wait>(rt: &R, gates: &Gates, this: &mut Publishing) -> Result
 
 /// Answers while one entry is published and one is pending, and when both are published. Both threads borrow the handle: of two
 /// closures that borrow different things beside their own the borrow checker proves nothing.
-fn view_twice<R>(
-    _rt: &R,
-    alloc: Global,
-    gates: &Gates,
-    this: &mut Viewing,
-) -> Result<(), Memory>
+fn view_twice<R>(_rt: &R, alloc: Global, gates: &Gates, this: &mut Viewing) -> Result<(), Memory>
     ensures { this.new.viewer.book ≡ this.old.viewer.book }
 {
     gates.first.wait()?;
@@ -164,8 +159,14 @@ fn a_view_during_a_held_publish_is_over_the_old_list(rt: HostRuntime) -> Result<
         late,
     } = viewing;
     publisher.close(&rt, viewer);
-    assert!(rt; viewed == Ok(()) && published == Ok(2), "both threads ended");
-    assert!(rt; early == Some((1, true)), "while the second entry is pending");
+    assert!(rt;
+        viewed == Ok(()) && published == Ok(2),
+        "both threads ended"
+    );
+    assert!(rt;
+        early == Some((1, true)),
+        "while the second entry is pending"
+    );
     assert!(rt; late == Some((2, true)), "when both are published");
     Ok(())
 }
