@@ -34,7 +34,7 @@ use Rattle.catalogue_core.specs.Keeping.{batches, loaded_at}
 use Rattle.catalogue_core.specs.Kept.{IsKept}
 use Rattle.catalogue_editions.specs.Matching.{match}
 use Rattle.catalogue_editions.specs.MatchLaws.{edition_match_laws}
-use Rattle.catalogue_core.specs.Walks.{first_of, first_behind, holder_of}
+use Rattle.catalogue_core.specs.Walks.{holder_of}
 use Rattle.catalogue_editions.specs.declared.edition.Edition.{Edition}
 use Rattle.catalogue_core.specs.declared.history_entry.HistoryEntry.{HistoryEntry}
 use Rattle.record_homes.specs.declared.home.Home.{Home}
