@@ -3,7 +3,7 @@ use Rattle.std.specs.Prelude.{OnOk, OnErr}
 use Rattle.catalogue_editions.specs.declared.edition.Edition.{Edition}
 use Rattle.catalogue_export.specs.Editions.{left_of_one, left_of}
 use Rattle.catalogue_json.specs.JsonExport.{edition_line, json_export_text}
-use Rattle.catalogue_export.specs.Writing.{HasWritten, GainsFront}
+use Rattle.catalogue_export.specs.Writing.{HasWritten, GainsFront, Output}
 use Rattle.catalogue_export.proofs.WritingLaws.{none-written, gains-none}
 use Rattle.catalogue_json.proofs.json_export.export_json.Goals as goal
 
@@ -11,7 +11,7 @@ pub returns-in-Ok : goal.returns-in-Ok
 returns-in-Ok g c =
     let editions = c.editions.ensures in
     let same = ap (map (λ (e : Bor Edition). e.now)) c.as_slice.ensures.value ∙ c.in-Ok.ensures.2 in
-    let out = record { old = g.O.Sink.written c.args.out.now; new = g.O.Sink.written c.write_editions.new.out; before = g.O.Sink.faults c.args.out.now; after = g.O.Sink.faults c.write_editions.new.out } in (
+    let out : Output = record { old = g.O.Sink.written c.args.out.now; new = g.O.Sink.written c.write_editions.new.out; before = g.O.Sink.faults c.args.out.now; after = g.O.Sink.faults c.write_editions.new.out } in (
       c.in-Ok.ensures.0,
       c.in-Ok.ensures.1,
       subst (λ all. HasWritten (json_export_text all) out c.write_editions.result) same c.write_editions.ensures.written,
