@@ -12,9 +12,9 @@ loop-edition-preserved c =
     let all = map (λ (e : Bor Edition). e.now) c.args.editions.now in
     let place = c.loop-edition.edition-index in
     let at = seen-at c.args.editions.now place c.edition-item.result c.loop-edition-test.true c.edition-item.is in
-    let bound = c.in_ok-record_size.ensures.bound in
+    let bound = c.in_ok-size.ensures.bound in
     record {
-      sized = (λ i. before.sized i + c.in_ok-record_size.ensures.value i) ∙ sym (size-more all place c.edition-item.result.now at);
+      sized = (λ i. before.sized i + c.in_ok-size.ensures.value i) ∙ sym (size-more all place c.edition-item.result.now at);
       within = omega (arith, before.within, bound);
     }
 
