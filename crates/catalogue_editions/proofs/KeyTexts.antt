@@ -1,253 +1,144 @@
--- A work key has none of the bytes that part records, fields and subfields.
-use Rattle.std.proofs.Common.{◌≡◌, ℕ, ◌+◌, ◌/◌, ◌%◌, ◌≤◌, Bool, true, false, cond, not, eqb, ◌||◌, List, [], ◌∷◌, ◌++◌, encode_utf8, encode_utf8_all, refl, sym, ◌∙◌, ap, arith, map}
-use Rattle.std.specs.Prelude.{nat_lt, fold, chars, codes, Option, Some, None}
-use Rattle.std.specs.List.{list_all, list_any, slice_split, onto_first}
-use Rattle.std.specs.Ordering.{nat_cmp, is_lt}
+-- A work key is UTF-8, and has none of the bytes that part records, fields and subfields.
+use Rattle.std.proofs.Common.{◌≡◌, ℕ, zero, suc, ◌<◌, true, if◌then◌else◌, List, [], ◌∷◌, ◌++◌, refl, ◌∙◌, ap, arith, map}
+use Rattle.std.specs.Prelude.{nat_lt, codes, filter, Option, unwrap_or}
 use Rattle.std.specs.Cmp.Lexicographic.{slice_cmp}
-use Rattle.std.proofs.Math.Utf8.{encode}
+use Rattle.std.specs.FinMap.{empty, get-empty}
+use Rattle.std.specs.Option.{option_and_then}
+use Rattle.std.specs.Ordering.{nat_cmp}
+use Rattle.std.specs.List.{list_all}
+use Rattle.std.specs.Str.{IsAscii, is_utf8}
+use Rattle.std.proofs.lemmas.Str.{is_utf8-from_IsUtf8, IsUtf8-from_ascii}
 use Rattle.std.proofs.lemmas.Bool.Decides.{nat_tests}
-use Rattle.std.proofs.lemmas.List.Folds.{list_all-append}
 use Rattle.union_base.specs.Both.{both_true, true_both}
-use Rattle.union_base.specs.Fields.{is_text_byte, is_text}
+use Rattle.union_base.specs.Fields.{is_text_byte}
 use Rattle.union_base.specs.LibraryCodes.{is_library_code, may_stand}
-use Rattle.union_base.specs.Bodies.{Subfield, subfields_of}
 use Rattle.union_base.specs.declared.field.Field.{Field}
 use Rattle.union_base.specs.declared.record_id.RecordId.{RecordId}
 use Rattle.marc_leader.specs.Codes.{is_printable}
 use Rattle.marc_parts.specs.Loads.{has_number_shape}
-use Rattle.naco_normal.specs.declared.form.Comma.{Comma}
-use Rattle.naco_normal.specs.declared.form.Comma.TheVariants.{First, None as NoComma}
-use Rattle.naco_normal.specs.Normal.{Mark, comma_sign, is_letter_or_number, is_kept, kept_marked, first_comma_marked, comma_marked, others_blank, letters, normal_form}
-use Rattle.naco_normal.specs.Words.{blank, is_empty, joined_words, joined}
-use Rattle.naco_normal.proofs.WordsLemmas.{joined_words-cons}
-use Rattle.naco_normal.specs.Heading.{chosen, main_code, part_forms, form_with_comma, form_without_comma, form_skipping, skipped, heading_of, title_of}
-use Rattle.workset_keys.specs.Names.{first_indicator, second_indicator, skip_of, name_of, name_codes, title130_of, title245_of}
-use Rattle.workset_keys.specs.WorkKeys.{is_uniform_title, main_name, main_title, uniform_title, lesser, least_name, or_else, key_by_title, key_without_name, own_name, work_key}
-use Rattle.ucd_category.proofs.Computing.{ucd_category}
+use Rattle.naco_normal.specs.Words.{is_empty}
+use Rattle.workset_keys.specs.Names.{name_of}
+use Rattle.workset_keys.specs.Texts.{is_key_text}
+use Rattle.workset_keys.specs.WorkKeys.{main_name, least_of, or_else, own_name, key_of_names, work_key}
+use Rattle.workset_keys.proofs.KeyTexts.{key-both, key-either, key-append, key-name, key-main_name, key-least_of, key-of_names}
+use Rattle.authority_names.specs.Leads.{Table, AreTexts, seen_from, used_for}
+use Rattle.field_merge.specs.declared.content.Content.{Content}
+use Rattle.catalogue_editions.specs.EditionKeys.{is_added_entry, field_in, added_names, work_key_by}
 use Rattle.catalogue_editions.specs.ListLaws.{all-weaker}
+use Rattle.catalogue_editions.specs.Ids.{least}
 use Rattle.catalogue_editions.specs.Sound.{is_id}
-
--- ---- characters and bytes
-
--- the three bytes that part are not kept in a form
-first_not_kept : is_kept 0x1D ≡ false
-unfolding ucd_category
-first_not_kept = refl
-
-second_not_kept : is_kept 0x1E ≡ false
-unfolding ucd_category
-second_not_kept = refl
-
-third_not_kept : is_kept 0x1F ≡ false
-unfolding ucd_category
-third_not_kept = refl
-
-text-from_kept : (c : ℕ) → is_kept c ≡ true → is_text_byte c ≡ true
-text-from_kept c h =
-    elim (eqb c 0x1D) as (λ t. eqb c 0x1D ≡ t → is_text_byte c ≡ true) [
-      | true ↦ λ e. let same : c ≡ 0x1D = grind (arith, nat_tests) in let clash : true ≡ false = sym h ∙ ap is_kept same ∙ first_not_kept in cc
-      | false ↦ λ e. elim (eqb c 0x1E) as (λ t. eqb c 0x1E ≡ t → is_text_byte c ≡ true) [
-        | true ↦ λ f. let same : c ≡ 0x1E = grind (arith, nat_tests) in let clash : true ≡ false = sym h ∙ ap is_kept same ∙ second_not_kept in cc
-        | false ↦ λ f. elim (eqb c 0x1F) as (λ t. eqb c 0x1F ≡ t → is_text_byte c ≡ true) [
-          | true ↦ λ g. let same : c ≡ 0x1F = grind (arith, nat_tests) in let clash : true ≡ false = sym h ∙ ap is_kept same ∙ third_not_kept in cc
-          | false ↦ λ g. grind (arith, nat_tests)
-        ] refl
-      ] refl
-    ] refl
-
--- the bytes of a character that is none of the three
-text-either : (b : Bool) (x y : List ℕ) → is_text x ≡ true → is_text y ≡ true → is_text (cond b x y) ≡ true
-text-either true x y p q = p
-text-either false x y p q = q
-
-text-high : (b : ℕ) (bs : List ℕ) → 128 ≤ b → is_text bs ≡ true → is_text (b ∷ bs) ≡ true
-text-high b bs high rest =
-    let one : is_text_byte b ≡ true = grind (arith, nat_tests) in
-    true_both (is_text_byte b) (is_text bs) one rest
-
-text-encode : (c : ℕ) → is_text_byte c ≡ true → is_text (encode c) ≡ true
-unfolding encode
-text-encode c h =
-    let last : is_text ((128 + c % 64) ∷ []) ≡ true = text-high (128 + c % 64) [] (omega arith) refl in
-    let two : is_text ((128 + c / 64 % 64) ∷ (128 + c % 64) ∷ []) ≡ true = text-high (128 + c / 64 % 64) ((128 + c % 64) ∷ []) (omega arith) last in
-    text-either (nat_lt c 128) (c ∷ []) _ (true_both (is_text_byte c) true h refl)
-    (text-either (nat_lt c 2048) ((192 + c / 64) ∷ (128 + c % 64) ∷ []) _ (text-high (192 + c / 64) ((128 + c % 64) ∷ []) (omega arith) last)
-    (text-either (nat_lt c 65536) ((224 + c / 4096) ∷ (128 + c / 64 % 64) ∷ (128 + c % 64) ∷ []) _
-    (text-high (224 + c / 4096) ((128 + c / 64 % 64) ∷ (128 + c % 64) ∷ []) (omega arith) two)
-    (text-high (240 + c / 262144) ((128 + c / 4096 % 64) ∷ (128 + c / 64 % 64) ∷ (128 + c % 64) ∷ []) (omega arith)
-    (text-high (128 + c / 4096 % 64) ((128 + c / 64 % 64) ∷ (128 + c % 64) ∷ []) (omega arith) two))))
-
-text-encodes : (cs : List ℕ) → is_text cs ≡ true → is_text (encode_utf8_all cs) ≡ true
-text-encodes [] h = refl
-text-encodes (c ∷ cs) h =
-    let parts = both_true (is_text_byte c) (is_text cs) h in
-    list_all-append is_text_byte (encode_utf8 c) (encode_utf8_all cs) ∙ true_both (is_text (encode_utf8 c)) (is_text (encode_utf8_all cs)) (text-encode c parts.0) (text-encodes cs parts.1)
-
-text-append : (a b : List ℕ) → is_text a ≡ true → is_text b ≡ true → is_text (a ++ b) ≡ true
-text-append a b p q = list_all-append is_text_byte a b ∙ true_both (is_text a) (is_text b) p q
-
-text-three : (a b d : List ℕ) → is_text a ≡ true → is_text b ≡ true → is_text d ≡ true → is_text (a ++ b ++ d) ≡ true
-text-three a b d p q r = text-append (a ++ b) d (text-append a b p q) r
-
--- ---- words
-
-text-joined : (text more : List ℕ) → is_text text ≡ true → is_text more ≡ true → is_text (joined text more) ≡ true
-text-joined text [] p q = p
-text-joined [] (c ∷ cs) p q = q
-text-joined (b ∷ bs) (c ∷ cs) p q = text-append (b ∷ bs ++ blank ∷ []) (c ∷ cs) (text-append (b ∷ bs) (blank ∷ []) p refl) q
-
-text-joined_words : (words : List (List ℕ)) → list_all is_text words ≡ true → is_text (joined_words words) ≡ true
-text-joined_words [] h = refl
-text-joined_words (w ∷ ws) h =
-    let parts = both_true (is_text w) (list_all is_text ws) h in
-    ap is_text (joined_words-cons w ws) ∙ text-joined w (joined_words ws) parts.0 (text-joined_words ws parts.1)
-
-texts-onto_first : (c : ℕ) (ws : List (List ℕ)) → is_text_byte c ≡ true → list_all is_text ws ≡ true → list_all is_text (onto_first c ws) ≡ true
-texts-onto_first c [] p q = true_both (is_text (c ∷ [])) true (true_both (is_text_byte c) true p refl) refl
-texts-onto_first c (w ∷ ws) p q =
-    let parts = both_true (is_text w) (list_all is_text ws) q in
-    true_both (is_text (c ∷ w)) (list_all is_text ws) (true_both (is_text_byte c) (is_text w) p parts.0) parts.1
-
-texts-split : (p : ℕ → Bool) (cs : List ℕ) → is_text cs ≡ true → list_all is_text (slice_split p cs) ≡ true
-texts-split p [] h = refl
-texts-split p (c ∷ cs) h =
-    let parts = both_true (is_text_byte c) (is_text cs) h in
-    elim (p c) as (λ b. list_all is_text (cond b ([] ∷ slice_split p cs) (onto_first c (slice_split p cs))) ≡ true) [
-      | true ↦ texts-split p cs parts.1
-      | false ↦ texts-onto_first c (slice_split p cs) parts.0 (texts-split p cs parts.1)
-    ]
-
--- ---- forms
-
--- what is kept is none of the three
-abbrev may_show : Mark → Bool
-may_show m = not m.kept || is_text_byte m.char
-
-shown : (kept : Bool) (c : ℕ) → (not kept || is_text_byte c) ≡ true → is_text_byte (cond kept c blank) ≡ true
-shown true c h = h
-shown false c h = refl
-
-text-others_blank : (ms : List Mark) → list_all may_show ms ≡ true → is_text (others_blank ms) ≡ true
-text-others_blank [] h = refl
-text-others_blank (m ∷ ms) h =
-    let parts = both_true (may_show m) (list_all may_show ms) h in
-    true_both (is_text_byte (cond m.kept m.char blank)) (is_text (others_blank ms)) (shown m.kept m.char parts.0) (text-others_blank ms parts.1)
-
-show-kept : (cs : List ℕ) → list_all may_show (kept_marked cs) ≡ true
-show-kept [] = refl
-show-kept (c ∷ cs) =
-    true_both (not (is_kept c) || is_text_byte c) (list_all may_show (kept_marked cs))
-    (elim (is_kept c) as (λ b. is_kept c ≡ b → (not b || is_text_byte c) ≡ true) [ true ↦ λ e. text-from_kept c e | false ↦ λ e. refl ] refl)
-    (show-kept cs)
-
-show-first_comma : (ms : List Mark) → list_all may_show ms ≡ true → list_all may_show (first_comma_marked ms) ≡ true
-show-first_comma [] h = refl
-show-first_comma (m ∷ ms) h =
-    let parts = both_true (may_show m) (list_all may_show ms) h in
-    elim (eqb m.char comma_sign) as (λ b. eqb m.char comma_sign ≡ b
-    → list_all may_show (cond b (record { char = m.char; kept = list_any (λ after. is_letter_or_number after.char) ms } ∷ ms) (m ∷ first_comma_marked ms)) ≡ true) [
-      | true ↦ λ e.
-          (let comma : is_text_byte m.char ≡ true = grind (arith, nat_tests) in
-          let kept = list_any (λ after. is_letter_or_number after.char) ms in
-          true_both (not kept || is_text_byte m.char) (list_all may_show ms)
-          (elim kept as (λ k. (not k || is_text_byte m.char) ≡ true) [ true ↦ comma | false ↦ refl ]) parts.1)
-      | false ↦ λ e. true_both (may_show m) (list_all may_show (first_comma_marked ms)) parts.0 (show-first_comma ms parts.1)
-    ] refl
-
-show-comma : (comma : Comma) (cs : List ℕ) → list_all may_show (comma_marked comma (kept_marked cs)) ≡ true
-show-comma First cs = show-first_comma (kept_marked cs) (show-kept cs)
-show-comma NoComma cs = show-kept cs
-
--- a form has none of the three
-text-form : (comma : Comma) (cs : List ℕ) → is_text (normal_form comma cs) ≡ true
-text-form comma cs =
-    let marked = comma_marked comma (kept_marked (letters cs)) in
-    text-joined_words (slice_split (λ c. eqb c blank) (others_blank marked))
-    (texts-split (λ c. eqb c blank) (others_blank marked) (text-others_blank marked (show-comma comma (letters cs))))
-
-texts-part_forms : (first other : List ℕ → List ℕ) → ((text : List ℕ) → is_text (first text) ≡ true) → ((text : List ℕ) → is_text (other text) ≡ true)
-    → (ss : List Subfield) → list_all is_text (part_forms first other ss) ≡ true
-texts-part_forms first other p q [] = refl
-texts-part_forms first other p q (s ∷ ss) =
-    elim (eqb s.code main_code) as (λ b. list_all is_text (cond b (first s.text ∷ map (λ rest. other rest.text) ss) (other s.text ∷ part_forms first other ss)) ≡ true) [
-      | true ↦ true_both (is_text (first s.text)) (list_all is_text (map (λ rest. other rest.text) ss)) (p s.text) (texts-map ss)
-      | false ↦ true_both (is_text (other s.text)) (list_all is_text (part_forms first other ss)) (q s.text) (texts-part_forms first other p q ss)
-    ]
-  where
-    texts-map : (xs : List Subfield) → list_all is_text (map (λ rest. other rest.text) xs) ≡ true
-    texts-map [] = refl
-    texts-map (x ∷ xs) = true_both (is_text (other x.text)) (list_all is_text (map (λ rest. other rest.text) xs)) (q x.text) (texts-map xs)
-
-text-with_comma : (text : List ℕ) → is_text (form_with_comma text) ≡ true
-text-with_comma text = text-encodes (normal_form First (chars text)) (text-form First (chars text))
-
-text-without_comma : (text : List ℕ) → is_text (form_without_comma text) ≡ true
-text-without_comma text = text-encodes (normal_form NoComma (chars text)) (text-form NoComma (chars text))
-
-text-skipping : (skip : ℕ) (text : List ℕ) → is_text (form_skipping skip text) ≡ true
-text-skipping skip text = text-encodes (normal_form NoComma (skipped skip (chars text))) (text-form NoComma (skipped skip (chars text)))
-
-text-heading : (subfields : List Subfield) (wanted : List ℕ) → is_text (heading_of subfields wanted) ≡ true
-text-heading subfields wanted =
-    text-joined_words (part_forms form_with_comma form_without_comma (chosen wanted subfields))
-    (texts-part_forms form_with_comma form_without_comma text-with_comma text-without_comma (chosen wanted subfields))
-
-text-title : (subfields : List Subfield) (wanted : List ℕ) (skip : ℕ) → is_text (title_of subfields wanted skip) ≡ true
-text-title subfields wanted skip =
-    text-joined_words (part_forms (form_skipping skip) form_without_comma (chosen wanted subfields))
-    (texts-part_forms (form_skipping skip) form_without_comma (text-skipping skip) text-without_comma (chosen wanted subfields))
+use Rattle.catalogue_editions.specs.declared.edition.Edition.{Edition}
+use Rattle.catalogue_editions.proofs.EditionTexts.{least-is_id}
 
 -- ---- ids
+
+all-low : (text : List ℕ) → list_all (λ b. nat_lt b 128) text ≡ true → IsAscii text
+all-low [] all i = below
+  where
+    below : 0 < 128
+    below = omega arith
+all-low (b ∷ text) all zero = low b (both_true (nat_lt b 128) (list_all (λ x. nat_lt x 128) text) all).0
+  where
+    low : (n : ℕ) → nat_lt n 128 ≡ true → n < 128
+    low n h = grind (arith, nat_tests)
+all-low (b ∷ text) all (suc i) = all-low text (both_true (nat_lt b 128) (list_all (λ x. nat_lt x 128) text) all).1 i
+
+utf8-low : (text : List ℕ) → list_all (λ b. nat_lt b 128) text ≡ true → is_utf8 text ≡ true
+utf8-low text low = is_utf8-from_IsUtf8 text (IsUtf8-from_ascii text (all-low text low))
 
 text-from_code : (b : ℕ) → may_stand b ≡ true → is_text_byte b ≡ true
 text-from_code b h = grind (arith, nat_tests)
 
+low-from_code : (b : ℕ) → may_stand b ≡ true → nat_lt b 128 ≡ true
+low-from_code b h = grind (arith, nat_tests)
+
 text-from_printing : (b : ℕ) → is_printable b ≡ true → is_text_byte b ≡ true
 text-from_printing b h = grind (arith, nat_tests)
 
-text-own_name : (id : RecordId) → is_id id ≡ true → is_text (own_name id) ≡ true
-text-own_name id h =
+low-from_printing : (b : ℕ) → is_printable b ≡ true → nat_lt b 128 ≡ true
+low-from_printing b h = grind (arith, nat_tests)
+
+key-own_name : (id : RecordId) → is_id id ≡ true → is_key_text (own_name id) ≡ true
+key-own_name id h =
     let parts = both_true (is_library_code id.library) (has_number_shape id.control) h in
-    let library = all-weaker may_stand is_text_byte text-from_code id.library (both_true _ (list_all may_stand id.library) parts.0).1 in
-    let control = all-weaker is_printable is_text_byte text-from_printing id.control (both_true _ (list_all is_printable id.control) parts.1).1 in
-    text-three id.library (codes ".") id.control library refl control
+    let library = (both_true _ (list_all may_stand id.library) parts.0).1 in
+    let control = (both_true _ (list_all is_printable id.control) parts.1).1 in
+    key-append (id.library ++ codes ".") id.control
+    (key-append id.library (codes ".")
+    (key-both id.library (all-weaker may_stand is_text_byte text-from_code id.library library)
+    (utf8-low id.library (all-weaker may_stand (λ b. nat_lt b 128) low-from_code id.library library)))
+    (key-both (codes ".") refl (utf8-low (codes ".") refl)))
+    (key-both id.control (all-weaker is_printable is_text_byte text-from_printing id.control control)
+    (utf8-low id.control (all-weaker is_printable (λ b. nat_lt b 128) low-from_printing id.control control)))
 
 -- ---- keys
 
-text-lesser : (least text : List ℕ) → is_text least ≡ true → is_text text ≡ true → is_text (lesser least text) ≡ true
-text-lesser least text p q =
-    text-either (is_empty least) text _ q (text-either (is_empty text) least _ p (text-either (is_lt (slice_cmp nat_cmp text least)) text least q p))
+key-used : (names : Table) → AreTexts names → (x : List ℕ) → is_key_text x ≡ true → is_key_text (used_for names x) ≡ true
+key-used names texts x h = key-either (is_empty (seen_from names x)) x (seen_from names x) h (texts x)
 
-text-fold : (fields : List Field) (least : List ℕ) → is_text least ≡ true → is_text (fold lesser least (map name_of fields)) ≡ true
-text-fold [] least p = p
-text-fold (f ∷ fields) least p = text-fold fields (lesser least (name_of f)) (text-lesser least (name_of f) p (text-heading (subfields_of f.body) (name_codes f.tag)))
+keys-used : (names : Table) → AreTexts names → (fields : List Field)
+    → list_all is_key_text (map (λ f. used_for names (name_of f)) fields) ≡ true
+keys-used names texts [] = refl
+keys-used names texts (f ∷ fields) =
+    true_both (is_key_text (used_for names (name_of f))) (list_all is_key_text (map (λ g. used_for names (name_of g)) fields))
+    (key-used names texts (name_of f) (key-name f)) (keys-used names texts fields)
 
-text-main_name : (main : Option Field) → is_text (main_name main) ≡ true
-text-main_name None = refl
-text-main_name (Some f) = text-either (is_uniform_title f.tag) [] (name_of f) refl (text-heading (subfields_of f.body) (name_codes f.tag))
+-- a work key is a text
+pub key-work_key : (names : Table) → AreTexts names → (e : Edition) → is_key_text (work_key_by names e) ≡ true
+key-work_key names texts e =
+    key-of_names (used_for names (main_name (field_in e.content.f1xx))) (least_of (added_names names e))
+    (field_in e.content.f1xx) (field_in e.content.f240) e.content.f245.field (least e)
+    (key-used names texts (main_name (field_in e.content.f1xx)) (key-main_name (field_in e.content.f1xx)))
+    (key-least_of (added_names names e) (keys-used names texts (filter is_added_entry e.content.united)))
+    (key-own_name (least e) (least-is_id e))
 
-text-main_title : (main : Option Field) → is_text (main_title main) ≡ true
-text-main_title None = refl
-text-main_title (Some f) = text-either (is_uniform_title f.tag) (title130_of f) [] (text-title (subfields_of f.body) (codes "anp") (skip_of (first_indicator f.body))) refl
+-- the names of the added entries are only needed where the main entry has none
+pub key-needed : (name : List ℕ) (others : List (List ℕ)) (main uniform : Option Field) (title : Field) (id : RecordId)
+    → key_of_names name (least_of (if is_empty name then others else [])) main uniform title id
+    ≡ key_of_names name (least_of others) main uniform title id
+key-needed [] others main uniform title id = refl
+key-needed (b ∷ bs) others main uniform title id = refl
 
-text-uniform_title : (uniform : Option Field) → is_text (uniform_title uniform) ≡ true
-text-uniform_title None = refl
-text-uniform_title (Some f) = text-title (subfields_of f.body) (codes "anp") (skip_of (second_indicator f.body))
+-- ---- without names
 
--- a work key has none of the three
-pub text-work_key : (main uniform : Option Field) (title : Field) (added : List Field) (id : RecordId) → is_id id ≡ true
-    → is_text (work_key main uniform title added id) ≡ true
-text-work_key main uniform title added id h =
-    let name = main_name main in
-    let least = least_name added in
-    let whole = main_title main in
-    let own_title : is_text (title245_of title) ≡ true = text-title (subfields_of title.body) (codes "abnp") (skip_of (second_indicator title.body)) in
-    let least_text = text-fold added [] refl in
-    text-either (is_empty name) (key_without_name whole (title245_of title) least (own_name id)) (name ++ codes "/" ++ or_else (uniform_title uniform) (title245_of title))
-    (text-either (is_empty whole) (key_by_title (title245_of title) least (own_name id)) (codes "/" ++ whole)
-    (text-either (is_empty least) (title245_of title ++ codes "///" ++ own_name id) (title245_of title ++ codes "//" ++ least)
-    (text-three (title245_of title) (codes "///") (own_name id) own_title refl (text-own_name id h))
-    (text-three (title245_of title) (codes "//") least own_title refl least_text))
-    (text-append (codes "/") whole refl (text-main_title main)))
-    (text-three name (codes "/") (or_else (uniform_title uniform) (title245_of title)) (text-main_name main) refl
-    (text-either (is_empty (uniform_title uniform)) (title245_of title) (uniform_title uniform) own_title (text-uniform_title uniform)))
+used-empty : (x : List ℕ) → used_for empty x ≡ x
+used-empty x = ap (λ lead. or_else (unwrap_or (option_and_then (λ l. l) lead) []) x) (get-empty (slice_cmp nat_cmp) x)
+
+names-empty : (fields : List Field) → map (λ f. used_for empty (name_of f)) fields ≡ map name_of fields
+names-empty [] = refl
+names-empty (f ∷ fields) =
+    ap (λ name. name ∷ map (λ g. used_for empty (name_of g)) fields) (used-empty (name_of f))
+    ∙ ap (λ names. name_of f ∷ names) (names-empty fields)
+
+-- a table of no names leaves the key
+pub key-by_none : (e : Edition)
+    → work_key_by empty e ≡ work_key (field_in e.content.f1xx) (field_in e.content.f240) e.content.f245.field (filter is_added_entry e.content.united) (least e)
+key-by_none e =
+    ap (λ name. key_of_names name (least_of (added_names empty e)) (field_in e.content.f1xx) (field_in e.content.f240) e.content.f245.field (least e))
+    (used-empty (main_name (field_in e.content.f1xx)))
+    ∙ ap (λ names. key_of_names (main_name (field_in e.content.f1xx)) (least_of names) (field_in e.content.f1xx) (field_in e.content.f240) e.content.f245.field (least e))
+    (names-empty (filter is_added_entry e.content.united))
+
+-- the key that is made of an edition's parts
+pub key-made : (names : Table) (e : Edition) (content : Content) → content ≡ e.content
+    → (main uniform : Option Field) → main ≡ field_in content.f1xx → uniform ≡ field_in content.f240
+    → (added : List Field) → added ≡ filter is_added_entry e.content.united
+    → (own : List ℕ) → own ≡ main_name main
+    → (name : List ℕ) → name ≡ used_for names own
+    → (others : List (List ℕ)) → others ≡ (if is_empty name then map (λ f. used_for names (name_of f)) added else [])
+    → (id : RecordId) → id ≡ least e
+    → key_of_names name (least_of others) main uniform content.f245.field id ≡ work_key_by names e
+key-made names e content content_is main uniform main_is uniform_is added added_is own own_is name name_is others others_is id id_is =
+    let main' = field_in e.content.f1xx in
+    let uniform' = field_in e.content.f240 in
+    let main_whole : main ≡ main' = main_is ∙ ap (λ (x : Content). field_in x.f1xx) content_is in
+    let uniform_whole : uniform ≡ uniform' = uniform_is ∙ ap (λ (x : Content). field_in x.f240) content_is in
+    let name_whole : name ≡ used_for names (main_name main') = name_is ∙ ap (used_for names) (own_is ∙ ap main_name main_whole) in
+    ap (λ list. key_of_names name (least_of list) main uniform content.f245.field id)
+    (others_is ∙ ap (λ fields. if is_empty name then map (λ f. used_for names (name_of f)) fields else []) added_is)
+    ∙ key-needed name (added_names names e) main uniform content.f245.field id
+    ∙ ap (λ n. key_of_names n (least_of (added_names names e)) main uniform content.f245.field id) name_whole
+    ∙ ap (λ m. key_of_names (used_for names (main_name main')) (least_of (added_names names e)) m uniform content.f245.field id) main_whole
+    ∙ ap (λ u. key_of_names (used_for names (main_name main')) (least_of (added_names names e)) main' u content.f245.field id) uniform_whole
+    ∙ ap (λ (x : Content). key_of_names (used_for names (main_name main')) (least_of (added_names names e)) main' uniform' x.f245.field id) content_is
+    ∙ ap (λ i. key_of_names (used_for names (main_name main')) (least_of (added_names names e)) main' uniform' e.content.f245.field i) id_is

@@ -1,5 +1,5 @@
 mod EditionTexts
-mod KeyTexts
+pub mod KeyTexts
 mod Runs
 pub mod Apart
 pub mod OwnLaws

@@ -9,6 +9,7 @@ ghost use Rattle.marc_parts.specs.Loads.{is_deleted, is_loadable};
 ghost use Rattle.marc_rules.specs.Accepted.{IsAccepted};
 ghost use Rattle.merge_laws.specs.Resolution.{IsResolution};
 ghost use Rattle.catalogue_editions.specs.declared.edition.Edition.{Edition};
+ghost use Rattle.catalogue_editions.specs.EditionKeys.{IsKeyWithoutNames};
 ghost use Rattle.catalogue_editions.specs.Ids.{least, edition_cmp};
 ghost use Rattle.catalogue_editions.specs.Joining.{join};
 ghost use Rattle.catalogue_editions.specs.Matching.{match as edition_match};
@@ -37,4 +38,9 @@ pub fn sorted_resolution_is_ordered()
 /// A list of editions has one resolution that is in order of the least contributors.
 pub fn ordered_resolution_is_unique()
     ensures { (list one other : List Edition) → IsOrderedResolution list one → IsOrderedResolution list other → one ≡ other }
+{}
+
+/// Where no names are given, the work key is that of the fields alone.
+pub fn key_without_names()
+    ensures { IsKeyWithoutNames }
 {}

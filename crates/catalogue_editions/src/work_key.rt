@@ -1,14 +1,20 @@
 //! The work key of an edition, as `specs/EditionKeys.antt` has it.
 //!
 //! Cost: one look at the united fields, beside that of the key. The added entries under names stand side by side there, and
-//! are copied only where another field, of a tag such as 705, stands among them.
-ghost use Rattle.std.specs.Prelude.{◌≡◌, [], ◌∷◌, ◌++◌, IfOk, OnOk, IsTrue, filter};
+//! are copied only where another field, of a tag such as 705, stands among them. The table of names is asked once for each name
+//! that the key needs.
+ghost use Rattle.std.specs.Prelude.{◌≡◌, [], ◌∷◌, ◌++◌, All, IfOk, OnOk, IsTrue, if◌then◌else◌, filter, map};
 ghost use Rattle.std.specs.List.{list_all};
 ghost use Rattle.std.specs.Option.{option_copied};
+ghost use Rattle.std.specs.Str.{is_utf8};
 ghost use Rattle.union_base.specs.Fields.{is_text};
-ghost use Rattle.catalogue_editions.specs.EditionKeys.{is_added_entry, field_in, work_key_of};
+ghost use Rattle.naco_normal.specs.Words.{is_empty};
+ghost use Rattle.workset_keys.specs.Names.{HasTexts, name_of};
+ghost use Rattle.authority_names.specs.Leads.{used_for};
+ghost use Rattle.catalogue_editions.specs.EditionKeys.{is_added_entry, field_in, work_key_by};
 
 use crate::edition::Edition;
+use authority_names::name_table::NameTable;
 use field_merge::slot::Slot;
 use marc_parts::parts::has_tag;
 use std::alloc::Global;
@@ -16,41 +22,85 @@ use union_base::bytes::Bytes;
 use union_base::copied::Copied;
 use union_base::field::Field;
 use union_base::memory::Memory;
-use workset_keys::work_key::work_key;
+use workset_keys::fields::name_of;
+use workset_keys::names::main_name;
+use workset_keys::work_key::key_of_names;
 
 /// The key of the work that the edition belongs to (this project's own profile of the OCLC work-set algorithm): that of its
-/// main entry, its 240, its 245, its added entries 700, 710 and 711, and its least contributor. It has none of 0x1D, 0x1E
-/// and 0x1F.
+/// main entry, its 240, its 245, its added entries 700, 710 and 711, and its least contributor. Each name is the one that the
+/// table has for it, or itself. The key is UTF-8, and has none of 0x1D, 0x1E and 0x1F.
 ///
 /// Returns `Memory` if allocation fails.
-pub fn work_key_of(alloc: Global, edition: &Edition) -> Result<Bytes, Memory>
-    ensures value { IfOk result (λ key. key ≡ work_key_of edition.now) }
+pub fn work_key_of(alloc: Global, names: &NameTable, edition: &Edition) -> Result<Bytes, Memory>
+    ensures value { IfOk result (λ key. key ≡ work_key_by names.now edition.now) }
     ensures text { IfOk result (λ key. IsTrue (is_text key)) }
+    ensures utf8 { IfOk result (λ key. IsTrue (is_utf8 key)) }
 {
     let run = added_run(edition.content().united.as_slice());
     if are_added_entries(run) {
-        key_with(alloc, edition, run)
+        key_with(alloc, names, edition, run)
     } else {
         let added = added_entries(alloc, run)?;
-        key_with(alloc, edition, added.as_slice())
+        key_with(alloc, names, edition, added.as_slice())
     }
 }
 
 /// The edition's work key, by its added entries under names.
-fn key_with(alloc: Global, edition: &Edition, added: &[Field]) -> Result<Bytes, Memory>
+fn key_with(
+    alloc: Global,
+    names: &NameTable,
+    edition: &Edition,
+    added: &[Field],
+) -> Result<Bytes, Memory>
     requires { added.now ≡ filter is_added_entry edition.now.content.united }
-    ensures value { IfOk result (λ key. key ≡ work_key_of edition.now) }
+    ensures value { IfOk result (λ key. key ≡ work_key_by names.now edition.now) }
     ensures text { IfOk result (λ key. IsTrue (is_text key)) }
+    ensures utf8 { IfOk result (λ key. IsTrue (is_utf8 key)) }
 {
     let content = edition.content();
-    work_key(
+    let main = field_in(&content.f1xx);
+    let name = names.used_for(alloc, main_name(alloc, main)?)?;
+    let others = names_needed(alloc, names, &name, added)?;
+    key_of_names(
         alloc,
-        field_in(&content.f1xx),
+        &name,
+        main,
         field_in(&content.f240),
         &content.f245.field,
-        added,
+        others.as_slice(),
         edition.least(),
     )
+}
+
+/// The names of the added entries, as the table has them, or none where the main entry has a name: a key by that needs no other.
+fn names_needed(
+    alloc: Global,
+    names: &NameTable,
+    name: &Bytes,
+    added: &[Field],
+) -> Result<Vec<Bytes>, Memory>
+    requires { All HasTexts added.now }
+    ensures { IfOk result (λ others. others.items ≡ (if is_empty name.now
+        then map (λ f. used_for names.now (name_of f)) added.now else [])) }
+{
+    if name.bytes().is_empty() {
+        names_used(alloc, names, added)
+    } else {
+        Ok(Vec::new(alloc))
+    }
+}
+
+/// The names of the added entries, as the table has them.
+fn names_used(alloc: Global, names: &NameTable, added: &[Field]) -> Result<Vec<Bytes>, Memory>
+    requires { All HasTexts added.now }
+    ensures { IfOk result (λ others. others.items ≡ map (λ f. used_for names.now (name_of f)) added.now) }
+{
+    let mut others = Vec::with_capacity(alloc, added.len())?;
+    for field in added {
+        let name = name_of(alloc, field)?;
+        others.push(names.used_for(alloc, name)?)?;
+    }
+    Ok(others)
 }
 
 /// The field of a slot.
