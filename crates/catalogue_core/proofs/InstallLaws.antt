@@ -23,9 +23,10 @@ use Rattle.swoosh_resolver.specs.Tables.{block_at, blocks_in, values_of}
 use Rattle.swoosh_resolver.proofs.Places.{number-from_block}
 use Rattle.work_clusters.specs.Works.{AreAfter, changed}
 use Rattle.work_clusters.proofs.MemberLaws.{changed-members, works_of-permutation}
-use Rattle.catalogue_editions.specs.EditionKeys.{work_key_of, work_pairs}
+use Rattle.catalogue_editions.specs.EditionKeys.{work_key_by, work_pairs}
+use Rattle.authority_names.specs.Leads.{Table}
 use Rattle.catalogue_core.specs.ClosedKeys.{closed_pairs}
-use Rattle.catalogue_core.specs.Grouping.{WorkList}
+use Rattle.catalogue_core.specs.Grouping.{WorkList, KeptWorks}
 use Rattle.catalogue_core.specs.Histories.{MapOf, at_id, is_current, after_batch, bases, current}
 use Rattle.catalogue_core.specs.Homes.{Block, has_contributor, place_of, places_in, standing, admitted, moved, housed_all}
 use Rattle.catalogue_editions.specs.Ids.{least}
@@ -52,66 +53,66 @@ use Rattle.catalogue_core.proofs.TurnLaws.{ordered-current}
 
 -- ---- works
 
-pair-in : (xs : List Edition) (e : Edition) → Contains xs e → Contains (work_pairs xs) (work_key_of e, least e)
-pair-in [] e (k, kl, is) = absurd (omega arith)
-pair-in (x ∷ xs) e c =
+pair-in : (names : Table) (xs : List Edition) (e : Edition) → Contains xs e → Contains (work_pairs names xs) (work_key_by names e, least e)
+pair-in names [] e (k, kl, is) = absurd (omega arith)
+pair-in names (x ∷ xs) e c =
     elim (Contains-cases x xs e c) [
-      | inl here ↦ subst (λ (y : Edition). Contains (work_pairs (x ∷ xs)) (work_key_of y, least y)) here (Contains-head (work_key_of x, least x) (work_pairs xs))
-      | inr later ↦ Contains-tail (work_key_of x, least x) (work_pairs xs) (work_key_of e, least e) (pair-in xs e later)
+      | inl here ↦ subst (λ (y : Edition). Contains (work_pairs names (x ∷ xs)) (work_key_by names y, least y)) here (Contains-head (work_key_by names x, least x) (work_pairs names xs))
+      | inr later ↦ Contains-tail (work_key_by names x, least x) (work_pairs names xs) (work_key_by names e, least e) (pair-in names xs e later)
     ]
 
-in-pairs : (xs : List Edition) (p : List ℕ × RecordId) → Contains (work_pairs xs) p → (e : Edition) × Contains xs e × (◌≡◌ {A = List ℕ × RecordId} (work_key_of e, least e) p)
-in-pairs [] p (k, kl, is) = absurd (omega arith)
-in-pairs (x ∷ xs) p c =
-    elim (Contains-cases (work_key_of x, least x) (work_pairs xs) p c) [
+in-pairs : (names : Table) (xs : List Edition) (p : List ℕ × RecordId) → Contains (work_pairs names xs) p → (e : Edition) × Contains xs e × (◌≡◌ {A = List ℕ × RecordId} (work_key_by names e, least e) p)
+in-pairs names [] p (k, kl, is) = absurd (omega arith)
+in-pairs names (x ∷ xs) p c =
+    elim (Contains-cases (work_key_by names x, least x) (work_pairs names xs) p c) [
       | inl here ↦ (x, Contains-head x xs, here)
-      | inr later ↦ (let (e, ce, is) = in-pairs xs p later in (e, Contains-tail x xs e ce, is))
+      | inr later ↦ (let (e, ce, is) = in-pairs names xs p later in (e, Contains-tail x xs e ce, is))
     ]
 
 -- the pair of a block whose number is closed
-gone-in : (blocks : List (Option Block)) (closed : List ℕ) (n : ℕ) (e : Block) → Contains closed n → block_at blocks n ≡ Some e → Contains (closed_pairs blocks closed) (work_key_of e.value, least e.value)
-gone-in blocks closed n e c at =
-    mapped-from_member (λ n. option_map (λ (b : Block). (work_key_of b.value, least b.value)) (block_at blocks n)) closed n (work_key_of e.value, least e.value) c
-    (ap (option_map (λ (b : Block). (work_key_of b.value, least b.value))) at)
+gone-in : (names : Table) (blocks : List (Option Block)) (closed : List ℕ) (n : ℕ) (e : Block) → Contains closed n → block_at blocks n ≡ Some e → Contains (closed_pairs names blocks closed) (work_key_by names e.value, least e.value)
+gone-in names blocks closed n e c at =
+    mapped-from_member (λ n. option_map (λ (b : Block). (work_key_by names b.value, least b.value)) (block_at blocks n)) closed n (work_key_by names e.value, least e.value) c
+    (ap (option_map (λ (b : Block). (work_key_by names b.value, least b.value))) at)
 
-in-gone : (blocks : List (Option Block)) (closed : List ℕ) (p : List ℕ × RecordId) → Contains (closed_pairs blocks closed) p
+in-gone : (names : Table) (blocks : List (Option Block)) (closed : List ℕ) (p : List ℕ × RecordId) → Contains (closed_pairs names blocks closed) p
     → (n : ℕ) × (e : Block) × Contains closed n × (block_at blocks n ≡ Some e) × (least e.value ≡ p.1)
-in-gone blocks closed p c =
-    let (n, cn, is) = member-from_mapped (λ n. option_map (λ (b : Block). (work_key_of b.value, least b.value)) (block_at blocks n)) closed p c in
+in-gone names blocks closed p c =
+    let (n, cn, is) = member-from_mapped (λ n. option_map (λ (b : Block). (work_key_by names b.value, least b.value)) (block_at blocks n)) closed p c in
     found n cn (block_at blocks n) refl is
   where
-    found : (n : ℕ) → Contains closed n → (o : Option Block) → block_at blocks n ≡ o → option_map (λ (b : Block). (work_key_of b.value, least b.value)) o ≡ Some p
+    found : (n : ℕ) → Contains closed n → (o : Option Block) → block_at blocks n ≡ o → option_map (λ (b : Block). (work_key_by names b.value, least b.value)) o ≡ Some p
         → (n : ℕ) × (e : Block) × Contains closed n × (block_at blocks n ≡ Some e) × (least e.value ≡ p.1)
     found n cn None at is = cc
-    found n cn (Some e) at is = (let pair : ◌≡◌ {A = List ℕ × RecordId} (work_key_of e.value, least e.value) p = cc in (n, e, cn, at, ap (λ (q : List ℕ × RecordId). q.1) pair))
+    found n cn (Some e) at is = (let pair : ◌≡◌ {A = List ℕ × RecordId} (work_key_by names e.value, least e.value) p = cc in (n, e, cn, at, ap (λ (q : List ℕ × RecordId). q.1) pair))
 
-pub after-change : (blocks : List (Option Block)) (closed : List ℕ) (opened : List Block) → AreApart match (values_of (blocks_in blocks))
-    → AreAfter (work_pairs (values_of (blocks_in blocks))) (closed_pairs blocks closed) (work_pairs (values_of opened)) (work_pairs (view_of blocks closed opened))
-after-change blocks closed opened apart p = (
-  λ c. (let (v, cv, is) = in-pairs (view_of blocks closed opened) p c in
+pub after-change : (names : Table) (blocks : List (Option Block)) (closed : List ℕ) (opened : List Block) → AreApart match (values_of (blocks_in blocks))
+    → AreAfter (work_pairs names (values_of (blocks_in blocks))) (closed_pairs names blocks closed) (work_pairs names (values_of opened)) (work_pairs names (view_of blocks closed opened))
+after-change names blocks closed opened apart p = (
+  λ c. (let (v, cv, is) = in-pairs names (view_of blocks closed opened) p c in
       elim (in-view blocks closed opened v cv) [
         | inl (n, e, at, open', same') ↦ inl (
-          subst (Contains (work_pairs (values_of (blocks_in blocks)))) (ap (λ (x : Edition). (work_key_of x, least x)) same' ∙ is)
-              (pair-in (values_of (blocks_in blocks)) e.value (value-in (blocks_in blocks) e (block-stands blocks n e at))),
-          λ gone. (let (m, f, cm, at', least') = in-gone blocks closed p gone in
-              let one : least f.value ≡ least e.value = least' ∙ sym (ap (λ (q : List ℕ × RecordId). q.1) (ap (λ (x : Edition). (work_key_of x, least x)) same' ∙ is)) in
+          subst (Contains (work_pairs names (values_of (blocks_in blocks)))) (ap (λ (x : Edition). (work_key_by names x, least x)) same' ∙ is)
+              (pair-in names (values_of (blocks_in blocks)) e.value (value-in (blocks_in blocks) e (block-stands blocks n e at))),
+          λ gone. (let (m, f, cm, at', least') = in-gone names blocks closed p gone in
+              let one : least f.value ≡ least e.value = least' ∙ sym (ap (λ (q : List ℕ × RecordId). q.1) (ap (λ (x : Edition). (work_key_by names x, least x)) same' ∙ is)) in
               open' (subst (Contains closed) (number-from_match blocks apart m n f e at' at (match-from_least f.value e.value one)) cm)),
         )
-        | inr (e, ce, same') ↦ inr (subst (Contains (work_pairs (values_of opened))) (ap (λ (x : Edition). (work_key_of x, least x)) same' ∙ is) (pair-in (values_of opened) e.value (value-in opened e ce)))
+        | inr (e, ce, same') ↦ inr (subst (Contains (work_pairs names (values_of opened))) (ap (λ (x : Edition). (work_key_by names x, least x)) same' ∙ is) (pair-in names (values_of opened) e.value (value-in opened e ce)))
       ]),
   λ h. elim h [
     | inl (c, open') ↦
-        (let (v, cv, is) = in-pairs (values_of (blocks_in blocks)) p c in
+        (let (v, cv, is) = in-pairs names (values_of (blocks_in blocks)) p c in
         let (e, ce, same') = in-value (blocks_in blocks) v cv in
         let (n, at) = number-from_block blocks e ce in
-        subst (Contains (work_pairs (view_of blocks closed opened))) (ap (λ (x : Edition). (work_key_of x, least x)) same' ∙ is)
-        (pair-in (view_of blocks closed opened) e.value (kept-in_view blocks closed opened n e at
-        (λ gone. open' (subst (Contains (closed_pairs blocks closed)) (ap (λ (x : Edition). (work_key_of x, least x)) same' ∙ is) (gone-in blocks closed n e gone at))))))
+        subst (Contains (work_pairs names (view_of blocks closed opened))) (ap (λ (x : Edition). (work_key_by names x, least x)) same' ∙ is)
+        (pair-in names (view_of blocks closed opened) e.value (kept-in_view blocks closed opened n e at
+        (λ gone. open' (subst (Contains (closed_pairs names blocks closed)) (ap (λ (x : Edition). (work_key_by names x, least x)) same' ∙ is) (gone-in names blocks closed n e gone at))))))
     | inr c ↦
-        (let (v, cv, is) = in-pairs (values_of opened) p c in
+        (let (v, cv, is) = in-pairs names (values_of opened) p c in
         let (e, ce, same') = in-value opened v cv in
-        subst (Contains (work_pairs (view_of blocks closed opened))) (ap (λ (x : Edition). (work_key_of x, least x)) same' ∙ is)
-        (pair-in (view_of blocks closed opened) e.value (fresh-in_view blocks closed opened e ce)))
+        subst (Contains (work_pairs names (view_of blocks closed opened))) (ap (λ (x : Edition). (work_key_by names x, least x)) same' ∙ is)
+        (pair-in names (view_of blocks closed opened) e.value (fresh-in_view blocks closed opened e ce)))
   ],
 )
 
@@ -153,7 +154,7 @@ from-mapped : {A B : Type 0} (f : A → B) (o : Option A) (y : B) → option_map
 from-mapped f None y is = absurd cc
 from-mapped f (Some x) y is = (x, refl, cc)
 
-module _ (history : List HistoryEntry) (entry : HistoryEntry) (homes : MapOf Home) (blocks : List (Option Block)) (works : Option WorkList) (k : IsKept history homes blocks works) (closed : List ℕ) (opened : List Block) (touched : MapOf (Option Place)) (numbers : List ℕ) (p : IsPlanned (batches history ++ entry.batch ∷ []) homes blocks (after_batch (current history) entry.batch) closed opened touched) where
+module _ (history : List HistoryEntry) (entry : HistoryEntry) (homes : MapOf Home) (blocks : List (Option Block)) (works : KeptWorks) (k : IsKept history homes blocks works) (closed : List ℕ) (opened : List Block) (touched : MapOf (Option Place)) (numbers : List ℕ) (p : IsPlanned (batches history ++ entry.batch ∷ []) homes blocks (after_batch (current history) entry.batch) closed opened touched) where
   abbrev all : List Batch
   all = batches history ++ entry.batch ∷ []
 
@@ -283,8 +284,9 @@ module _ (history : List HistoryEntry) (entry : HistoryEntry) (homes : MapOf Hom
               (match-from_contributor f.value e.value q (member-from_has id_total ids_apart f.value.content.contributors q bears') (member-from_has id_total ids_apart e.value.content.contributors q bears)),
         )
 
-    pub kept-installed : (works' : Option WorkList) → works' ≡ option_map (λ ws. changed ws (closed_pairs blocks closed) (work_pairs (values_of opened))) works
-        → IsKept (history ++ entry ∷ []) homes' blocks' works'
+    pub kept-installed : (works' : Option WorkList)
+        → works' ≡ option_map (λ ws. changed ws (closed_pairs works.names blocks closed) (work_pairs works.names (values_of opened))) works.works
+        → IsKept (history ++ entry ∷ []) homes' blocks' (record { names = works.names; works = works' })
     kept-installed works' is-changed =
         let turn : current (history ++ entry ∷ []) ≡ now = fold-append (λ all (entry : HistoryEntry). after_batch all entry.batch) [] history (entry ∷ []) in
         let whole : batches (history ++ entry ∷ []) ≡ all = map-append (λ (t : HistoryEntry). t.batch) history (entry ∷ []) in
@@ -294,17 +296,18 @@ module _ (history : List HistoryEntry) (entry : HistoryEntry) (homes : MapOf Hom
           resolved = subst (λ list. IsResolution match join list (values_of (blocks_in blocks'))) (ap values (sym turn)) resolved';
           housed = record { each = housed-each; only = housed-only };
           clustered = λ ws' is.
-              let (ws, old, same) = from-mapped (λ ws. changed ws (closed_pairs blocks closed) (work_pairs (values_of opened))) works ws' (sym is-changed ∙ is) in
+              let (ws, old, same) = from-mapped (λ ws. changed ws (closed_pairs works.names blocks closed) (work_pairs works.names (values_of opened))) works.works ws' (sym is-changed ∙ is) in
               sym same
-              ∙ ap (λ ws. changed ws (closed_pairs blocks closed) (work_pairs (values_of opened))) (k.clustered ws old)
-              ∙ changed-members (work_pairs (values_of (blocks_in blocks))) (closed_pairs blocks closed) (work_pairs (values_of opened)) (work_pairs (view_of blocks closed opened))
-              (after-change blocks closed opened apart)
-              ∙ works_of-permutation (work_pairs (view_of blocks closed opened)) (work_pairs (values_of (blocks_in blocks')))
-              (IsPermutation-map (λ (e : Edition). (work_key_of e, least e)) (view_of blocks closed opened) (values_of (blocks_in blocks')) moved');
+              ∙ ap (λ ws. changed ws (closed_pairs works.names blocks closed) (work_pairs works.names (values_of opened))) (k.clustered ws old)
+              ∙ changed-members (work_pairs works.names (values_of (blocks_in blocks))) (closed_pairs works.names blocks closed) (work_pairs works.names (values_of opened))
+              (work_pairs works.names (view_of blocks closed opened))
+              (after-change works.names blocks closed opened apart)
+              ∙ works_of-permutation (work_pairs works.names (view_of blocks closed opened)) (work_pairs works.names (values_of (blocks_in blocks')))
+              (IsPermutation-map (λ (e : Edition). (work_key_by works.names e, least e)) (view_of blocks closed opened) (values_of (blocks_in blocks')) moved');
         }
 
 -- step by step
-pub installed : (history : List HistoryEntry) (entry : HistoryEntry) (homes : MapOf Home) (blocks : List (Option Block)) (works : Option WorkList) → IsKept history homes blocks works
+pub installed : (history : List HistoryEntry) (entry : HistoryEntry) (homes : MapOf Home) (blocks : List (Option Block)) (works : KeptWorks) → IsKept history homes blocks works
     → (closed : List ℕ) (opened : List Block) (touched : MapOf (Option Place)) → IsPlanned (batches history ++ entry.batch ∷ []) homes blocks (after_batch (current history) entry.batch) closed opened touched
     → (ids : List RecordId) → ids ≡ standing touched
     → (let-in : MapOf Home) → let-in ≡ admitted homes ids
@@ -314,15 +317,18 @@ pub installed : (history : List HistoryEntry) (entry : HistoryEntry) (homes : Ma
     → (roomy : List (Option Block)) → roomy ≡ blocks
     → (blocks' : List (Option Block)) → ((n : ℕ) (e : Block) → block_at roomy n ≡ Some e → (Contains closed n → ⊥) → block_at blocks' n ≡ Some e)
     → AreOpened (without roomy closed) closed (length roomy) opened blocks' → IsPermutation (view_of roomy closed opened) (values_of (blocks_in blocks'))
-    → (works' : Option WorkList) → works' ≡ option_map (λ ws. changed ws (closed_pairs blocks closed) (work_pairs (values_of opened))) works
+    → (works' : KeptWorks) → works'.names ≡ works.names
+    → works'.works ≡ option_map (λ ws. changed ws (closed_pairs works.names blocks closed) (work_pairs works.names (values_of opened))) works.works
     → (history₁ history' : List HistoryEntry) → history₁ ≡ history → history' ≡ history₁ ++ entry ∷ []
     → IsKept history' homes' blocks' works'
-installed history entry homes blocks works k closed opened touched p ids are within lets after settles numbers given homes' houses roomy same' blocks' kept fresh moved' works' changes history₁ history' same-history appended =
+installed history entry homes blocks works k closed opened touched p ids are within lets after settles numbers given homes' houses roomy same' blocks' kept fresh moved' works' same-names changes history₁ history' same-history appended =
     let kept' = subst (λ bs. (n : ℕ) (e : Block) → block_at bs n ≡ Some e → (Contains closed n → ⊥) → block_at blocks' n ≡ Some e) same' kept in
     let fresh' = subst (λ bs. AreOpened (without bs closed) closed (length bs) opened blocks') same' fresh in
     let view = subst (λ bs. IsPermutation (view_of bs closed opened) (values_of (blocks_in blocks'))) same' moved' in
-    let whole = kept-installed history entry homes blocks works k closed opened touched numbers p blocks' kept' fresh' view given works' changes in
+    let whole = kept-installed history entry homes blocks works k closed opened touched numbers p blocks' kept' fresh' view given works'.works changes in
     let found : homes' ≡ housed_all (fold moved (admitted homes (standing touched)) touched) opened numbers =
     houses ∙ ap (λ all. housed_all all opened numbers) (settles ∙ ap (λ all. fold moved all touched) (lets ∙ ap (admitted homes) are)) in
     subst (λ turns. IsKept turns homes' blocks' works') (sym (appended ∙ ap (λ turns. turns ++ entry ∷ []) same-history))
-    (subst (λ all. IsKept (history ++ entry ∷ []) all blocks' works') (sym found) whole)
+    (subst (λ all. IsKept (history ++ entry ∷ []) all blocks' works') (sym found)
+    (subst (λ names. IsKept (history ++ entry ∷ []) (housed_all (fold moved (admitted homes (standing touched)) touched) opened numbers) blocks'
+    (record { names = names; works = works'.works })) (sym same-names) whole))

@@ -24,8 +24,9 @@ use Rattle.swoosh_resolver.specs.Tables.{block_at, blocks_in, values_of}
 use Rattle.swoosh_resolver.proofs.Places.{number-from_block}
 use Rattle.work_clusters.proofs.MemberLaws.{works_of-permutation}
 use Rattle.work_clusters.specs.Works.{works_of}
-use Rattle.catalogue_editions.specs.EditionKeys.{work_key_of, work_pairs}
-use Rattle.catalogue_core.specs.Grouping.{WorkList}
+use Rattle.catalogue_editions.specs.EditionKeys.{work_key_by, work_pairs}
+use Rattle.authority_names.specs.Leads.{Table}
+use Rattle.catalogue_core.specs.Grouping.{WorkList, KeptWorks}
 use Rattle.catalogue_core.specs.Histories.{MapOf, at_id, is_current, bases, current, AreEditionsOf}
 use Rattle.catalogue_core.specs.Homes.{Block, has_contributor, places_in, named, named_in}
 use Rattle.catalogue_editions.specs.Ids.{least, edition_cmp}
@@ -122,7 +123,7 @@ once-ascending (x ∷ xs) up =
     (All-from_members (λ y. x ≢ y) xs (λ y c e. not-below_itself (least y) (ap (λ (z : Edition). is_lt (id_cmp (least z) (least y))) (sym e) ∙ each-of (λ y. is_lt (edition_cmp x y)) xs parts.0 y c)))
     (once-ascending xs parts.1)
 
-module _ (history : List HistoryEntry) (homes : MapOf Home) (blocks : List (Option Block)) (works : Option WorkList) (k : IsKept history homes blocks works) where
+module _ (history : List HistoryEntry) (homes : MapOf Home) (blocks : List (Option Block)) (works : KeptWorks) (k : IsKept history homes blocks works) where
   ordered : IsStrictlySortedBy id_cmp (keys_of homes)
   ordered = subst (IsStrictlySortedBy id_cmp)
       (sym (keys-values Some (current history)) ∙ ap keys_of (sym k.current.loads) ∙ keys-values (loaded_at (batches history)) (places_in homes) ∙ keys-values (λ (home : Home). home.place) homes)
@@ -153,9 +154,9 @@ module _ (history : List HistoryEntry) (homes : MapOf Home) (blocks : List (Opti
   }
 
   -- the works of the blocks are those of the editions in order
-  pub works-in_order : works_of (work_pairs (values_of (blocks_in blocks))) ≡ works_of (work_pairs (named_in blocks homes))
-  works-in_order = works_of-permutation (work_pairs (values_of (blocks_in blocks))) (work_pairs (named_in blocks homes))
-      (IsPermutation-map (λ (e : Edition). (work_key_of e, least e)) (values_of (blocks_in blocks)) (named_in blocks homes) walk-order)
+  pub works-in_order : works_of (work_pairs works.names (values_of (blocks_in blocks))) ≡ works_of (work_pairs works.names (named_in blocks homes))
+  works-in_order = works_of-permutation (work_pairs works.names (values_of (blocks_in blocks))) (work_pairs works.names (named_in blocks homes))
+      (IsPermutation-map (λ (e : Edition). (work_key_by works.names e, least e)) (values_of (blocks_in blocks)) (named_in blocks homes) walk-order)
 
   pub named-count : length (blocks_in blocks) ≡ length (named_in blocks homes)
   named-count = sym (length-map (blocks_in blocks) (λ (e : Block). e.value)) ∙ sym (length_permutation (values_of (blocks_in blocks)) (named_in blocks homes) walk-order)
@@ -208,8 +209,8 @@ module _ (history : List HistoryEntry) (homes : MapOf Home) (blocks : List (Opti
 
 -- ---- nothing is kept
 
-pub kept-nothing : IsKept [] [] [] None
-kept-nothing = record {
+pub kept-nothing : (names : Table) → IsKept [] [] [] (record { names = names; works = None })
+kept-nothing names = record {
   current = record { loads = refl };
   resolved = IsResolution-from_apart edition_join_laws edition_match_laws [] [] (λ e (k, kl, h). absurd (omega arith)) (λ x (k, kl, h). absurd (omega arith)) (AllPairs-none (λ x y. (IsTrue (match x y) → ⊥) × (IsTrue (match y x) → ⊥)));
   housed = record { each = λ id home at. cc; only = λ n e id at. absurd (nothing-stands n e at) };

@@ -15,7 +15,7 @@ use Rattle.catalogue_editions.specs.Resolutions.{IsOrderedResolution}
 use Rattle.catalogue_editions.specs.declared.edition.Edition.{Edition}
 use Rattle.edition_blocks.specs.Deltas.{IsDelta}
 use Rattle.edition_blocks.proofs.DeltaLaws.{delta-permutation}
-use Rattle.catalogue_core.specs.Grouping.{WorkList}
+use Rattle.catalogue_core.specs.Grouping.{KeptWorks}
 use Rattle.catalogue_core.specs.Histories.{MapOf, after_batch, bases, current, AreEditionsOf}
 use Rattle.catalogue_core.specs.Homes.{Block}
 use Rattle.catalogue_core.specs.Keeping.{batches}
@@ -25,11 +25,11 @@ use Rattle.catalogue_core.specs.declared.history_entry.HistoryEntry.{HistoryEntr
 use Rattle.record_homes.specs.declared.home.Home.{Home}
 use Rattle.record_homes.specs.declared.place.Place.{Place}
 
-pub kept-apart : (history : List HistoryEntry) (homes : MapOf Home) (blocks : List (Option Block)) (works : Option WorkList) → IsKept history homes blocks works
+pub kept-apart : (history : List HistoryEntry) (homes : MapOf Home) (blocks : List (Option Block)) (works : KeptWorks) → IsKept history homes blocks works
     → AreApart match (values_of (blocks_in blocks))
 kept-apart history homes blocks works k = apart-from_resolution edition_join_laws edition_match_laws (bases history) (values_of (blocks_in blocks)) k.resolved
 
-pub delta-told_of : (history turns now : List HistoryEntry) (entry : HistoryEntry) (homes : MapOf Home) (blocks : List (Option Block)) (works : Option WorkList)
+pub delta-told_of : (history turns now : List HistoryEntry) (entry : HistoryEntry) (homes : MapOf Home) (blocks : List (Option Block)) (works : KeptWorks)
     → IsKept history homes blocks works → history ≡ turns → now ≡ history ++ entry ∷ []
     → (closed : List ℕ) (opened : List Block) (touched : MapOf (Option Place))
     → IsPlanned (batches history ++ entry.batch ∷ []) homes blocks (after_batch (current history) entry.batch) closed opened touched

@@ -5,6 +5,8 @@ use Rattle.union_base.specs.declared.record_id.RecordId.{RecordId}
 use Rattle.work_clusters.specs.declared.change.WorkChange.{WorkChange}
 use Rattle.work_clusters.specs.Room.{WorkMap, HasRoom}
 use Rattle.work_clusters.specs.Works.{changed}
+use Rattle.authority_names.specs.Leads.{Table}
+use Rattle.catalogue_core.specs.declared.grouping.NamedWorks.{NamedWorks}
 use Rattle.catalogue_core.specs.declared.grouping.Grouping.{Grouping}
 use Rattle.catalogue_core.specs.declared.grouping.Grouping.TheVariants.{Kept, Made}
 
@@ -17,9 +19,16 @@ abbrev pub works_in : Grouping → WorkList
 works_in (Kept works) = works.now.works
 works_in (Made works) = works.works
 
--- the works that a catalogue keeps
-abbrev pub kept_works : Option WorkMap → Option WorkList
-kept_works works = option_map (λ w. w.works) works
+-- the table of names of a catalogue, and the works by it, where it keeps them
+pub record KeptWorks : Type 0 where
+  pub names : Table
+  pub works : Option WorkList
+
+abbrev pub list_in : Option WorkMap → Option WorkList
+list_in works = option_map (λ w. w.works) works
+
+abbrev pub kept_works : NamedWorks → KeptWorks
+kept_works kept = record { names = kept.names; works = list_in kept.works }
 
 -- there is room for the change, where there is one, in the works, where they are kept
 abbrev pub HasRoomFor : Option WorkMap → Option WorkChange → Type 0

@@ -5,7 +5,7 @@ use Rattle.merge_laws.specs.Resolution.{IsResolution}
 use Rattle.swoosh_resolver.specs.Tables.{blocks_in, values_of}
 use Rattle.work_clusters.specs.Works.{works_of}
 use Rattle.catalogue_editions.specs.EditionKeys.{work_pairs}
-use Rattle.catalogue_core.specs.Grouping.{WorkList}
+use Rattle.catalogue_core.specs.Grouping.{KeptWorks}
 use Rattle.catalogue_core.specs.Histories.{MapOf, bases, current as current_of}
 use Rattle.catalogue_core.specs.Homes.{Block, AreHoused, places_in}
 use Rattle.catalogue_editions.specs.Joining.{join}
@@ -15,9 +15,9 @@ use Rattle.catalogue_core.specs.declared.history_entry.HistoryEntry.{HistoryEntr
 use Rattle.record_homes.specs.declared.home.Home.{Home}
 
 -- under the id of each current record is the place in the history at which it was loaded, and the number of its block; the
--- blocks are what the current records resolve to, in any order, and the works that are kept are those of the blocks
-pub record IsKept (history : List HistoryEntry) (homes : MapOf Home) (blocks : List (Option Block)) (works : Option WorkList) : Type 0 where
+-- blocks are what the current records resolve to, in any order, and the works that are kept are those of the blocks by the names
+pub record IsKept (history : List HistoryEntry) (homes : MapOf Home) (blocks : List (Option Block)) (works : KeptWorks) : Type 0 where
   pub current : StandFor (batches history) (places_in homes) (current_of history)
   pub resolved : IsResolution match join (bases history) (values_of (blocks_in blocks))
   pub housed : AreHoused blocks homes
-  pub clustered : ForSome works (λ ws. ws ≡ works_of (work_pairs (values_of (blocks_in blocks))))
+  pub clustered : ForSome works.works (λ ws. ws ≡ works_of (work_pairs works.names (values_of (blocks_in blocks))))

@@ -1,17 +1,21 @@
 //! The union catalogue as an object that changes.
 //!
-//! A catalogue is its history: the batches that were applied, in order. Everything else that it answers is a function of that
-//! list (`specs/Histories.antt`): which records are current, and the editions that they come to, which are at every moment the
-//! resolution, from scratch, of the current records; and the works of those editions.
+//! A catalogue is its history, the batches that were applied, in order, and its table of names, which no call changes.
+//! Everything else that it answers is a function of the two (`specs/Histories.antt`): which records are current, and the
+//! editions that they come to, which are at every moment the resolution, from scratch, of the current records; and the works of
+//! those editions.
 //!
 //! Beside the history it keeps the editions in blocks under numbers, with an index of their keys, and under the id of each
 //! current record its home: where in the history it was loaded, and the number of its block. A turn counts at most the reach of
 //! its batch (`specs/Reaches.antt`), whatever the size of the catalogue.
-ghost use Rattle.std.specs.Prelude.{◌≡◌, ◌≤◌, ◌+◌, ◌<◌, ◌^◌, ◌++◌, ◌∷◌, [], ℕ, List, length, map, filter, not, is_none, IfOk, OnOk, OnErr, Some, slice_get};
+ghost use Rattle.std.specs.Prelude.{◌≡◌, ◌≤◌, ◌+◌, ◌<◌, ◌^◌, ◌++◌, ◌∷◌, [], ℕ, List, length, map, filter, not, is_none, IfOk, IsTrue, OnOk, OnErr, Some, slice_get};
 ghost use Rattle.std.specs.Option.{option_copied};
+ghost use Rattle.std.specs.Str.{is_utf8};
+ghost use Rattle.union_base.specs.Fields.{is_text};
 ghost use Rattle.catalogue_editions.specs.declared.edition.Edition.{Edition as EditionModel};
 ghost use Rattle.work_clusters.specs.Works.{works_of};
-ghost use Rattle.catalogue_editions.specs.EditionKeys.{work_pairs};
+ghost use Rattle.catalogue_editions.specs.EditionKeys.{work_key_by, work_pairs};
+ghost use Rattle.catalogue_core.specs.Catalogues.{by_names, empty_catalogue};
 ghost use Rattle.catalogue_core.specs.Grouping.{works_in};
 ghost use Rattle.edition_blocks.specs.Deltas.{IsDelta};
 ghost use Rattle.catalogue_core.specs.Histories.{current, bases, at_id, is_current, outcomes, AreEditionsOf};
@@ -23,17 +27,19 @@ ghost use Rattle.catalogue_editions.specs.Resolutions.{IsOrderedResolution};
 ghost use Rattle.catalogue_core.specs.Walks.{holder_of};
 
 use crate::by_key;
-use crate::grouping::{Grouping, grouped};
+use crate::grouping::{Grouping, NamedWorks, grouped};
 use crate::history_entry::HistoryEntry;
 use crate::installing::install;
 use crate::keeping::loaded_at;
 use crate::parts_turn::apply_parts;
 use crate::turn::planned;
 use crate::walk::in_order;
+use authority_names::name_table::NameTable;
 use catalogue_editions::batch::Batch;
 use catalogue_editions::edition::Edition;
 use catalogue_editions::outcome::Outcome;
 use catalogue_editions::prepared::Prepared;
+use catalogue_editions::work_key::work_key_of;
 use edition_blocks::delta::Delta;
 use edition_blocks::telling::delta_of;
 use match_features::keys::FeatureKey;
@@ -43,16 +49,16 @@ use std::alloc::Global;
 use std::marker::Model;
 use std::sync::ledger::Ledger;
 use swoosh_resolver::blocks::Blocks;
+use union_base::bytes::Bytes;
 use union_base::memory::Memory;
 use union_base::record_id::RecordId;
-use work_clusters::works::Works;
 
-/// The union catalogue of some libraries. Contracts see it as its history.
+/// The union catalogue of some libraries. Contracts see it as its history and its table of names.
 pub struct Catalogue {
     history: Vec<HistoryEntry>,
     homes: HomeTable,
     blocks: Blocks<Edition>,
-    works: Option<Works>,
+    works: NamedWorks,
 }
 
 /// A drop of its own, as that of `Bytes`.
@@ -68,29 +74,37 @@ impl Drop for Catalogue {
 }
 
 impl Model for Catalogue {
-    ghost use Rattle.std.specs.Prelude.{List};
-    ghost use Rattle.catalogue_core.specs.declared.history_entry.HistoryEntry.{HistoryEntry};
+    ghost use Rattle.catalogue_core.specs.Catalogues.{CatalogueValue};
 
-    ghost Value = { List HistoryEntry };
+    ghost Value = { CatalogueValue };
 
     ghost use Rattle.catalogue_core.specs.Grouping.{kept_works};
     ghost use Rattle.catalogue_core.specs.Kept.{IsKept};
 
-    ghost view = { λ c. c.history.items };
+    ghost view = { λ c. record { history = c.history.items; names = c.works.names } };
 
     ghost invariant = { λ c. IsKept c.history.items c.homes.entries c.blocks.blocks (kept_works c.works) };
 }
 
 impl Catalogue {
-    /// A catalogue without history, which keeps no works yet. Returns `Memory` if allocation fails.
+    /// A catalogue without history and without names, which keeps no works yet. Returns `Memory` if allocation fails.
     pub fn empty(alloc: Global) -> Result<Catalogue, Memory>
-        ensures { IfOk result (λ catalogue. catalogue ≡ []) }
+        ensures { IfOk result (λ catalogue. catalogue ≡ empty_catalogue) }
+    {
+        Catalogue::with_names(alloc, NameTable::empty(alloc))
+    }
+
+    /// A catalogue without history, whose work keys are by the names of the table. It keeps no works yet.
+    ///
+    /// Returns `Memory` if allocation fails.
+    pub fn with_names(alloc: Global, names: NameTable) -> Result<Catalogue, Memory>
+        ensures { IfOk result (λ catalogue. catalogue ≡ by_names names) }
     {
         Ok(Catalogue {
             history: Vec::new(alloc),
             homes: HomeTable::new(alloc),
             blocks: Blocks::empty(alloc),
-            works: None,
+            works: NamedWorks { names, works: None },
         })
     }
 
@@ -101,8 +115,8 @@ impl Catalogue {
     pub fn keep_works(&mut self, alloc: Global) -> Result<(), Memory>
         ensures { self.new ≡ self.old }
     {
-        let works = grouped(alloc, &self.blocks)?;
-        self.works = Some(works);
+        let works = grouped(alloc, &self.works.names, &self.blocks)?;
+        self.works.works = Some(works);
         Ok(())
     }
 
@@ -117,10 +131,11 @@ impl Catalogue {
         batch: Batch,
         steps: &mut Steps<L>,
     ) -> Result<Vec<Outcome>, Memory>
-        ensures appended { OnOk result (self.new ≡ self.old ++ record { pass = number; batch = batch } ∷ []) }
-        ensures outcomes { IfOk result (λ found. found.items ≡ outcomes batch.library (current self.old) batch.ops) }
+        ensures appended { OnOk result (self.new.history ≡ self.old.history ++ record { pass = number; batch = batch } ∷ []) }
+        ensures names { self.new.names ≡ self.old.names }
+        ensures outcomes { IfOk result (λ found. found.items ≡ outcomes batch.library (current self.old.history) batch.ops) }
         ensures kept { OnErr result (self.new ≡ self.old) }
-        ensures reach { (number : ℕ) → IsReachOf batch.library (current self.old) batch.ops number
+        ensures reach { (number : ℕ) → IsReachOf batch.library (current self.old.history) batch.ops number
             → steps.new ≤ steps.old + number }
     {
         let (plan, found) = planned(
@@ -159,12 +174,13 @@ impl Catalogue {
         batch: Batch,
         steps: &mut Steps<L>,
     ) -> Result<(Vec<Outcome>, Delta), Memory>
-        ensures appended { OnOk result (self.new ≡ self.old ++ record { pass = number; batch = batch } ∷ []) }
-        ensures outcomes { IfOk result (λ told. told.0.items ≡ outcomes batch.library (current self.old) batch.ops) }
-        ensures delta { IfOk result (λ told. (before after : List EditionModel) → AreEditionsOf self.old before
-            → AreEditionsOf self.new after → IsDelta before after told.1.closed.items told.1.opened.items) }
+        ensures appended { OnOk result (self.new.history ≡ self.old.history ++ record { pass = number; batch = batch } ∷ []) }
+        ensures names { self.new.names ≡ self.old.names }
+        ensures outcomes { IfOk result (λ told. told.0.items ≡ outcomes batch.library (current self.old.history) batch.ops) }
+        ensures delta { IfOk result (λ told. (before after : List EditionModel) → AreEditionsOf self.old.history before
+            → AreEditionsOf self.new.history after → IsDelta before after told.1.closed.items told.1.opened.items) }
         ensures kept { OnErr result (self.new ≡ self.old) }
-        ensures reach { (number : ℕ) → IsReachOf batch.library (current self.old) batch.ops number
+        ensures reach { (number : ℕ) → IsReachOf batch.library (current self.old.history) batch.ops number
             → steps.new ≤ steps.old + number }
     {
         let (plan, found) = planned(
@@ -204,11 +220,12 @@ impl Catalogue {
         prepared: Prepared,
         steps: &mut Steps<L>,
     ) -> Result<Vec<Outcome>, Memory>
-        ensures appended { OnOk result (self.new ≡ self.old ++ record { pass = number; batch = prepared } ∷ []) }
-        ensures outcomes { IfOk result (λ found. found.items ≡ outcomes prepared.library (current self.old) prepared.ops) }
+        ensures appended { OnOk result (self.new.history ≡ self.old.history ++ record { pass = number; batch = prepared } ∷ []) }
+        ensures names { self.new.names ≡ self.old.names }
+        ensures outcomes { IfOk result (λ found. found.items ≡ outcomes prepared.library (current self.old.history) prepared.ops) }
         ensures kept { OnErr result (self.new ≡ self.old) }
         ensures reach { (parts : List EditionModel) (reach : ℕ) → IsOrderedResolution (net prepared) parts
-            → IsReachOfParts prepared.library (current self.old) prepared.ops parts reach → steps.new ≤ steps.old + reach }
+            → IsReachOfParts prepared.library (current self.old.history) prepared.ops parts reach → steps.new ≤ steps.old + reach }
     {
         let (batch, parts) = prepared.into_parts();
         apply_parts(
@@ -228,7 +245,7 @@ impl Catalogue {
     ///
     /// Returns `Memory` if allocation fails.
     pub fn editions(&self, alloc: Global) -> Result<Vec<&Edition>, Memory>
-        ensures { (all : List EditionModel) × AreEditionsOf self.now all
+        ensures { (all : List EditionModel) × AreEditionsOf self.now.history all
             × IfOk result (λ found. map (λ e. e.now) found.items ≡ all) }
     {
         in_order(alloc, &self.blocks)
@@ -236,8 +253,8 @@ impl Catalogue {
 
     /// The edition that the record of that id is a contributor of: None exactly where it is not current. Takes no memory.
     pub fn holder(&self, id: &RecordId) -> Option<&Edition>
-        ensures holder { (all : List EditionModel) × AreEditionsOf self.now all × (option_copied result ≡ holder_of all id.now) }
-        ensures none { is_none result ≡ not (is_current (current self.now) id.now) }
+        ensures holder { (all : List EditionModel) × AreEditionsOf self.now.history all × (option_copied result ≡ holder_of all id.now) }
+        ensures none { is_none result ≡ not (is_current (current self.now.history) id.now) }
     {
         match self.homes.get(id) {
             Some(home) => self.blocks.block(home.block),
@@ -250,7 +267,7 @@ impl Catalogue {
     ///
     /// Returns `Memory` if allocation fails.
     pub fn with_key(&self, alloc: Global, key: &FeatureKey) -> Result<Vec<&Edition>, Memory>
-        ensures { IfOk result (λ found. (all : List EditionModel) × AreEditionsOf self.now all
+        ensures { IfOk result (λ found. (all : List EditionModel) × AreEditionsOf self.now.history all
             × (map (λ e. e.now) found.items ≡ filter (has_key key.now) all)) }
     {
         by_key::with_key(alloc, &self.blocks, key)
@@ -258,7 +275,7 @@ impl Catalogue {
 
     /// The current record of that id, as its edition: None exactly where it is not current. Takes no memory.
     pub fn base(&self, id: &RecordId) -> Option<&Edition>
-        ensures { option_copied result ≡ at_id (current self.now) id.now }
+        ensures { option_copied result ≡ at_id (current self.now.history) id.now }
     {
         match self.homes.get(id) {
             Some(home) => loaded_at(&self.history, home.place),
@@ -268,14 +285,14 @@ impl Catalogue {
 
     /// How many editions there are. Takes no memory.
     pub fn edition_count(&self) -> u64
-        ensures { (all : List EditionModel) × AreEditionsOf self.now all × (result ≡ length all) }
+        ensures { (all : List EditionModel) × AreEditionsOf self.now.history all × (result ≡ length all) }
     {
         self.blocks.count() as u64
     }
 
     /// How many records are current. Takes no memory.
     pub fn record_count(&self) -> u64
-        ensures { result ≡ length (bases self.now) }
+        ensures { result ≡ length (bases self.now.history) }
     {
         self.homes.len()
     }
@@ -285,31 +302,42 @@ impl Catalogue {
     ///
     /// Returns `Memory` if allocation fails.
     pub fn works(&self, alloc: Global) -> Result<Grouping<'_>, Memory>
-        ensures { (all : List EditionModel) × AreEditionsOf self.now all
-            × IfOk result (λ grouping. works_in grouping ≡ works_of (work_pairs all)) }
+        ensures { (all : List EditionModel) × AreEditionsOf self.now.history all
+            × IfOk result (λ grouping. works_in grouping ≡ works_of (work_pairs self.now.names all)) }
     {
-        match &self.works {
+        match &self.works.works {
             Some(works) => Ok(Grouping::Kept(works)),
-            None => match grouped(alloc, &self.blocks) {
+            None => match grouped(alloc, &self.works.names, &self.blocks) {
                 Ok(made) => Ok(Grouping::Made(made)),
                 Err(Memory) => Err(Memory),
             },
         }
     }
 
+    /// The work key of an edition, by the catalogue's table of names. It is UTF-8, and has none of 0x1D, 0x1E and 0x1F.
+    ///
+    /// Returns `Memory` if allocation fails.
+    pub fn key_of(&self, alloc: Global, edition: &Edition) -> Result<Bytes, Memory>
+        ensures value { IfOk result (λ key. key ≡ work_key_by self.now.names edition.now) }
+        ensures text { IfOk result (λ key. IsTrue (is_text key)) }
+        ensures utf8 { IfOk result (λ key. IsTrue (is_utf8 key)) }
+    {
+        work_key_of(alloc, &self.works.names, edition)
+    }
+
     /// How many works the editions make. Costs what `works` does.
     ///
     /// Returns `Memory` if allocation fails.
     pub fn work_count(&self, alloc: Global) -> Result<u64, Memory>
-        ensures { IfOk result (λ count. (all : List EditionModel) × AreEditionsOf self.now all
-            × (count ≡ length (works_of (work_pairs all)))) }
+        ensures { IfOk result (λ count. (all : List EditionModel) × AreEditionsOf self.now.history all
+            × (count ≡ length (works_of (work_pairs self.now.names all)))) }
     {
         Ok(self.works(alloc)?.works().count())
     }
 
     /// How many turns the history has. Takes no memory.
     pub fn turns(&self) -> u64
-        ensures value { result ≡ length self.now }
+        ensures value { result ≡ length self.now.history }
         ensures few { result < 2 ^ 63 }
     {
         self.history.len() as u64
@@ -317,8 +345,8 @@ impl Catalogue {
 
     /// The entry of that turn, counted from 0. Takes no memory.
     pub fn entry(&self, turn: u64) -> &HistoryEntry
-        requires { turn < length self.now }
-        ensures { slice_get self.now turn ≡ Some result.now }
+        requires { turn < length self.now.history }
+        ensures { slice_get self.now.history turn ≡ Some result.now }
     {
         &self.history[turn as usize]
     }

@@ -9,16 +9,17 @@ ghost use Rattle.work_clusters.specs.Room.{HasRoom};
 ghost use Rattle.work_clusters.specs.Works.{changed};
 ghost use Rattle.catalogue_editions.specs.EditionKeys.{work_pairs};
 ghost use Rattle.catalogue_core.specs.ClosedKeys.{closed_pairs};
-ghost use Rattle.catalogue_core.specs.Grouping.{HasRoomFor, kept_works, regrouped};
+ghost use Rattle.catalogue_core.specs.Grouping.{HasRoomFor, kept_works, list_in, regrouped};
 ghost use Rattle.catalogue_core.specs.Histories.{after_batch, current};
 ghost use Rattle.catalogue_core.specs.Keeping.{batches};
 ghost use Rattle.catalogue_core.specs.Kept.{IsKept};
 ghost use Rattle.catalogue_core.specs.Plans.{IsPlanned};
 
-use crate::grouping::work_pair;
+use crate::grouping::{NamedWorks, work_pair};
 use crate::history_entry::HistoryEntry;
 use crate::homes::{admit, house_all, move_all, standing};
 use crate::plan::Plan;
+use authority_names::name_table::NameTable;
 use catalogue_editions::edition::Edition;
 use record_homes::table::HomeTable;
 use std::alloc::Global;
@@ -34,27 +35,32 @@ use work_clusters::works::Works;
 /// The work keys of the blocks under the numbers, each with its edition's least contributor. Returns `Memory` if allocation fails.
 fn closed_pairs(
     alloc: Global,
+    names: &NameTable,
     blocks: &Blocks<Edition>,
     closed: &[u64],
 ) -> Result<Vec<(Bytes, RecordId)>, Memory>
-    ensures { IfOk result (λ pairs. pairs.items ≡ closed_pairs blocks.now.blocks closed.now) }
+    ensures { IfOk result (λ pairs. pairs.items ≡ closed_pairs names.now blocks.now.blocks closed.now) }
 {
     let mut pairs = Vec::with_capacity(alloc, closed.len())?;
     for number in closed {
         if let Some(edition) = blocks.block(*number) {
-            pairs.push(work_pair(alloc, edition)?)?;
+            pairs.push(work_pair(alloc, names, edition)?)?;
         }
     }
     Ok(pairs)
 }
 
 /// The work keys of the opened blocks, each with its edition's least contributor. Returns `Memory` if allocation fails.
-fn opened_pairs(alloc: Global, opened: &[Keyed<Edition>]) -> Result<Vec<(Bytes, RecordId)>, Memory>
-    ensures { IfOk result (λ pairs. pairs.items ≡ work_pairs (values_of opened.now)) }
+fn opened_pairs(
+    alloc: Global,
+    names: &NameTable,
+    opened: &[Keyed<Edition>],
+) -> Result<Vec<(Bytes, RecordId)>, Memory>
+    ensures { IfOk result (λ pairs. pairs.items ≡ work_pairs names.now (values_of opened.now)) }
 {
     let mut pairs = Vec::with_capacity(alloc, opened.len())?;
     for keyed in opened {
-        pairs.push(work_pair(alloc, &keyed.value)?)?;
+        pairs.push(work_pair(alloc, names, &keyed.value)?)?;
     }
     Ok(pairs)
 }
@@ -62,17 +68,18 @@ fn opened_pairs(alloc: Global, opened: &[Keyed<Edition>]) -> Result<Vec<(Bytes, 
 /// The change of the works that goes with one of the blocks, with room for it. Memory where it runs out; the works stay.
 fn make_room_in(
     alloc: Global,
+    names: &NameTable,
     blocks: &Blocks<Edition>,
     works: &mut Works,
     change: &Change<Edition>,
 ) -> Result<WorkChange, Memory>
     ensures same { works.new.works ≡ works.old.works }
-    ensures gone { IfOk result (λ c. c.gone ≡ closed_pairs blocks.now.blocks change.now.closed.items) }
-    ensures come { IfOk result (λ c. c.come ≡ work_pairs (values_of change.now.opened.items)) }
+    ensures gone { IfOk result (λ c. c.gone ≡ closed_pairs names.now blocks.now.blocks change.now.closed.items) }
+    ensures come { IfOk result (λ c. c.come ≡ work_pairs names.now (values_of change.now.opened.items)) }
     ensures room { IfOk result (λ c. HasRoom works.new.room c.come) }
 {
-    let gone = closed_pairs(alloc, blocks, change.closed.as_slice())?;
-    let come = opened_pairs(alloc, change.opened.as_slice())?;
+    let gone = closed_pairs(alloc, names, blocks, change.closed.as_slice())?;
+    let come = opened_pairs(alloc, names, change.opened.as_slice())?;
     let regrouped = works.plan(alloc, gone, come)?;
     works.make_room(alloc, &regrouped)?;
     Ok(regrouped)
@@ -82,18 +89,19 @@ fn make_room_in(
 fn make_room_in_kept(
     alloc: Global,
     blocks: &Blocks<Edition>,
+    names: &NameTable,
     works: &mut Option<Works>,
     change: &Change<Edition>,
 ) -> Result<Option<WorkChange>, Memory>
-    ensures same { kept_works works.new ≡ kept_works works.old }
+    ensures same { list_in works.new ≡ list_in works.old }
     ensures room { IfOk result (λ c. HasRoomFor works.new c) }
-    ensures change { IfOk result (λ c. regrouped (kept_works works.old) c
-        ≡ option_map (λ ws. changed ws (closed_pairs blocks.now.blocks change.now.closed.items)
-        (work_pairs (values_of change.now.opened.items))) (kept_works works.old)) }
+    ensures change { IfOk result (λ c. regrouped (list_in works.old) c
+        ≡ option_map (λ ws. changed ws (closed_pairs names.now blocks.now.blocks change.now.closed.items)
+        (work_pairs names.now (values_of change.now.opened.items))) (list_in works.old)) }
 {
     match works {
         Some(works) => {
-            let regrouped = make_room_in(alloc, blocks, works, change)?;
+            let regrouped = make_room_in(alloc, names, blocks, works, change)?;
             Ok(Some(regrouped))
         }
         None => Ok(None),
@@ -103,7 +111,7 @@ fn make_room_in_kept(
 /// Makes the works that are kept those after the change. Takes no memory.
 fn regroup(works: &mut Option<Works>, change: Option<WorkChange>)
     requires { HasRoomFor works.old change }
-    ensures { kept_works works.new ≡ regrouped (kept_works works.old) change }
+    ensures { list_in works.new ≡ regrouped (list_in works.old) change }
 {
     if let (Some(works), Some(change)) = (works, change) {
         works.install(change);
@@ -117,7 +125,7 @@ pub fn install(
     history: &mut Vec<HistoryEntry>,
     homes: &mut HomeTable,
     blocks: &mut Blocks<Edition>,
-    works: &mut Option<Works>,
+    works: &mut NamedWorks,
     entry: HistoryEntry,
     plan: Plan,
 ) -> Result<(), Memory>
@@ -126,11 +134,12 @@ pub fn install(
         (after_batch (current history.old.items) entry.batch) plan.change.closed.items plan.change.opened.items
         plan.touched.entries }
     ensures kept { IsKept history.new.items homes.new.entries blocks.new.blocks (kept_works works.new) }
+    ensures names { works.new.names ≡ works.old.names }
     ensures appended { OnOk result (history.new.items ≡ history.old.items ++ entry ∷ []) }
     ensures same { OnErr result (history.new.items ≡ history.old.items) }
 {
     let ids = standing(alloc, &plan.touched)?;
-    let regrouped = make_room_in_kept(alloc, blocks, works, &plan.change)?;
+    let regrouped = make_room_in_kept(alloc, blocks, &works.names, &mut works.works, &plan.change)?;
     let numbers = blocks.make_room(alloc, &plan.change)?;
     history.reserve(1)?;
     admit(alloc, homes, ids.as_slice())?;
@@ -138,7 +147,7 @@ pub fn install(
     move_all(homes, &touched);
     house_all(homes, change.opened.as_slice(), numbers.as_slice());
     blocks.install(change);
-    regroup(works, regrouped);
+    regroup(&mut works.works, regrouped);
     let _ = history.push(entry);
     Ok(())
 }

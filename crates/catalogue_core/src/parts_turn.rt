@@ -9,6 +9,7 @@ ghost use Rattle.catalogue_editions.specs.Matching.{match as edition_match};
 ghost use Rattle.catalogue_editions.specs.Net.{net};
 ghost use Rattle.catalogue_core.specs.PreparedReaches.{IsReachOfParts};
 
+use crate::grouping::NamedWorks;
 use crate::history_entry::HistoryEntry;
 use crate::installing::install;
 use crate::parts_planning::planned_parts;
@@ -22,7 +23,6 @@ use std::sync::ledger::Ledger;
 use swoosh_resolver::blocks::Blocks;
 use union_base::memory::Memory;
 use union_base::record_id::RecordId;
-use work_clusters::works::Works;
 
 /// Applies a batch, whose loads come to these parts, under that number, to what a catalogue keeps; and answers what came of each
 /// of its operations. Counts the match tests: at most the reach of the parts, also where it answers `Memory`.
@@ -33,7 +33,7 @@ pub fn apply_parts<L: Ledger>(
     history: &mut Vec<HistoryEntry>,
     homes: &mut HomeTable,
     blocks: &mut Blocks<Edition>,
-    works: &mut Option<Works>,
+    works: &mut NamedWorks,
     number: u32,
     batch: Batch,
     parts: Vec<Edition>,
@@ -42,6 +42,7 @@ pub fn apply_parts<L: Ledger>(
     requires kept { IsKept history.old.items homes.old.entries blocks.old.blocks (kept_works works.old) }
     requires parts { IsResolution edition_match join (net batch) parts.items }
     ensures kept { IsKept history.new.items homes.new.entries blocks.new.blocks (kept_works works.new) }
+    ensures names { works.new.names ≡ works.old.names }
     ensures appended { OnOk result (history.new.items ≡ history.old.items ++ record { pass = number; batch = batch } ∷ []) }
     ensures outcomes { IfOk result (λ found. found.items ≡ outcomes batch.library (current history.old.items) batch.ops) }
     ensures same { OnErr result (history.new.items ≡ history.old.items) }

@@ -4,4 +4,4 @@ use Rattle.catalogue_editions.specs.EditionKeys.{work_pairs}
 use Rattle.catalogue_core.proofs.installing.opened_pairs.Given as goal
 
 abbrev pub invariant-loop-keyed : goal.invariant-loop-keyed
-invariant-loop-keyed l = l.pairs.items ≡ work_pairs (values_of (take l.keyed-index l.opened))
+invariant-loop-keyed l = l.pairs.items ≡ work_pairs l.names (values_of (take l.keyed-index l.opened))

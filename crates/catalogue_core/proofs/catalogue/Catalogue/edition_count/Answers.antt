@@ -3,6 +3,7 @@ use Rattle.catalogue_core.specs.Grouping.{kept_works}
 use Rattle.catalogue_core.specs.Histories.{AreEditionsOf}
 use Rattle.catalogue_core.specs.Homes.{named_in}
 use Rattle.catalogue_editions.specs.declared.edition.Edition.{Edition}
+use Rattle.catalogue_core.specs.Catalogues.{CatalogueValue}
 use Rattle.catalogue_core.proofs.NamedLaws.{named-editions, named-count}
 use Rattle.catalogue_core.proofs.catalogue.Catalogue.edition_count.Goals as goal
 
@@ -11,5 +12,5 @@ returns c =
     let x = c.self.inside in
     let k = c.self.invariant in
     let all = named_in x.blocks.blocks x.homes.entries in
-    subst (λ turns. (all : List Edition) × AreEditionsOf turns all × (c.count.result ≡ length all)) c.self.view_is
+    subst (λ (v : CatalogueValue). (all : List Edition) × AreEditionsOf v.history all × (c.count.result ≡ length all)) c.self.view_is
     (all, named-editions x.history.items x.homes.entries x.blocks.blocks (kept_works x.works) k, c.count.ensures ∙ named-count x.history.items x.homes.entries x.blocks.blocks (kept_works x.works) k)

@@ -6,6 +6,7 @@ use Rattle.swoosh_resolver.specs.Tables.{blocks_in, values_of}
 use Rattle.catalogue_core.specs.Grouping.{kept_works}
 use Rattle.catalogue_core.specs.Histories.{AreEditionsOf, bases}
 use Rattle.catalogue_core.specs.Homes.{named_in}
+use Rattle.catalogue_core.specs.Catalogues.{CatalogueValue}
 use Rattle.catalogue_core.proofs.ByKey.{both-ok}
 use Rattle.catalogue_core.proofs.NamedLaws.{named-editions}
 use Rattle.catalogue_core.proofs.SameEditions.{same_editions_of}
@@ -17,7 +18,7 @@ returns c =
     let k = c.self.invariant in
     let all = named_in x.blocks.blocks x.homes.entries in
     let are = named-editions x.history.items x.homes.entries x.blocks.blocks (kept_works x.works) k in
-    subst (λ turns. (all : List Edition) × AreEditionsOf turns all × IfOk c.in_order.result (λ found. map (λ (e : Bor Edition). e.now) found.items ≡ all)) c.self.view_is (
+    subst (λ (v : CatalogueValue). (all : List Edition) × AreEditionsOf v.history all × IfOk c.in_order.result (λ found. map (λ (e : Bor Edition). e.now) found.items ≡ all)) c.self.view_is (
       all,
       are,
       both-ok c.in_order.result _ _ _

@@ -6,6 +6,7 @@ use Rattle.catalogue_core.specs.Histories.{at_id, is_current, current, AreEditio
 use Rattle.catalogue_core.specs.Homes.{Block, named_in}
 use Rattle.catalogue_core.specs.Walks.{holder_of}
 use Rattle.catalogue_editions.specs.declared.edition.Edition.{Edition}
+use Rattle.catalogue_core.specs.Catalogues.{CatalogueValue}
 use Rattle.catalogue_core.proofs.Looking.{none-copied}
 use Rattle.catalogue_core.proofs.NamedLaws.{named-editions, holder-is, holder-none, home-current}
 use Rattle.catalogue_core.proofs.catalogue.Catalogue.holder.Goals as goal
@@ -18,7 +19,7 @@ returns-in-Some-clause-holder c =
     let home = c.in-Some.home in
     let at : at_id x.homes.entries id ≡ Some home = sym c.get.ensures ∙ c.in-Some.is in
     let (e, stands, bears) = k.housed.each id home at in
-    subst (λ turns. (all : List Edition) × AreEditionsOf turns all × (option_copied c.block.result ≡ holder_of all id)) c.self.view_is (
+    subst (λ (v : CatalogueValue). (all : List Edition) × AreEditionsOf v.history all × (option_copied c.block.result ≡ holder_of all id)) c.self.view_is (
       named_in x.blocks.blocks x.homes.entries,
       named-editions x.history.items x.homes.entries x.blocks.blocks (kept_works x.works) k,
       c.block.ensures ∙ ap (option_map (λ (b : Block). b.value)) stands ∙ holder-is x.history.items x.homes.entries x.blocks.blocks (kept_works x.works) k id home e at stands,
@@ -33,7 +34,7 @@ returns-in-Some-clause-none c =
     let at : at_id x.homes.entries id ≡ Some home = sym c.get.ensures ∙ c.in-Some.is in
     let (e, stands, bears) = k.housed.each id home at in
     sym (none-copied c.block.result) ∙ ap is_none (c.block.ensures ∙ ap (option_map (λ (b : Block). b.value)) stands)
-    ∙ ap not (ap is_some (sym at) ∙ home-current x.history.items x.homes.entries x.blocks.blocks (kept_works x.works) k id) ∙ ap (λ turns. not (is_current (current turns) id)) c.self.view_is
+    ∙ ap not (ap is_some (sym at) ∙ home-current x.history.items x.homes.entries x.blocks.blocks (kept_works x.works) k id) ∙ ap (λ (v : CatalogueValue). not (is_current (current v.history) id)) c.self.view_is
 
 pub returns-in-None-clause-holder : goal.returns-in-None-clause-holder
 returns-in-None-clause-holder c =
@@ -41,7 +42,7 @@ returns-in-None-clause-holder c =
     let k = c.self.invariant in
     let id = c.args.id.now in
     let at : at_id x.homes.entries id ≡ None = sym c.get.ensures ∙ c.in-None.is in
-    subst (λ turns. (all : List Edition) × AreEditionsOf turns all × (◌≡◌ {A = Option Edition} None (holder_of all id))) c.self.view_is (
+    subst (λ (v : CatalogueValue). (all : List Edition) × AreEditionsOf v.history all × (◌≡◌ {A = Option Edition} None (holder_of all id))) c.self.view_is (
       named_in x.blocks.blocks x.homes.entries,
       named-editions x.history.items x.homes.entries x.blocks.blocks (kept_works x.works) k,
       holder-none x.history.items x.homes.entries x.blocks.blocks (kept_works x.works) k id at,
@@ -53,4 +54,4 @@ returns-in-None-clause-none c =
     let k = c.self.invariant in
     let id = c.args.id.now in
     let at : at_id x.homes.entries id ≡ None = sym c.get.ensures ∙ c.in-None.is in
-    ap not (ap is_some (sym at) ∙ home-current x.history.items x.homes.entries x.blocks.blocks (kept_works x.works) k id) ∙ ap (λ turns. not (is_current (current turns) id)) c.self.view_is
+    ap not (ap is_some (sym at) ∙ home-current x.history.items x.homes.entries x.blocks.blocks (kept_works x.works) k id) ∙ ap (λ (v : CatalogueValue). not (is_current (current v.history) id)) c.self.view_is

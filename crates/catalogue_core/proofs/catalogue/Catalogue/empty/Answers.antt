@@ -1,5 +1,0 @@
-use Rattle.catalogue_core.proofs.NamedLaws.{kept-nothing}
-use Rattle.catalogue_core.proofs.catalogue.Catalogue.empty.Goals as goal
-
-pub invariant_of-result : goal.invariant_of-result
-invariant_of-result c = rw (c.new.ensures.items, c.new-2.ensures, c.empty.ensures) kept-nothing
