@@ -11,8 +11,7 @@ pub mod WholeLaws
 pub mod NumberShapeLaws
 pub mod ExportedParts
 pub mod ExportedProof
-pub mod KeyLetters
-pub mod KeyUtf8
+pub mod EditionLaws
 pub mod WritingLaws
 pub mod AroundLaws
 mod WorkWalk

@@ -3,26 +3,31 @@ use Rattle.std.specs.Prelude.{ℕ, ◌==◌, List, [], ◌∷◌, if◌then◌el
 use Rattle.std.specs.List.{flat_map}
 use Rattle.union_base.specs.declared.record_id.RecordId.{RecordId}
 use Rattle.catalogue_core.specs.Ids.{least}
-use Rattle.catalogue_core.specs.EditionKeys.{work_key_of}
+use Rattle.catalogue_core.specs.EditionKeys.{work_key_by}
+use Rattle.authority_names.specs.Leads.{Table}
 use Rattle.catalogue_editions.specs.declared.edition.Edition.{Edition}
 use Rattle.catalogue_export.specs.Exported.{edition_bytes, left_out}
 
--- an edition's record, under its own work key
-unfoldable pub edition_text : Edition → List ℕ
-edition_text e = edition_bytes e.content (work_key_of e)
+-- an edition's record, under its own work key by the table of names
+unfoldable pub edition_text : Table → Edition → List ℕ
+edition_text names e = edition_bytes e.content (work_key_by names e)
 
 -- the export: the records of the editions, one after the other
-abbrev pub export_text : List Edition → List ℕ
-export_text editions = flat_map edition_text editions
+abbrev pub export_text : Table → List Edition → List ℕ
+export_text names editions = flat_map (edition_text names) editions
 
 -- how many of an edition's fields its record has no room for
-unfoldable pub fields_left : Edition → ℕ
-fields_left e = left_out e.content (work_key_of e)
+unfoldable pub fields_left : Table → Edition → ℕ
+fields_left names e = left_out e.content (work_key_by names e)
 
--- an edition by its least contributor, where fields of it were left out
-abbrev pub left_of_one : Edition → List (RecordId × ℕ)
-left_of_one e = (if fields_left e == 0 then [] else (least e, fields_left e) ∷ [])
+-- an edition by its least contributor, where so many of its fields were left out
+abbrev pub noted : Edition → ℕ → List (RecordId × ℕ)
+noted e count = if count == 0 then [] else (least e, count) ∷ []
+
+-- the same by the fields that its record has no room for
+abbrev pub left_of_one : Table → Edition → List (RecordId × ℕ)
+left_of_one names e = noted e (fields_left names e)
 
 -- the same of a list of editions, in order
-abbrev pub left_of : List Edition → List (RecordId × ℕ)
-left_of editions = flat_map left_of_one editions
+abbrev pub left_of : Table → List Edition → List (RecordId × ℕ)
+left_of names editions = flat_map (left_of_one names) editions

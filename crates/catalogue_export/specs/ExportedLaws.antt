@@ -15,7 +15,8 @@ use Rattle.marc_rules.specs.NineteenRules.{first_rule}
 use Rattle.field_merge.specs.declared.content.Content.{Content}
 use Rattle.catalogue_core.specs.Sound.{is_sound}
 use Rattle.catalogue_core.specs.Ids.{least}
-use Rattle.catalogue_core.specs.EditionKeys.{work_key_of}
+use Rattle.catalogue_core.specs.EditionKeys.{work_key_by}
+use Rattle.authority_names.specs.Leads.{Table, AreTexts}
 use Rattle.catalogue_editions.specs.declared.edition.Edition.{Edition}
 use Rattle.catalogue_export.specs.Exported.{exported, edition_bytes}
 use Rattle.catalogue_export.specs.Editions.{edition_text}
@@ -56,14 +57,17 @@ ExportedIsNumberedTooLong =
 -- so the bytes that are written of an edition break no rule, where its least contributor's code and control number have at
 -- most 63 bytes together
 abbrev pub EditionIsAccepted : Type 0
-EditionIsAccepted = (e : Edition) → name_size (least e) ≤ 63 → first_rule Whole (edition_text e) ≡ None
+EditionIsAccepted =
+    (names : Table) → AreTexts names → (e : Edition) → name_size (least e) ≤ 63 → first_rule Whole (edition_text names e) ≡ None
 
 -- and where they have more, the first rule that those bytes break is that its 001 is too long
 abbrev pub EditionIsNumberedTooLong : Type 0
 EditionIsNumberedTooLong =
-    (e : Edition) → 63 < name_size (least e)
-    → first_rule Whole (edition_text e) ≡ Some (record { rule = ControlNumber; place = suc (how_many (codes "000") (exported e.content (work_key_of e)).fields) })
+    (names : Table) → AreTexts names → (e : Edition) → 63 < name_size (least e)
+    → first_rule Whole (edition_text names e)
+    ≡ Some (record { rule = ControlNumber; place = suc (how_many (codes "000") (exported e.content (work_key_by names e)).fields) })
 
 -- the texts of the record that is shown of an edition are UTF-8
 abbrev pub EditionIsUtf8 : Type 0
-EditionIsUtf8 = (e : Edition) → list_all is_utf8_field (exported e.content (work_key_of e)).fields ≡ true
+EditionIsUtf8 =
+    (names : Table) → AreTexts names → (e : Edition) → list_all is_utf8_field (exported e.content (work_key_by names e)).fields ≡ true

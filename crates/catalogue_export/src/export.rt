@@ -27,14 +27,14 @@ pub fn export<O: Sink>(
     out: &mut O,
     left: &mut Vec<(RecordId, usize)>,
 ) -> Result<(), ExportFail>
-    ensures { (all : List EditionModel) × AreEditionsOf catalogue.now all
-        × HasWritten (export_text all)
+    ensures { (all : List EditionModel) × AreEditionsOf catalogue.now.history all
+        × HasWritten (export_text catalogue.now.names all)
         (record { old = O.written out.old; new = O.written out.new; before = O.faults out.old; after = O.faults out.new }) result
-        × OnOk result (left.new.items ≡ left.old.items ++ left_of all)
-        × OnErr result (GainsFront left.old.items left.new.items (left_of all)) }
+        × OnOk result (left.new.items ≡ left.old.items ++ left_of catalogue.now.names all)
+        × OnErr result (GainsFront left.old.items left.new.items (left_of catalogue.now.names all)) }
 {
     match catalogue.editions(alloc) {
-        Ok(editions) => write_editions(alloc, editions.as_slice(), out, left),
+        Ok(editions) => write_editions(alloc, catalogue, editions.as_slice(), out, left),
         Err(Memory) => Err(ExportFail::Memory),
     }
 }
@@ -42,18 +42,19 @@ pub fn export<O: Sink>(
 /// Writes the records of the editions, one after the other, and notes those of which fields were left out.
 fn write_editions<O: Sink>(
     alloc: Global,
+    catalogue: &Catalogue,
     editions: &[&Edition],
     out: &mut O,
     left: &mut Vec<(RecordId, usize)>,
 ) -> Result<(), ExportFail>
-    ensures written { HasWritten (export_text (map (λ e. e.now) editions.now))
+    ensures written { HasWritten (export_text catalogue.now.names (map (λ e. e.now) editions.now))
         (record { old = O.written out.old; new = O.written out.new; before = O.faults out.old; after = O.faults out.new }) result }
-    ensures left { OnOk result (left.new.items ≡ left.old.items ++ left_of (map (λ e. e.now) editions.now)) }
-    ensures stopped { OnErr result (GainsFront left.old.items left.new.items (left_of (map (λ e. e.now) editions.now))) }
+    ensures left { OnOk result (left.new.items ≡ left.old.items ++ left_of catalogue.now.names (map (λ e. e.now) editions.now)) }
+    ensures stopped { OnErr result (GainsFront left.old.items left.new.items (left_of catalogue.now.names (map (λ e. e.now) editions.now))) }
 {
     let mut pending = Vec::new(alloc);
     for edition in editions {
-        match write_edition(alloc, edition, &mut pending, left, out) {
+        match write_edition(alloc, catalogue, edition, &mut pending, left, out) {
             Ok(()) => {}
             Err(fail) => return Err(fail),
         }
@@ -64,17 +65,18 @@ fn write_editions<O: Sink>(
 /// Writes the record of an edition after what is pending, and notes the edition where fields of it were left out.
 fn write_edition<O: Sink>(
     alloc: Global,
+    catalogue: &Catalogue,
     edition: &Edition,
     pending: &mut Vec<u8>,
     left: &mut Vec<(RecordId, usize)>,
     out: &mut O,
 ) -> Result<(), ExportFail>
-    ensures text { HasMoved (pending.old.items ++ edition_text edition.now) pending.new.items
+    ensures text { HasMoved (pending.old.items ++ edition_text catalogue.now.names edition.now) pending.new.items
         (record { old = O.written out.old; new = O.written out.new; before = O.faults out.old; after = O.faults out.new }) result }
-    ensures left { OnOk result (left.new.items ≡ left.old.items ++ left_of_one edition.now) }
-    ensures stopped { OnErr result (GainsFront left.old.items left.new.items (left_of_one edition.now)) }
+    ensures left { OnOk result (left.new.items ≡ left.old.items ++ left_of_one catalogue.now.names edition.now) }
+    ensures stopped { OnErr result (GainsFront left.old.items left.new.items (left_of_one catalogue.now.names edition.now)) }
 {
-    let count = append_edition(alloc, edition, pending)?;
+    let count = append_edition(alloc, catalogue, edition, pending)?;
     note_left(alloc, edition, count, left)?;
     hand_on(pending, out)
 }

@@ -30,8 +30,8 @@ pub fn control_number_ends_in_no_blank()
     ensures { NumbersEndInNoBlank }
 {}
 
-/// The bytes that are written of an edition, under its own work key, break none of the rules on a record that is sent to the
-/// catalogue, where the library code and the control number of its least contributor have at most 63 bytes together.
+/// The bytes that are written of an edition, under its work key by a table of names, break none of the rules on a record that
+/// is sent to the catalogue, where the library code and the control number of its least contributor have at most 63 bytes together.
 pub fn edition_is_accepted()
     ensures { EditionIsAccepted }
 {}
@@ -42,7 +42,7 @@ pub fn edition_is_numbered_too_long()
     ensures { EditionIsNumberedTooLong }
 {}
 
-/// The texts of the record that is shown of an edition, under its own work key, are UTF-8.
+/// The texts of the record that is shown of an edition, under its work key by a table of names, are UTF-8.
 pub fn edition_is_utf8()
     ensures { EditionIsUtf8 }
 {}

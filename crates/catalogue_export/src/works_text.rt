@@ -26,8 +26,8 @@ pub fn works_text<O: Sink>(
     catalogue: &Catalogue,
     out: &mut O,
 ) -> Result<(), ExportFail>
-    ensures { (all : List EditionModel) × AreEditionsOf catalogue.now all
-        × HasWritten (works_text_of all)
+    ensures { (all : List EditionModel) × AreEditionsOf catalogue.now.history all
+        × HasWritten (works_text_of catalogue.now.names all)
         (record { old = O.written out.old; new = O.written out.new; before = O.faults out.old; after = O.faults out.new }) result }
 {
     match catalogue.works(alloc) {

@@ -4,5 +4,5 @@ use Rattle.catalogue_export.proofs.editions.append_editions.Given as goal
 
 abbrev pub invariant-loop-edition : goal.invariant-loop-edition
 invariant-loop-edition l =
-    (l.into.items ≡ l.initial.into.items ++ export_text (take l.edition-index l.editions))
-    × (l.left.items ≡ l.initial.left.items ++ left_of (take l.edition-index l.editions))
+    (l.into.items ≡ l.initial.into.items ++ export_text l.catalogue.names (take l.edition-index l.editions))
+    × (l.left.items ≡ l.initial.left.items ++ left_of l.catalogue.names (take l.edition-index l.editions))

@@ -1,4 +1,4 @@
-use Rattle.catalogue_export.proofs.KeyUtf8.{edition-numbered_too_long}
+use Rattle.catalogue_export.proofs.EditionLaws.{edition-numbered_too_long}
 use Rattle.catalogue_export.proofs.laws.edition_is_numbered_too_long.Goals as goal
 
 pub returns : goal.returns
