@@ -8,7 +8,6 @@ ghost use Rattle.catalogue_json.specs.JsonExport.{edition_line, json_export_text
 
 use catalogue_core::catalogue::Catalogue;
 use catalogue_core::edition::Edition;
-use catalogue_core::work_key::work_key_of;
 use catalogue_export::edition::edition_record;
 use catalogue_export::editions::note_left;
 use catalogue_export::export_fail::ExportFail;
@@ -31,14 +30,14 @@ pub fn export_json<O: Sink>(
     out: &mut O,
     left: &mut Vec<(RecordId, usize)>,
 ) -> Result<(), ExportFail>
-    ensures { (all : List EditionModel) × AreEditionsOf catalogue.now all
-        × HasWritten (json_export_text all)
+    ensures { (all : List EditionModel) × AreEditionsOf catalogue.now.history all
+        × HasWritten (json_export_text catalogue.now.names all)
         (record { old = O.written out.old; new = O.written out.new; before = O.faults out.old; after = O.faults out.new }) result
-        × OnOk result (left.new.items ≡ left.old.items ++ left_of all)
-        × OnErr result (GainsFront left.old.items left.new.items (left_of all)) }
+        × OnOk result (left.new.items ≡ left.old.items ++ left_of catalogue.now.names all)
+        × OnErr result (GainsFront left.old.items left.new.items (left_of catalogue.now.names all)) }
 {
     match catalogue.editions(alloc) {
-        Ok(editions) => write_editions(alloc, editions.as_slice(), out, left),
+        Ok(editions) => write_editions(alloc, catalogue, editions.as_slice(), out, left),
         Err(Memory) => Err(ExportFail::Memory),
     }
 }
@@ -46,18 +45,19 @@ pub fn export_json<O: Sink>(
 /// Writes the lines of the editions, one after the other, and notes those of which fields were left out.
 fn write_editions<O: Sink>(
     alloc: Global,
+    catalogue: &Catalogue,
     editions: &[&Edition],
     out: &mut O,
     left: &mut Vec<(RecordId, usize)>,
 ) -> Result<(), ExportFail>
-    ensures written { HasWritten (json_export_text (map (λ e. e.now) editions.now))
+    ensures written { HasWritten (json_export_text catalogue.now.names (map (λ e. e.now) editions.now))
         (record { old = O.written out.old; new = O.written out.new; before = O.faults out.old; after = O.faults out.new }) result }
-    ensures left { OnOk result (left.new.items ≡ left.old.items ++ left_of (map (λ e. e.now) editions.now)) }
-    ensures stopped { OnErr result (GainsFront left.old.items left.new.items (left_of (map (λ e. e.now) editions.now))) }
+    ensures left { OnOk result (left.new.items ≡ left.old.items ++ left_of catalogue.now.names (map (λ e. e.now) editions.now)) }
+    ensures stopped { OnErr result (GainsFront left.old.items left.new.items (left_of catalogue.now.names (map (λ e. e.now) editions.now))) }
 {
     let mut pending = Vec::new(alloc);
     for edition in editions {
-        match write_edition(alloc, edition, &mut pending, left, out) {
+        match write_edition(alloc, catalogue, edition, &mut pending, left, out) {
             Ok(()) => {}
             Err(fail) => return Err(fail),
         }
@@ -68,27 +68,33 @@ fn write_editions<O: Sink>(
 /// Writes the line of an edition's record after what is pending, and notes the edition where fields of it were left out.
 fn write_edition<O: Sink>(
     alloc: Global,
+    catalogue: &Catalogue,
     edition: &Edition,
     pending: &mut Vec<u8>,
     left: &mut Vec<(RecordId, usize)>,
     out: &mut O,
 ) -> Result<(), ExportFail>
-    ensures text { HasMoved (pending.old.items ++ edition_line edition.now) pending.new.items
+    ensures text { HasMoved (pending.old.items ++ edition_line catalogue.now.names edition.now) pending.new.items
         (record { old = O.written out.old; new = O.written out.new; before = O.faults out.old; after = O.faults out.new }) result }
-    ensures left { OnOk result (left.new.items ≡ left.old.items ++ left_of_one edition.now) }
-    ensures stopped { OnErr result (GainsFront left.old.items left.new.items (left_of_one edition.now)) }
+    ensures left { OnOk result (left.new.items ≡ left.old.items ++ left_of_one catalogue.now.names edition.now) }
+    ensures stopped { OnErr result (GainsFront left.old.items left.new.items (left_of_one catalogue.now.names edition.now)) }
 {
-    let count = append_line(alloc, edition, pending)?;
+    let count = append_line(alloc, catalogue, edition, pending)?;
     note_left(alloc, edition, count, left)?;
     hand_on(pending, out)
 }
 
 /// Appends the line of an edition's record under its own work key; answers how many of its fields were left out.
-pub fn append_line(alloc: Global, edition: &Edition, into: &mut Vec<u8>) -> Result<usize, Memory>
-    ensures text { OnOk result (into.new.items ≡ into.old.items ++ edition_line edition.now) }
-    ensures left { IfOk result (λ n. n ≡ fields_left edition.now) }
+pub fn append_line(
+    alloc: Global,
+    catalogue: &Catalogue,
+    edition: &Edition,
+    into: &mut Vec<u8>,
+) -> Result<usize, Memory>
+    ensures text { OnOk result (into.new.items ≡ into.old.items ++ edition_line catalogue.now.names edition.now) }
+    ensures left { IfOk result (λ n. n ≡ fields_left catalogue.now.names edition.now) }
 {
-    let key = work_key_of(alloc, edition)?;
+    let key = catalogue.key_of(alloc, edition)?;
     let (rec, left) = edition_record(alloc, edition, &key)?;
     to_json(&rec, into)?;
     Ok(left)

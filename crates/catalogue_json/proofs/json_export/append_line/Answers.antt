@@ -1,10 +1,10 @@
-use Rattle.catalogue_export.proofs.KeyUtf8.{edition-utf8}
+use Rattle.catalogue_export.proofs.EditionLaws.{utf8-by_key}
 use Rattle.catalogue_export.specs.Editions.{fields_left}
 use Rattle.catalogue_json.specs.JsonExport.{edition_line}
 use Rattle.catalogue_json.proofs.json_export.append_line.Goals as goal
 
 pub to_json-requires : goal.to_json-requires
-to_json-requires c = rw (c.in_ok-rec.ensures.value, c.in_ok-key.ensures.value) (edition-utf8 c.args.edition.now)
+to_json-requires c = rw c.in_ok-rec.ensures.value (utf8-by_key c.args.edition.now c.in_ok-key.key c.in_ok-key.ensures.utf8)
 
 pub returns-clause-text : goal.returns-clause-text
 unfolding edition_line

@@ -27,9 +27,9 @@ returns-in-Err-clause-written g c =
     let at = seen-at c.args.editions.now place c.edition-item.result c.loop-edition-test.true c.edition-item.is in
     stopped-written (g.O.Sink.written c.args.out.now) (g.O.Sink.written c.loop-edition.out) (g.O.Sink.written c.write_edition.new.out)
     (g.O.Sink.faults c.args.out.now) (g.O.Sink.faults c.loop-edition.out) (g.O.Sink.faults c.write_edition.new.out)
-    (json_export_text (take place all)) c.loop-edition.pending.items (edition_line e) c.write_edition.new.pending.items
-    (json_export_text all) (json_export_text (drop (place + 1) all)) c.in-Err.fail
-    before.moved before.calm c.in-Err.ensures.text (told-around edition_line all place e at)
+    (json_export_text c.args.catalogue.now.names (take place all)) c.loop-edition.pending.items (edition_line c.args.catalogue.now.names e) c.write_edition.new.pending.items
+    (json_export_text c.args.catalogue.now.names all) (json_export_text c.args.catalogue.now.names (drop (place + 1) all)) c.in-Err.fail
+    before.moved before.calm c.in-Err.ensures.text (told-around (edition_line c.args.catalogue.now.names) all place e at)
 
 pub returns-in-Err-clause-stopped : goal.returns-in-Err-clause-stopped
 returns-in-Err-clause-stopped g c =
@@ -38,8 +38,8 @@ returns-in-Err-clause-stopped g c =
     let place = c.loop-edition.edition-index in
     let e = c.edition-item.result.now in
     let at = seen-at c.args.editions.now place c.edition-item.result c.loop-edition-test.true c.edition-item.is in
-    gains-more c.args.left.now.items c.loop-edition.left.items c.write_edition.new.left.items (left_of (take place all)) (left_of_one e)
-    (left_of (drop (place + 1) all)) (left_of all) before.left c.in-Err.ensures.stopped (told-around left_of_one all place e at)
+    gains-more c.args.left.now.items c.loop-edition.left.items c.write_edition.new.left.items (left_of c.args.catalogue.now.names (take place all)) (left_of_one c.args.catalogue.now.names e)
+    (left_of c.args.catalogue.now.names (drop (place + 1) all)) (left_of c.args.catalogue.now.names all) before.left c.in-Err.ensures.stopped (told-around (left_of_one c.args.catalogue.now.names) all place e at)
 
 pub loop-edition-preserved : goal.loop-edition-preserved
 loop-edition-preserved g c =
@@ -50,11 +50,11 @@ loop-edition-preserved g c =
     let at = seen-at c.args.editions.now place c.edition-item.result c.loop-edition-test.true c.edition-item.is in
     record {
       moved = subst (λ text. IsWrittenTo text c.write_edition.new.pending.items (g.O.Sink.written c.args.out.now) (g.O.Sink.written c.write_edition.new.out))
-          (sym (told-more edition_line all place e at))
+          (sym (told-more (edition_line c.args.catalogue.now.names) all place e at))
           (moved-more _ _ _ _ _ _ _ _ _ before.moved c.in-Ok.ensures.text);
       calm = c.in-Ok.ensures.text.calm (λ is. cc) ∙ before.calm;
-      left = c.in-Ok.ensures.left ∙ ap (λ l. l ++ left_of_one e) before.left ∙ append_assoc c.args.left.now.items (left_of (take place all)) (left_of_one e)
-          ∙ ap (λ l. c.args.left.now.items ++ l) (sym (told-more left_of_one all place e at));
+      left = c.in-Ok.ensures.left ∙ ap (λ l. l ++ left_of_one c.args.catalogue.now.names e) before.left ∙ append_assoc c.args.left.now.items (left_of c.args.catalogue.now.names (take place all)) (left_of_one c.args.catalogue.now.names e)
+          ∙ ap (λ l. c.args.left.now.items ++ l) (sym (told-more (left_of_one c.args.catalogue.now.names) all place e at));
     }
 
 pub returns-clause-written : goal.returns-clause-written
@@ -66,8 +66,8 @@ returns-clause-written g c =
     let written = g.O.Sink.written c.args.out.now in
     rest-written written (g.O.Sink.written c.loop-edition.out) (g.O.Sink.written c.hand_on_rest.new.out)
     (g.O.Sink.faults c.args.out.now) (g.O.Sink.faults c.loop-edition.out) (g.O.Sink.faults c.hand_on_rest.new.out)
-    (json_export_text all) c.loop-edition.pending.items c.hand_on_rest.result
-    (subst (λ es. IsWrittenTo (json_export_text es) c.loop-edition.pending.items written (g.O.Sink.written c.loop-edition.out)) whole before.moved) before.calm
+    (json_export_text c.args.catalogue.now.names all) c.loop-edition.pending.items c.hand_on_rest.result
+    (subst (λ es. IsWrittenTo (json_export_text c.args.catalogue.now.names es) c.loop-edition.pending.items written (g.O.Sink.written c.loop-edition.out)) whole before.moved) before.calm
     (rw c.as_slice.ensures.value at c.hand_on_rest.ensures)
 
 pub returns-clause-left : goal.returns-clause-left
@@ -75,12 +75,12 @@ returns-clause-left g c =
     let before = c.loop-edition.invariant in
     let all = map (λ (e : Bor Edition). e.now) c.args.editions.now in
     let past : length all ≤ c.loop-edition.edition-index = omega (arith, length-map c.args.editions.now (λ (e : Bor Edition). e.now), c.loop-edition-test.false) in
-    on-ok c.hand_on_rest.result (before.left ∙ ap (λ es. c.args.left.now.items ++ left_of es) (take_all c.loop-edition.edition-index all past))
+    on-ok c.hand_on_rest.result (before.left ∙ ap (λ es. c.args.left.now.items ++ left_of c.args.catalogue.now.names es) (take_all c.loop-edition.edition-index all past))
 
 pub returns-clause-stopped : goal.returns-clause-stopped
 returns-clause-stopped g c =
     let before = c.loop-edition.invariant in
     let all = map (λ (e : Bor Edition). e.now) c.args.editions.now in
     let past : length all ≤ c.loop-edition.edition-index = omega (arith, length-map c.args.editions.now (λ (e : Bor Edition). e.now), c.loop-edition-test.false) in
-    on-err c.hand_on_rest.result (gains-all c.args.left.now.items c.loop-edition.left.items (left_of all)
-    (before.left ∙ ap (λ es. c.args.left.now.items ++ left_of es) (take_all c.loop-edition.edition-index all past)))
+    on-err c.hand_on_rest.result (gains-all c.args.left.now.items c.loop-edition.left.items (left_of c.args.catalogue.now.names all)
+    (before.left ∙ ap (λ es. c.args.left.now.items ++ left_of c.args.catalogue.now.names es) (take_all c.loop-edition.edition-index all past)))
