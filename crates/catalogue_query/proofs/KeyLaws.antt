@@ -9,6 +9,7 @@ use Rattle.std.proofs.lemmas.List.Elements.{filter_agree}
 use Rattle.union_base.specs.SortedLists.{has}
 use Rattle.match_features.specs.Kept.{texts_cmp, pairs_cmp}
 use Rattle.match_features.specs.declared.keys.FeatureKey.TheVariants as key
+use Rattle.authority_names.specs.Leads.{Table}
 use Rattle.catalogue_core.specs.Histories.{MapOf}
 use Rattle.catalogue_core.specs.Ids.{least}
 use Rattle.catalogue_core.specs.IndexKeys.{has_key}
@@ -43,25 +44,25 @@ told-each says is [] = refl
 told-each says is (e ∷ some) =
     ap (λ lines. edition_line (least e) ∷ lines) (told-each says is some) ∙ sym (flat_map-cons says e some ∙ ap (λ lines. lines ++ flat_map says some) (is e))
 
-module _ (records : MapOf Edition) (all : List Edition) where
+module _ (names : Table) (records : MapOf Edition) (all : List Edition) where
   -- the lines of the editions that have a key are what is told of those that the query asks for
-  pub told-isbn : (digits : List ℕ) → map (λ e. edition_line (least e)) (filter (has_key (key.Isbn digits)) all) ≡ told_of (Isbn digits) records all
+  pub told-isbn : (digits : List ℕ) → map (λ e. edition_line (least e)) (filter (has_key (key.Isbn digits)) all) ≡ told_of names (Isbn digits) records all
   told-isbn digits =
-      ap (map (λ e. edition_line (least e))) (filter_agree (has_key (key.Isbn digits)) (is_asked (Isbn digits)) (λ e. text-stands digits e.features.isbns) all)
-      ∙ told-each (told (Isbn digits) records) (λ e. refl) (filter (is_asked (Isbn digits)) all)
+      ap (map (λ e. edition_line (least e))) (filter_agree (has_key (key.Isbn digits)) (is_asked names (Isbn digits)) (λ e. text-stands digits e.features.isbns) all)
+      ∙ told-each (told names (Isbn digits) records) (λ e. refl) (filter (is_asked names (Isbn digits)) all)
 
-  pub told-issn : (number : List ℕ) → map (λ e. edition_line (least e)) (filter (has_key (key.Issn number)) all) ≡ told_of (Issn number) records all
+  pub told-issn : (number : List ℕ) → map (λ e. edition_line (least e)) (filter (has_key (key.Issn number)) all) ≡ told_of names (Issn number) records all
   told-issn number =
-      ap (map (λ e. edition_line (least e))) (filter_agree (has_key (key.Issn number)) (is_asked (Issn number)) (λ e. text-stands number e.features.issns) all)
-      ∙ told-each (told (Issn number) records) (λ e. refl) (filter (is_asked (Issn number)) all)
+      ap (map (λ e. edition_line (least e))) (filter_agree (has_key (key.Issn number)) (is_asked names (Issn number)) (λ e. text-stands number e.features.issns) all)
+      ∙ told-each (told names (Issn number) records) (λ e. refl) (filter (is_asked names (Issn number)) all)
 
-  pub told-control : (source number : List ℕ) → map (λ e. edition_line (least e)) (filter (has_key (key.Control (source, number))) all) ≡ told_of (Control source number) records all
+  pub told-control : (source number : List ℕ) → map (λ e. edition_line (least e)) (filter (has_key (key.Control (source, number))) all) ≡ told_of names (Control source number) records all
   told-control source number =
       ap (map (λ e. edition_line (least e)))
-      (filter_agree (has_key (key.Control (source, number))) (is_asked (Control source number)) (λ e. pair-stands source number e.features.control) all)
-      ∙ told-each (told (Control source number) records) (λ e. refl) (filter (is_asked (Control source number)) all)
+      (filter_agree (has_key (key.Control (source, number))) (is_asked names (Control source number)) (λ e. pair-stands source number e.features.control) all)
+      ∙ told-each (told names (Control source number) records) (λ e. refl) (filter (is_asked names (Control source number)) all)
 
-  pub told-title : (form : List ℕ) → map (λ e. edition_line (least e)) (filter (has_key (key.Title form)) all) ≡ told_of (Title form) records all
+  pub told-title : (form : List ℕ) → map (λ e. edition_line (least e)) (filter (has_key (key.Title form)) all) ≡ told_of names (Title form) records all
   told-title form =
-      ap (map (λ e. edition_line (least e))) (filter_agree (has_key (key.Title form)) (is_asked (Title form)) (λ e. text-stands form e.features.titles) all)
-      ∙ told-each (told (Title form) records) (λ e. refl) (filter (is_asked (Title form)) all)
+      ap (map (λ e. edition_line (least e))) (filter_agree (has_key (key.Title form)) (is_asked names (Title form)) (λ e. text-stands form e.features.titles) all)
+      ∙ told-each (told names (Title form) records) (λ e. refl) (filter (is_asked names (Title form)) all)

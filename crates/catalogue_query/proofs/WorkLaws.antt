@@ -13,7 +13,8 @@ use Rattle.union_base.proofs.SortedListLaws.{same_ascending, is_ascending-union}
 use Rattle.work_clusters.specs.Works.{key_cmp, id_cmp, is_key, works_of, ids_under}
 use Rattle.work_clusters.proofs.WorksLaws.{key_total, id_total, has-set_of, ids_under-works_of, keys_of-works_of}
 use Rattle.catalogue_core.specs.Ids.{least, edition_cmp}
-use Rattle.catalogue_core.specs.EditionKeys.{work_key_of, work_pairs}
+use Rattle.catalogue_core.specs.EditionKeys.{work_key_by, work_pairs}
+use Rattle.authority_names.specs.Leads.{Table}
 use Rattle.catalogue_core.specs.Histories.{MapOf}
 use Rattle.catalogue_editions.specs.declared.edition.Edition.{Edition}
 use Rattle.catalogue_query.specs.Queries.{is_text}
@@ -28,14 +29,14 @@ same_text key text =
     ∙ sym (texts_ties text key)
 
 -- an id stands with the key where the edition that it names is of the work
-ids_of_work : (key : List ℕ) (all : List Edition) → map (λ p. p.1) (filter (λ p. is_key key p.0) (work_pairs all)) ≡ map least (filter (is_asked (Work key)) all)
-ids_of_work key [] = refl
-ids_of_work key (e ∷ all) =
-    ap (λ b. map (λ p. p.1) (cond b ((work_key_of e, least e) ∷ filter (λ p. is_key key p.0) (work_pairs all)) (filter (λ p. is_key key p.0) (work_pairs all)))) (same_text key (work_key_of e))
-    ∙ elim (is_text (work_key_of e) key) as (λ b. map (λ p. p.1) (cond b ((work_key_of e, least e) ∷ filter (λ p. is_key key p.0) (work_pairs all)) (filter (λ p. is_key key p.0) (work_pairs all)))
-    ≡ map least (cond b (e ∷ filter (is_asked (Work key)) all) (filter (is_asked (Work key)) all))) [
-      | true ↦ ap (λ ids. least e ∷ ids) (ids_of_work key all)
-      | false ↦ ids_of_work key all
+ids_of_work : (names : Table) (key : List ℕ) (all : List Edition) → map (λ p. p.1) (filter (λ p. is_key key p.0) (work_pairs names all)) ≡ map least (filter (is_asked names (Work key)) all)
+ids_of_work names key [] = refl
+ids_of_work names key (e ∷ all) =
+    ap (λ b. map (λ p. p.1) (cond b ((work_key_by names e, least e) ∷ filter (λ p. is_key key p.0) (work_pairs names all)) (filter (λ p. is_key key p.0) (work_pairs names all)))) (same_text key (work_key_by names e))
+    ∙ elim (is_text (work_key_by names e) key) as (λ b. map (λ p. p.1) (cond b ((work_key_by names e, least e) ∷ filter (λ p. is_key key p.0) (work_pairs names all)) (filter (λ p. is_key key p.0) (work_pairs names all)))
+    ≡ map least (cond b (e ∷ filter (is_asked names (Work key)) all) (filter (is_asked names (Work key)) all))) [
+      | true ↦ ap (λ ids. least e ∷ ids) (ids_of_work names key all)
+      | false ↦ ids_of_work names key all
     ]
 
 -- some of the editions stand in the order of all
@@ -62,28 +63,28 @@ set_of-ascending : (ids : List RecordId) → is_ascending id_cmp ids ≡ true �
 set_of-ascending ids h = same_ascending id_total ids_apart (set_of id_cmp ids) ids (is_ascending-union id_total [] ids refl) h (has-set_of id_total ids_apart ids)
 
 -- the ids under a work key name the editions of the work, in their order
-pub ids_under-works : (key : List ℕ) (all : List Edition) → is_ascending edition_cmp all ≡ true → ids_under (works_of (work_pairs all)) key ≡ map least (filter (is_asked (Work key)) all)
-ids_under-works key all h =
-    ids_under-works_of (work_pairs all) key ∙ ap (set_of id_cmp) (ids_of_work key all)
-    ∙ set_of-ascending (map least (filter (is_asked (Work key)) all)) (ascending-some (is_asked (Work key)) all h)
+pub ids_under-works : (names : Table) (key : List ℕ) (all : List Edition) → is_ascending edition_cmp all ≡ true → ids_under (works_of (work_pairs names all)) key ≡ map least (filter (is_asked names (Work key)) all)
+ids_under-works names key all h =
+    ids_under-works_of (work_pairs names all) key ∙ ap (set_of id_cmp) (ids_of_work names key all)
+    ∙ set_of-ascending (map least (filter (is_asked names (Work key)) all)) (ascending-some (is_asked names (Work key)) all h)
 
-told-each : (key : List ℕ) (records : MapOf Edition) (some : List Edition) → map edition_line (map least some) ≡ flat_map (told (Work key) records) some
-told-each key records [] = refl
-told-each key records (e ∷ some) = ap (λ lines. edition_line (least e) ∷ lines) (told-each key records some) ∙ sym (flat_map-cons (told (Work key) records) e some)
+told-each : (names : Table) (key : List ℕ) (records : MapOf Edition) (some : List Edition) → map edition_line (map least some) ≡ flat_map (told names (Work key) records) some
+told-each names key records [] = refl
+told-each names key records (e ∷ some) = ap (λ lines. edition_line (least e) ∷ lines) (told-each names key records some) ∙ sym (flat_map-cons (told names (Work key) records) e some)
 
 -- so their lines are what is told of the work
-pub told-work : (key : List ℕ) (records : MapOf Edition) (all : List Edition) → is_ascending edition_cmp all ≡ true
-    → map edition_line (ids_under (works_of (work_pairs all)) key) ≡ told_of (Work key) records all
-told-work key records all h = ap (map edition_line) (ids_under-works key all h) ∙ told-each key records (filter (is_asked (Work key)) all)
+pub told-work : (names : Table) (key : List ℕ) (records : MapOf Edition) (all : List Edition) → is_ascending edition_cmp all ≡ true
+    → map edition_line (ids_under (works_of (work_pairs names all)) key) ≡ told_of names (Work key) records all
+told-work names key records all h = ap (map edition_line) (ids_under-works names key all h) ∙ told-each names key records (filter (is_asked names (Work key)) all)
 
-keys-pairs : (all : List Edition) → map (λ p. p.0) (work_pairs all) ≡ map work_key_of all
-keys-pairs [] = refl
-keys-pairs (e ∷ all) = ap (λ keys. work_key_of e ∷ keys) (keys-pairs all)
+keys-pairs : (names : Table) (all : List Edition) → map (λ p. p.0) (work_pairs names all) ≡ map (work_key_by names) all
+keys-pairs names [] = refl
+keys-pairs names (e ∷ all) = ap (λ keys. work_key_by names e ∷ keys) (keys-pairs names all)
 
 length-keyed : {X : Type 0} (works : List (List ℕ × X)) → length works ≡ length (map (λ work. work.0) works)
 length-keyed [] = refl
 length-keyed (w ∷ works) = ap suc (length-keyed works)
 
 -- there are as many works as work keys
-pub length-works : (all : List Edition) → length (works_of (work_pairs all)) ≡ length (work_keys all)
-length-works all = length-keyed (works_of (work_pairs all)) ∙ ap length (keys_of-works_of (work_pairs all) ∙ ap (set_of key_cmp) (keys-pairs all))
+pub length-works : (names : Table) (all : List Edition) → length (works_of (work_pairs names all)) ≡ length (work_keys names all)
+length-works names all = length-keyed (works_of (work_pairs names all)) ∙ ap length (keys_of-works_of (work_pairs names all) ∙ ap (set_of key_cmp) (keys-pairs names all))

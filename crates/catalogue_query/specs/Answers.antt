@@ -1,5 +1,5 @@
--- What a catalogue answers to a query: by the list of its editions, which stand in order of their least contributors, and by
--- the editions of its current records under their ids.
+-- What a catalogue answers to a query: by its table of names, by the list of its editions, which stand in order of their least
+-- contributors, and by the editions of its current records under their ids.
 use Rattle.std.specs.Prelude.{ℕ, ◌&&◌, Bool, false, List, [], ◌∷◌, ◌++◌, map, filter, flat_map, length, codes}
 use Rattle.std.specs.List.{list_any}
 use Rattle.std.specs.Option.{option_map_or}
@@ -10,7 +10,8 @@ use Rattle.match_features.specs.Kept.{texts_cmp}
 use Rattle.field_merge.specs.Kept.{id_cmp}
 use Rattle.holdings_book.specs.Holdings.{holdings_of}
 use Rattle.catalogue_core.specs.Ids.{least}
-use Rattle.catalogue_core.specs.EditionKeys.{work_key_of}
+use Rattle.catalogue_core.specs.EditionKeys.{work_key_by}
+use Rattle.authority_names.specs.Leads.{Table}
 use Rattle.catalogue_core.specs.Histories.{MapOf, at_id}
 use Rattle.catalogue_editions.specs.declared.edition.Edition.{Edition}
 use Rattle.catalogue_query.specs.Lines.{edition_line, by_line, work_line, hold_line, count_line}
@@ -31,19 +32,20 @@ abbrev pub has_contributor : RecordId → Edition → Bool
 has_contributor id e = has id_cmp e.content.contributors id
 
 -- the edition is one that the query asks for
-abbrev pub is_asked : Query → Edition → Bool
-is_asked (Id id) e = has_contributor id e
-is_asked (Isbn digits) e = stands_in digits e.features.isbns
-is_asked (Issn number) e = stands_in number e.features.issns
-is_asked (Control source number) e = pair_stands_in source number e.features.control
-is_asked (Title form) e = stands_in form e.features.titles
-is_asked (Work key) e = is_text (work_key_of e) key
-is_asked (Holdings id) e = has_contributor id e
-is_asked Count e = false
+abbrev pub is_asked : Table → Query → Edition → Bool
+is_asked names (Id id) e = has_contributor id e
+is_asked names (Isbn digits) e = stands_in digits e.features.isbns
+is_asked names (Issn number) e = stands_in number e.features.issns
+is_asked names (Control source number) e = pair_stands_in source number e.features.control
+is_asked names (Title form) e = stands_in form e.features.titles
+is_asked names (Work key) e = is_text (work_key_by names e) key
+is_asked names (Holdings id) e = has_contributor id e
+is_asked names Count e = false
 
 -- an edition by its least contributor, then each of its contributors, and its work
-abbrev pub identity_lines : Edition → List (List ℕ)
-identity_lines e = edition_line (least e) ∷ (map by_line e.content.contributors ++ work_line (work_key_of e) ∷ [])
+abbrev pub identity_lines : Table → Edition → List (List ℕ)
+identity_lines names e =
+    edition_line (least e) ∷ (map by_line e.content.contributors ++ work_line (work_key_by names e) ∷ [])
 
 -- the holdings of the current record of that id
 abbrev pub record_lines : MapOf Edition → RecordId → List (List ℕ)
@@ -54,23 +56,23 @@ abbrev pub holding_lines : MapOf Edition → Edition → List (List ℕ)
 holding_lines records e = flat_map (record_lines records) e.content.contributors
 
 -- what a query is told of an edition that it asks for
-abbrev pub told : Query → MapOf Edition → Edition → List (List ℕ)
-told (Id id) records e = identity_lines e
-told (Holdings id) records e = holding_lines records e
-told query records e = edition_line (least e) ∷ []
+abbrev pub told : Table → Query → MapOf Edition → Edition → List (List ℕ)
+told names (Id id) records e = identity_lines names e
+told names (Holdings id) records e = holding_lines records e
+told names query records e = edition_line (least e) ∷ []
 
 -- what it is told of the editions that it asks for, in their order
-abbrev pub told_of : Query → MapOf Edition → List Edition → List (List ℕ)
-told_of query records all = flat_map (told query records) (filter (is_asked query) all)
+abbrev pub told_of : Table → Query → MapOf Edition → List Edition → List (List ℕ)
+told_of names query records all = flat_map (told names query records) (filter (is_asked names query) all)
 
 -- the keys of the works of some editions, each once
-abbrev pub work_keys : List Edition → List (List ℕ)
-work_keys all = set_of texts_cmp (map work_key_of all)
+abbrev pub work_keys : Table → List Edition → List (List ℕ)
+work_keys names all = set_of texts_cmp (map (work_key_by names) all)
 
 -- the lines of an answer, which may be none: the counts, or what is told of the editions
-abbrev pub lines_of : Query → MapOf Edition → List Edition → List (List ℕ)
-lines_of Count records all = count_line (length all) (length (work_keys all)) (length (values_of records)) ∷ []
-lines_of query records all = told_of query records all
+abbrev pub lines_of : Table → Query → MapOf Edition → List Edition → List (List ℕ)
+lines_of names Count records all = count_line (length all) (length (work_keys names all)) (length (values_of records)) ∷ []
+lines_of names query records all = told_of names query records all
 
 -- an answer has a line at least
 abbrev pub or_none : List (List ℕ) → List (List ℕ)
@@ -78,5 +80,5 @@ or_none [] = codes "none" ∷ []
 or_none (line ∷ lines) = line ∷ lines
 
 -- the lines of the answer
-abbrev pub answer_lines : Query → MapOf Edition → List Edition → List (List ℕ)
-answer_lines query records all = or_none (lines_of query records all)
+abbrev pub answer_lines : Table → Query → MapOf Edition → List Edition → List (List ℕ)
+answer_lines names query records all = or_none (lines_of names query records all)

@@ -8,7 +8,6 @@ use crate::lines::{by_line, edition_line, hold_line, work_line};
 use crate::query::Query;
 use catalogue_core::catalogue::Catalogue;
 use catalogue_core::edition::Edition;
-use catalogue_core::work_key::work_key_of;
 use holdings_book::holdings::{Holding, holdings_of};
 use std::alloc::Global;
 use union_base::bytes::Bytes;
@@ -23,10 +22,10 @@ pub(crate) fn add_told(
     query: &Query,
     edition: &Edition,
 ) -> Result<(), Memory>
-    ensures { OnOk result (lines.new.items ≡ lines.old.items ++ told query.now (current catalogue.now) edition.now) }
+    ensures { OnOk result (lines.new.items ≡ lines.old.items ++ told catalogue.now.names query.now (current catalogue.now.history) edition.now) }
 {
     match query {
-        Query::Id(_) => add_identity(alloc, lines, edition),
+        Query::Id(_) => add_identity(alloc, lines, catalogue, edition),
         Query::Holdings(_) => add_holdings(alloc, lines, catalogue, edition),
         _ => {
             lines.push(edition_line(alloc, edition.least())?)?;
@@ -36,12 +35,17 @@ pub(crate) fn add_told(
 }
 
 /// Adds the edition by its least contributor, then each of its contributors, and its work.
-fn add_identity(alloc: Global, lines: &mut Vec<Bytes>, edition: &Edition) -> Result<(), Memory>
-    ensures { OnOk result (lines.new.items ≡ lines.old.items ++ identity_lines edition.now) }
+fn add_identity(
+    alloc: Global,
+    lines: &mut Vec<Bytes>,
+    catalogue: &Catalogue,
+    edition: &Edition,
+) -> Result<(), Memory>
+    ensures { OnOk result (lines.new.items ≡ lines.old.items ++ identity_lines catalogue.now.names edition.now) }
 {
     lines.push(edition_line(alloc, edition.least())?)?;
     add_contributors(alloc, lines, edition.content().contributors.as_slice())?;
-    let key = work_key_of(alloc, edition)?;
+    let key = catalogue.key_of(alloc, edition)?;
     lines.push(work_line(alloc, key.bytes())?)?;
     Ok(())
 }
@@ -62,7 +66,7 @@ fn add_holdings(
     catalogue: &Catalogue,
     edition: &Edition,
 ) -> Result<(), Memory>
-    ensures { OnOk result (lines.new.items ≡ lines.old.items ++ holding_lines (current catalogue.now) edition.now) }
+    ensures { OnOk result (lines.new.items ≡ lines.old.items ++ holding_lines (current catalogue.now.history) edition.now) }
 {
     for id in edition.content().contributors.as_slice() {
         add_record(alloc, lines, catalogue, id)?;
@@ -77,7 +81,7 @@ fn add_record(
     catalogue: &Catalogue,
     id: &RecordId,
 ) -> Result<(), Memory>
-    ensures { OnOk result (lines.new.items ≡ lines.old.items ++ record_lines (current catalogue.now) id.now) }
+    ensures { OnOk result (lines.new.items ≡ lines.old.items ++ record_lines (current catalogue.now.history) id.now) }
 {
     let Some(base) = catalogue.base(id) else {
         return Ok(());

@@ -10,8 +10,8 @@ returns c =
     let counted = c.edition_count-editions.ensures in
     let listing = c.in_ok-works.ensures in
     let works =
-    listing.2 ∙ length-works listing.0
-    ∙ ap (λ all. length (work_keys all)) (same_editions_of c.args.catalogue.now listing.0 counted.0 listing.1 counted.1) in
+    listing.2 ∙ length-works c.args.catalogue.now.names listing.0
+    ∙ ap (λ all. length (work_keys c.args.catalogue.now.names all)) (same_editions_of c.args.catalogue.now.history listing.0 counted.0 listing.1 counted.1) in
     let records = c.record_count-records.ensures in (
       counted.0,
       counted.1,

@@ -18,6 +18,6 @@ returns c =
       found.0,
       found.1,
       found.2 ∙ ap (λ pair. map (λ e. edition_line (least e)) (filter (has_key (key.Control pair)) found.0)) same
-          ∙ told-control (current c.args.catalogue.now) found.0 source number,
+          ∙ told-control c.args.catalogue.now.names (current c.args.catalogue.now.history) found.0 source number,
     ))
     c.lines_with_key.ensures

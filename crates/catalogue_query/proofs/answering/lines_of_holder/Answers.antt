@@ -9,8 +9,8 @@ use Rattle.catalogue_query.proofs.answering.lines_of_holder.Goals.{in-Some+in_ok
 pub returns : goal.returns
 returns c =
     let found = c.holder.ensures.holder in
-    let says = told c.args.query.now (current c.args.catalogue.now) in
-    let all = told-holder says c.args.catalogue.now found.0 c.args.id.now (option_copied c.holder.result) found.1 found.2 in (
+    let says = told c.args.catalogue.now.names c.args.query.now (current c.args.catalogue.now.history) in
+    let all = told-holder says c.args.catalogue.now.history found.0 c.args.id.now (option_copied c.holder.result) found.1 found.2 in (
       found.0,
       found.1,
       elim c.match-holder.branch [

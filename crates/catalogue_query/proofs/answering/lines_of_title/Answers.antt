@@ -16,6 +16,6 @@ returns c =
       found.0,
       found.1,
       found.2 ∙ ap (λ title. map (λ e. edition_line (least e)) (filter (has_key (key.Title title)) found.0)) c.in_ok-copied.ensures
-          ∙ told-title (current c.args.catalogue.now) found.0 form,
+          ∙ told-title c.args.catalogue.now.names (current c.args.catalogue.now.history) found.0 form,
     ))
     c.lines_with_key.ensures
