@@ -1,5 +1,6 @@
 -- The history of a catalogue as the entries of a desk.
 use Rattle.std.specs.Prelude.{◌≡◌, ℕ, List, map}
+use Rattle.authority_names.specs.Leads.{Table}
 use Rattle.catalogue_core.specs.Histories.{current, outcomes, AreEditionsOf}
 use Rattle.catalogue_editions.specs.declared.batch.Batch.{Batch}
 use Rattle.catalogue_core.specs.declared.history_entry.HistoryEntry.{HistoryEntry}
@@ -21,7 +22,7 @@ history_of entries = map (λ (entry : ℕ × Batch). record { pass = entry.0; ba
 abbrev pub gives : List (ℕ × Batch) → Batch → List Outcome → Type 0
 gives entries batch found = found ≡ outcomes batch.library (current (history_of entries)) batch.ops
 
--- what is answered after these entries
-abbrev pub tells : List (ℕ × Batch) → Query → Answer → Type 0
-tells entries query told = (all : List Edition) × AreEditionsOf (history_of entries) all
-    × (told.lines ≡ answer_lines query (current (history_of entries)) all)
+-- what is answered after these entries, by the names
+abbrev pub tells : Table → List (ℕ × Batch) → Query → Answer → Type 0
+tells names entries query told = (all : List Edition) × AreEditionsOf (history_of entries) all
+    × (told.lines ≡ answer_lines names query (current (history_of entries)) all)

@@ -2,9 +2,12 @@
 ghost use Rattle.std.specs.Prelude.{◌≡◌, ◌<◌, ◌^◌, ◌++◌, ◌∷◌, [], length, IfOk, OnOk, OnErr};
 ghost use Rattle.std.proofs.Common.{sym, subst};
 ghost use Rattle.std.proofs.lemmas.List.{length-map};
+ghost use Rattle.std.specs.FinMap.{empty};
+ghost use Rattle.catalogue_core.specs.Catalogues.{by_names};
 ghost use Rattle.catalogue_core.specs.Histories.{current, outcomes};
 ghost use Rattle.load_sessions.specs.Entries.{entries_of, gives, tells};
 
+use authority_names::name_table::NameTable;
 use catalogue_core::catalogue::Catalogue;
 use catalogue_core::outcome::Outcome;
 use catalogue_core::prepared::Prepared;
@@ -18,30 +21,29 @@ use std::marker::Brand;
 use std::sync::ledger::{Blank, Ledger};
 use union_base::memory::Memory;
 
-/// A catalogue at a desk. Its entries are the catalogue's history, and it has no setting. A change is a prepared batch, which
-/// contracts see as the batch.
+/// A catalogue at a desk. Its entries are the catalogue's history, and its setting is the table of names. A change is a prepared
+/// batch, which contracts see as the batch.
 #[derive(Drop)]
 pub struct Served {
     pub catalogue: Catalogue,
-    pub ghost few: { length catalogue < 2 ^ 63 },
+    pub ghost few: { length catalogue.history < 2 ^ 63 },
 }
 
 impl Served {
-    /// A catalogue without history, to open a desk with. Returns `Memory` if allocation fails.
-    pub fn empty(alloc: Global) -> Result<Served, Memory>
-        ensures { IfOk result (λ served. served.catalogue ≡ []) }
+    /// A catalogue without history, by these names, to open a desk with. Returns `Memory` if allocation fails.
+    pub fn open(alloc: Global, names: NameTable) -> Result<Served, Memory>
+        ensures { IfOk result (λ served. served.catalogue ≡ by_names names) }
     {
-        Ok(Served {
-            catalogue: Catalogue::empty(alloc)?,
-        })
+        let catalogue = Catalogue::with_names(alloc, names)?;
+        Ok(Served { catalogue })
     }
 
     /// The same, where the catalogue keeps its works, so that questions on works need not make them. Returns `Memory` if
     /// allocation fails.
-    pub fn keeping_works(alloc: Global) -> Result<Served, Memory>
-        ensures { IfOk result (λ served. served.catalogue ≡ []) }
+    pub fn keeping_works(alloc: Global, names: NameTable) -> Result<Served, Memory>
+        ensures { IfOk result (λ served. served.catalogue ≡ by_names names) }
     {
-        let mut catalogue = Catalogue::empty(alloc)?;
+        let mut catalogue = Catalogue::with_names(alloc, names)?;
         catalogue.keep_works(alloc)?;
         Ok(Served { catalogue })
     }
@@ -58,11 +60,12 @@ fn apply_by<L: Ledger>(
     requires name { blank.name ≡ L.name }
     requires parts { blank.parts ≡ L.parts }
     requires some { 0 < L.parts }
-    requires few { length catalogue.old < 2 ^ 63 }
-    ensures appended { OnOk result (catalogue.new ≡ catalogue.old ++ record { pass = number; batch = prepared } ∷ []) }
-    ensures outcomes { IfOk result (λ found. found.items ≡ outcomes prepared.library (current catalogue.old) prepared.ops) }
+    requires few { length catalogue.old.history < 2 ^ 63 }
+    ensures names { catalogue.new.names ≡ catalogue.old.names }
+    ensures appended { OnOk result (catalogue.new.history ≡ catalogue.old.history ++ record { pass = number; batch = prepared } ∷ []) }
+    ensures outcomes { IfOk result (λ found. found.items ≡ outcomes prepared.library (current catalogue.old.history) prepared.ops) }
     ensures kept { OnErr result (catalogue.new ≡ catalogue.old) }
-    ensures few { length catalogue.new < 2 ^ 63 }
+    ensures few { length catalogue.new.history < 2 ^ 63 }
 {
     let mut steps: Steps<L> = Steps::open(blank);
     let found = catalogue.apply_prepared(alloc, number, prepared, &mut steps)?;
@@ -71,7 +74,7 @@ fn apply_by<L: Ledger>(
 }
 
 impl Machine for Served {
-    type Setting = ();
+    type Setting = NameTable;
 
     type Change = Prepared;
 
@@ -81,17 +84,17 @@ impl Machine for Served {
 
     type Answer = Answer;
 
-    ghost setting = { λ m. tt };
+    ghost setting = { λ m. m.catalogue.names };
 
-    ghost entries = { λ m. entries_of m.catalogue };
+    ghost entries = { λ m. entries_of m.catalogue.history };
 
-    ghost spare = { tt };
+    ghost spare = { empty };
 
     ghost yields = { λ setting entries number batch found. gives entries batch found.items };
 
-    ghost answers = { λ setting entries query told. tells entries query told };
+    ghost answers = { λ setting entries query told. tells setting entries query told };
 
-    ghost bounded = { λ m. subst (λ n. n < 2 ^ 63) (sym (length-map m.catalogue _)) m.few };
+    ghost bounded = { λ m. subst (λ n. n < 2 ^ 63) (sym (length-map m.catalogue.history _)) m.few };
 
     fn apply(
         &mut self,

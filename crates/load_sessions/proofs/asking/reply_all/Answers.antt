@@ -1,21 +1,22 @@
 use Rattle.std.proofs.Common.{◌≡◌, ◌<◌, ◌∷◌, [], length, drop, suc, ◌+◌, sym, ap, subst, ◌∙◌, arith, length-append, drop-cons, add-one}
 use Rattle.catalogue_lock.specs.Tokens.{view}
 use Rattle.load_sessions.specs.Askers.{Replied}
+use Rattle.load_sessions.specs.Entries.{tells}
 use Rattle.load_sessions.proofs.AskLaws.{Leads, Leads-more, Leads-ends, IsPrefix-more, IsPrefix-same}
 use Rattle.load_sessions.proofs.asking.reply_all.Goals as goal
 
 pub returns-in_err-reply-clause-replied : goal.returns-in_err-reply-clause-replied
 returns-in_err-reply-clause-replied g c =
     let pass = view c.loop-question.pass in
-    Leads-ends (view c.args.pass.now).floor c.args.questions.now c.loop-question.replies.items pass.floor pass.seen (view c.ask.new.pass).seen
+    Leads-ends (view c.args.pass.now).setting (view c.args.pass.now).floor c.args.questions.now c.loop-question.replies.items pass.floor pass.seen (view c.ask.new.pass).seen
     (drop c.loop-question.question-index c.args.questions.now) c.loop-question.invariant.leads c.in_err-reply.ensures.memory.seen
 
 pub returns-in_err-push-clause-replied : goal.returns-in_err-push-clause-replied
 returns-in_err-push-clause-replied g c =
     let pass = view c.loop-question.pass in
     let known = (view c.args.pass.now).floor in
-    subst (Replied (view c.ask.new.pass).seen known c.args.questions.now) (sym c.in_err-push.ensures.items)
-    (Leads-ends known c.args.questions.now c.loop-question.replies.items pass.floor pass.seen (view c.ask.new.pass).seen
+    subst (Replied (view c.args.pass.now).setting (view c.ask.new.pass).seen known c.args.questions.now) (sym c.in_err-push.ensures.items)
+    (Leads-ends (view c.args.pass.now).setting known c.args.questions.now c.loop-question.replies.items pass.floor pass.seen (view c.ask.new.pass).seen
     (drop c.loop-question.question-index c.args.questions.now) c.loop-question.invariant.leads c.in_ok-reply.ensures.ok.seen)
 
 pub loop-question-preserved : goal.loop-question-preserved
@@ -40,14 +41,15 @@ loop-question-preserved g c =
         seen = IsPrefix-more (view c.args.pass.now).seen pass.seen now.seen before.knows.seen says.seen;
         floor = omega (arith, before.knows.floor, says.later, says.floor);
       };
-      leads = subst (λ told. Leads known questions told now.floor now.seen (drop (place + 1) questions)) (sym c.in_ok-push.ensures.items)
-          (Leads-more known questions c.loop-question.replies.items pass.floor now.floor pass.seen now.seen question (drop (place + 1) questions) c.in_ok-reply.reply
-          (subst (Leads known questions c.loop-question.replies.items pass.floor pass.seen) first before.leads) says.seen says.later says.turns_is says.floor says.answer_is);
+      leads = subst (λ told. Leads (view c.args.pass.now).setting known questions told now.floor now.seen (drop (place + 1) questions)) (sym c.in_ok-push.ensures.items)
+          (Leads-more (view c.args.pass.now).setting known questions c.loop-question.replies.items pass.floor now.floor pass.seen now.seen question (drop (place + 1) questions) c.in_ok-reply.reply
+          (subst (Leads (view c.args.pass.now).setting known questions c.loop-question.replies.items pass.floor pass.seen) first before.leads) says.seen says.later says.turns_is says.floor
+          (subst (λ names. tells names now.seen question c.in_ok-reply.reply.1) before.same.1 says.answer_is));
       count = omega (arith, before.count, ap length c.in_ok-push.ensures.items, length-append c.loop-question.replies.items (c.in_ok-reply.reply ∷ []));
     }
 
 pub returns-clause-replied : goal.returns-clause-replied
 returns-clause-replied g c =
     let pass = view c.loop-question.pass in
-    Leads-ends (view c.args.pass.now).floor c.args.questions.now c.loop-question.replies.items pass.floor pass.seen pass.seen
+    Leads-ends (view c.args.pass.now).setting (view c.args.pass.now).floor c.args.questions.now c.loop-question.replies.items pass.floor pass.seen pass.seen
     (drop c.loop-question.question-index c.args.questions.now) c.loop-question.invariant.leads (IsPrefix-same pass.seen)

@@ -10,6 +10,6 @@ invariant-loop-question g l = record {
   desk : l.pass.place.table_id ≡ l.desk.board.shared.table_id;
   same : IsSamePass l.initial.pass l.pass;
   knows : Knows (view l.initial.pass) (view l.pass);
-  leads : Leads (view l.initial.pass).floor l.questions l.replies.items (view l.pass).floor (view l.pass).seen (drop l.question-index l.questions);
+  leads : Leads (view l.initial.pass).setting (view l.initial.pass).floor l.questions l.replies.items (view l.pass).floor (view l.pass).seen (drop l.question-index l.questions);
   count : length l.replies.items ≡ l.question-index;
 }
