@@ -1,0 +1,73 @@
+//! The file of names of a run, as a shelf has it.
+ghost use Rattle.std.specs.Prelude.{◌≡◌};
+ghost use Rattle.std.specs.Option.{option_copied};
+ghost use Rattle.iso2709_frame.specs.Frames.{frames};
+ghost use Rattle.union_script.specs.Readings.{ReadsFile};
+ghost use Rattle.names_file.specs.Named.{ReadsNames, names_file};
+ghost use Rattle.names_file.specs.NamesFiles.{IsNamesFile};
+
+use crate::names_read::NamesRead;
+use crate::reading::read_names;
+use authority_names::name_table::NameTable;
+use std::alloc::Global;
+use union_base::bytes::Bytes;
+use union_base::memory::Memory;
+use union_io::shelf::{OpenFail, Shelf};
+use union_script::stops::stopped_with;
+use union_words::input::Input;
+use union_words::status::Status;
+
+/// Opens the file of names, reads it to its end and gives it back.
+///
+/// Returns `OpenFault` and `ReadFault` of the names only where an open or a read of the file failed, `TooLong` of the names
+/// exactly where it has more than 2^40 bytes and nothing failed, and `Memory` if allocation fails.
+fn read_names_file<F: Shelf>(
+    alloc: Global,
+    path: &Bytes,
+    shelf: &mut F,
+) -> Result<NamesRead, Status>
+    ensures files { F.files shelf.new ≡ F.files shelf.old }
+    ensures reads { ReadsFile result (names_file path.now)
+        (record { files = F.files shelf.old; before = F.faults shelf.old; after = F.faults shelf.new })
+        (λ found bytes. IsNamesFile (frames bytes) found) }
+{
+    match shelf.open(alloc, path) {
+        Ok(mut source) => {
+            let read = read_names(alloc, &mut source);
+            shelf.give_back(source);
+            match read {
+                Ok(found) => Ok(found),
+                Err(stop) => Err(stopped_with(stop, Input::Names)),
+            }
+        }
+        Err(OpenFail::Failed) => Err(Status::OpenFault(Input::Names)),
+        Err(OpenFail::Memory) => Err(Status::Memory),
+    }
+}
+
+/// The names of a run: those of its file of names, or none where there is no path. Takes no memory where there is none.
+///
+/// # Errors
+///
+/// As those of a file that is opened and read: `OpenFault`, `ReadFault` and `TooLong` of the names, and `Memory`.
+pub fn names_of<F: Shelf>(
+    alloc: Global,
+    path: Option<&[u8]>,
+    shelf: &mut F,
+) -> Result<NamesRead, Status>
+    ensures files { F.files shelf.new ≡ F.files shelf.old }
+    ensures reads { ReadsNames (option_copied path) result
+        (record { files = F.files shelf.old; before = F.faults shelf.old; after = F.faults shelf.new }) }
+{
+    match path {
+        Some(path) => match Bytes::of(alloc, path) {
+            Ok(path) => read_names_file(alloc, &path, shelf),
+            Err(Memory) => Err(Status::Memory),
+        },
+        None => Ok(NamesRead {
+            table: NameTable::empty(alloc),
+            report: Vec::new(alloc),
+            refused: false,
+        }),
+    }
+}
