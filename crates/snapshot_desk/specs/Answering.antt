@@ -1,5 +1,6 @@
 -- What a viewer answers.
 use Rattle.std.specs.Prelude.{◌≡◌, List}
+use Rattle.std.specs.FinMap.{empty}
 use Rattle.catalogue_core.specs.Histories.{current, AreEditionsOf}
 use Rattle.catalogue_core.specs.declared.history_entry.HistoryEntry.{HistoryEntry}
 use Rattle.catalogue_editions.specs.declared.edition.Edition.{Edition}
@@ -7,7 +8,7 @@ use Rattle.catalogue_query.specs.Answers.{answer_lines}
 use Rattle.catalogue_query.specs.declared.answer.Answer.{Answer}
 use Rattle.catalogue_query.specs.declared.query.Query.{Query}
 
--- what the catalogue of that history answers to the query
+-- what the catalogue of that history, which has no names, answers to the query
 abbrev pub IsAnswerOver : List HistoryEntry → Query → Answer → Type 0
 IsAnswerOver history query told = (all : List Edition) × AreEditionsOf history all
-    × (told.lines ≡ answer_lines query (current history) all)
+    × (told.lines ≡ answer_lines empty query (current history) all)

@@ -20,7 +20,8 @@ fn apply_by<L: Ledger>(
     requires name { blank.name ≡ L.name }
     requires parts { blank.parts ≡ L.parts }
     requires some { 0 < L.parts }
-    ensures appended { OnOk result (catalogue.new ≡ catalogue.old ++ record { pass = pass; batch = batch } ∷ []) }
+    ensures appended { OnOk result (catalogue.new.history ≡ catalogue.old.history ++ record { pass = pass; batch = batch } ∷ []) }
+    ensures names { catalogue.new.names ≡ catalogue.old.names }
     ensures kept { OnErr result (catalogue.new ≡ catalogue.old) }
 {
     let mut steps: Steps<L> = Steps::open(blank);
@@ -37,7 +38,8 @@ pub fn apply_batch(
     pass: u32,
     batch: Batch,
 ) -> Result<(), Memory>
-    ensures appended { OnOk result (catalogue.new ≡ catalogue.old ++ record { pass = pass; batch = batch } ∷ []) }
+    ensures appended { OnOk result (catalogue.new.history ≡ catalogue.old.history ++ record { pass = pass; batch = batch } ∷ []) }
+    ensures names { catalogue.new.names ≡ catalogue.old.names }
     ensures kept { OnErr result (catalogue.new ≡ catalogue.old) }
 {
     apply_by::<Brand>(alloc, catalogue, pass, batch, Blank::new(1))

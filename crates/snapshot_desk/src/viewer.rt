@@ -29,15 +29,16 @@ pub struct Viewer {
 impl Model for Viewer {
     ghost use Rattle.std.specs.Prelude.{◌≡◌, ◌≤◌, length, take};
     ghost use Rattle.std.specs.Arc.{arc_value};
+    ghost use Rattle.std.specs.FinMap.{empty};
     ghost use mathlib.Core.List.{IsPrefix};
     ghost use Rattle.snapshot_desk.specs.Counting.{numbers_of};
     ghost use Rattle.snapshot_desk.specs.States.{Viewing};
 
     ghost Value = { Viewing };
 
-    ghost view = { λ v. record { book = v.reached.book; seen = v.catalogue; learnt = take v.owed v.reached.log } };
+    ghost view = { λ v. record { book = v.reached.book; seen = v.catalogue.history; learnt = take v.owed v.reached.log } };
 
-    ghost invariant = { λ v. ((arc_value v.board).tag ≡ numbers_of v.reached.book) × IsPrefix v.catalogue v.reached.log × (v.owed ≤ length v.reached.log) };
+    ghost invariant = { λ v. ((arc_value v.board).tag ≡ numbers_of v.reached.book) × IsPrefix v.catalogue.history v.reached.log × (v.owed ≤ length v.reached.log) × (v.catalogue.names ≡ empty) };
 }
 
 impl Viewer {

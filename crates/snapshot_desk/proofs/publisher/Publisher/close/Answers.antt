@@ -6,7 +6,7 @@ use Rattle.snapshot_desk.proofs.publisher.Publisher.close.Goals as goal
 pub returns : goal.returns
 returns g c =
     let published = c.self.inside.reached.log in
-    let seen = c.viewer.inside.catalogue in
+    let seen = c.viewer.inside.catalogue.history in
     let known = c.viewer.inside.reached.log in
     let both = c.learn.new.self.log in
     let all = c.whole-all.result.log in

@@ -7,7 +7,7 @@ use Rattle.snapshot_desk.proofs.viewer.Viewer.view.Goals as goal
 
 pub returns-clause-told : goal.returns-clause-told
 returns-clause-told c =
-    let seen = c.self.inside.catalogue in
+    let seen = c.self.inside.catalogue.history in
     let known = c.self.inside.reached.log in
     let enough : c.self.inside.owed ≤ length seen = omega (arith, c.if-turns-self.false, c.turns-turns.ensures.value) in
     let learnt : IsPrefix c.args.self.now.learnt (take c.self.inside.owed known) = subst (λ (v : Viewing). IsPrefix c.args.self.now.learnt v.learnt) (sym c.self.view_is) c.in_ok-take_new.ensures.learnt in
