@@ -74,9 +74,11 @@ impl Drop for Catalogue {
 }
 
 impl Model for Catalogue {
-    ghost use Rattle.catalogue_core.specs.Catalogues.{CatalogueValue};
+    ghost use Rattle.catalogue_core.specs.Catalogues.{CatalogueValue, catalogue_code};
 
     ghost Value = { CatalogueValue };
+
+    ghost coded = { catalogue_code };
 
     ghost use Rattle.catalogue_core.specs.Grouping.{kept_works};
     ghost use Rattle.catalogue_core.specs.Kept.{IsKept};
