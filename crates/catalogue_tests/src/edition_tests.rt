@@ -2,6 +2,7 @@
 ghost use Rattle.std.specs.Prelude.{◌≡◌, ◌<◌};
 
 use crate::worked::{ADDED, BLUE, BRIDGE, RED, edition_in, record_in};
+use authority_names::name_table::NameTable;
 use catalogue_core::edition::Edition;
 use catalogue_core::ordering::sorted_by_least;
 use catalogue_core::records::control_of;
@@ -62,7 +63,8 @@ pub fn is_named(edition: &Edition, control: &[u8]) -> bool {
 
 /// Whether the edition has that work key.
 fn has_key(alloc: Global, edition: &Edition, key: &[u8]) -> Result<bool, Fail> {
-    Ok(work_key_of(alloc, edition)?.bytes() == key)
+    let names = NameTable::empty(alloc);
+    Ok(work_key_of(alloc, &names, edition)?.bytes() == key)
 }
 
 /// Whether the content is made of so many records, with so many united fields, and has the fixed part of that record.

@@ -18,6 +18,8 @@ mod export_tests;
 #[cfg(test)]
 mod history_tests;
 #[cfg(test)]
+mod name_tests;
+#[cfg(test)]
 mod plain_catalogue;
 #[cfg(test)]
 mod preference_tests;

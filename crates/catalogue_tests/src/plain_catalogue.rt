@@ -3,6 +3,7 @@
 //! It answers what [`catalogue_core::catalogue::Catalogue`] answers, by the same clauses, and makes all anew at each turn: it
 //! goes through its whole history for the records that are current, and resolves these from scratch.
 ghost use Rattle.std.specs.Prelude.{◌≡◌, ◌++◌, ◌∷◌, [], List, length, not, is_none, IfOk, OnOk, OnErr};
+ghost use Rattle.std.specs.FinMap.{empty};
 ghost use Rattle.std.specs.Map.{values_of};
 ghost use Rattle.std.specs.Option.{option_copied};
 ghost use Rattle.union_base.specs.SortedLists.{has};
@@ -14,6 +15,7 @@ ghost use Rattle.catalogue_core.specs.Resolutions.{IsOrderedResolution};
 ghost use Rattle.catalogue_core.specs.Walks.{holder_of};
 ghost use Rattle.catalogue_editions.specs.declared.edition.Edition.{Edition as EditionModel};
 
+use authority_names::name_table::NameTable;
 use catalogue_core::batch::Batch;
 use catalogue_core::edition::Edition;
 use catalogue_core::history_entry::HistoryEntry;
@@ -36,7 +38,7 @@ use union_base::memory::Memory;
 use union_base::record_id::RecordId;
 use work_clusters::works::Works;
 
-/// The union catalogue of some libraries, made anew at each turn. Contracts see it as its history.
+/// The union catalogue of some libraries, without names, made anew at each turn. Contracts see it as its history.
 #[derive(Drop)]
 pub struct PlainCatalogue {
     history: Vec<HistoryEntry>,
@@ -47,6 +49,7 @@ pub struct PlainCatalogue {
 
 impl Model for PlainCatalogue {
     ghost use Rattle.std.specs.Prelude.{◌≡◌, List};
+    ghost use Rattle.std.specs.FinMap.{empty};
     ghost use Rattle.work_clusters.specs.Works.{works_of};
     ghost use Rattle.catalogue_core.specs.EditionKeys.{work_pairs};
     ghost use Rattle.catalogue_core.specs.Histories.{current, AreEditionsOf};
@@ -57,7 +60,7 @@ impl Model for PlainCatalogue {
     ghost view = { λ c. c.history.items };
 
     ghost invariant = { λ c. (c.records.entries ≡ current c.history.items) × AreEditionsOf c.history.items c.editions.items
-        × (c.works.works ≡ works_of (work_pairs c.editions.items)) };
+        × (c.works.works ≡ works_of (work_pairs empty c.editions.items)) };
 }
 
 impl PlainCatalogue {
@@ -138,7 +141,7 @@ impl PlainCatalogue {
 
     /// The works of the editions: under each work key, by their least contributors, the editions that have it.
     pub fn works(&self) -> &Works
-        ensures { (all : List EditionModel) × AreEditionsOf self.now all × (result.now.works ≡ works_of (work_pairs all)) }
+        ensures { (all : List EditionModel) × AreEditionsOf self.now all × (result.now.works ≡ works_of (work_pairs empty all)) }
     {
         &self.works
     }
@@ -240,7 +243,7 @@ fn copied(alloc: Global, records: &BTreeMap<RecordId, Edition>) -> Result<Vec<Ed
 
 /// The works of the editions.
 fn clustered(alloc: Global, editions: &[Edition]) -> Result<Works, Memory>
-    ensures { IfOk result (λ works. works.works ≡ works_of (work_pairs editions.now)) }
+    ensures { IfOk result (λ works. works.works ≡ works_of (work_pairs empty editions.now)) }
 {
     let mut works = Works::empty(alloc);
     let change = works.plan(alloc, Vec::new(alloc), paired(alloc, editions)?)?;
@@ -251,11 +254,12 @@ fn clustered(alloc: Global, editions: &[Edition]) -> Result<Works, Memory>
 
 /// The work keys of the editions, each with a copy of its edition's least contributor.
 fn paired(alloc: Global, editions: &[Edition]) -> Result<Vec<(Bytes, RecordId)>, Memory>
-    ensures { IfOk result (λ pairs. pairs.items ≡ work_pairs editions.now) }
+    ensures { IfOk result (λ pairs. pairs.items ≡ work_pairs empty editions.now) }
 {
+    let names = NameTable::empty(alloc);
     let mut pairs = Vec::new(alloc);
     for edition in editions {
-        let key = work_key_of(alloc, edition)?;
+        let key = work_key_of(alloc, &names, edition)?;
         pairs.push((key, edition.least().copied(alloc)?))?;
     }
     Ok(pairs)

@@ -10,7 +10,6 @@ use catalogue_core::batch::Batch;
 use catalogue_core::catalogue::Catalogue;
 use catalogue_core::edition::Edition;
 use catalogue_core::op::Op;
-use catalogue_core::work_key::work_key_of;
 use catalogue_export::edition::edition_record;
 use catalogue_export::editions::append_edition;
 use field_merge::content::Content;
@@ -186,8 +185,9 @@ fn agree(alloc: Global, one: &Catalogue, other: &Catalogue) -> Result<bool, Fail
 /// Whether the editions have the same contributors and features, and their records the same holdings and contributors, and the
 /// same work key where both show the same title.
 fn are_alike(alloc: Global, one: &Edition, other: &Edition) -> Result<bool, Fail> {
-    let (first, _) = edition_record(alloc, one, &work_key_of(alloc, one)?)?;
-    let (second, _) = edition_record(alloc, other, &work_key_of(alloc, other)?)?;
+    let catalogue = Catalogue::empty(alloc)?;
+    let (first, _) = edition_record(alloc, one, &catalogue.key_of(alloc, one)?)?;
+    let (second, _) = edition_record(alloc, other, &catalogue.key_of(alloc, other)?)?;
     let parts = one.content().contributors.as_slice() == other.content().contributors.as_slice()
         && have_same_features(one.features(), other.features());
     let fields = have_same_under(alloc, b"852", &first, &second)?

@@ -1,4 +1,4 @@
-//! Work keys whose expected values another program made.
+//! Work keys and names whose expected values another program made.
 ghost use Rattle.std.specs.Prelude.{All, IsUtf8, IfOk, OnOk};
 ghost use Rattle.std.specs.Option.{ForSome, option_copied};
 ghost use Rattle.workset_keys.specs.Names.{HasTexts};
@@ -12,6 +12,7 @@ use union_base::field::Field;
 use union_base::library_code::LibraryCode;
 use union_base::record_id::RecordId;
 use union_base::subfield::Subfield;
+use workset_keys::fields::name_of;
 use workset_keys::work_key::work_key;
 
 mod cases;
@@ -25,6 +26,11 @@ const ADDED: u8 = b'7';
 #[test]
 fn work_keys(rt: HostRuntime) -> Result<(), Fail> {
     assert_cases(&rt, rt.alloc(), cases::WORK_KEYS, 87, has_key)
+}
+
+#[test]
+fn names(rt: HostRuntime) -> Result<(), Fail> {
+    assert_cases(&rt, rt.alloc(), cases::NAMES, 30, has_name)
 }
 
 /// A title as long as a field has room for.
@@ -51,6 +57,13 @@ fn has_key(alloc: Global, case: &str) -> Result<bool, Fail> {
     let added = fields_of(alloc, cells, true)?;
     let made = key_of_fields(alloc, &fields, &added, &id)?;
     Ok(made.bytes() == key.as_bytes())
+}
+
+/// Whether the field of a case has the name that is expected.
+fn has_name(alloc: Global, case: &str) -> Result<bool, Fail> {
+    let (name, cell) = case.split_once(CELL_END).ok_or("a field")?;
+    let field = field_of(alloc, cell)?;
+    Ok(name_of(alloc, &field)?.bytes() == name.as_bytes())
 }
 
 /// The key by a record's fields, of which `added` are the added entries.

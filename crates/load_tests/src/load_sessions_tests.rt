@@ -3,6 +3,7 @@ ghost use Rattle.std.specs.Prelude.{◌≤◌, ◌+◌, IfOk};
 ghost use Rattle.catalogue_lock.specs.Tokens.{IsRootOf, root_of};
 ghost use Rattle.load_sessions.specs.Sessions.{IsReady};
 
+use authority_names::name_table::NameTable;
 use catalogue_lock::desk::Desk;
 use catalogue_lock::root::Root;
 use catalogue_query::query::Query;
@@ -74,7 +75,7 @@ fn are_loaded<R: Threads + Wait + Sync>(
     requires least { 1 ≤ workers }
     requires most { workers ≤ 64 }
 {
-    let (desk, mut root) = Desk::open(alloc, Served::empty(alloc)?)?;
+    let (desk, mut root) = Desk::open(alloc, Served::open(alloc, NameTable::empty(alloc))?)?;
     let first = session_at(alloc, &desk, &mut root, libraries.0, STREAM, 1_000)?;
     let second = session_at(alloc, &desk, &mut root, libraries.1, STREAM, 1_000)?;
     let pass = desk.make_pass(&mut root);
@@ -120,7 +121,7 @@ fn limited<R: Threads + Wait + Sync>(
     for _ in 0..copies {
         content.extend_from_slice(ONE)?;
     }
-    let (desk, mut root) = Desk::open(alloc, Served::empty(alloc)?)?;
+    let (desk, mut root) = Desk::open(alloc, Served::open(alloc, NameTable::empty(alloc))?)?;
     let session = session_at(alloc, &desk, &mut root, library, content.as_slice(), 228)?;
     let mut sessions = [session];
     run_sessions(rt, alloc, &desk, &mut sessions, None, 4, &OpenGate);
@@ -170,7 +171,7 @@ fn told<R: Threads + Wait + Sync>(
     for _ in 0..513 {
         content.extend_from_slice(ONE)?;
     }
-    let (desk, mut root) = Desk::open(alloc, Served::empty(alloc)?)?;
+    let (desk, mut root) = Desk::open(alloc, Served::open(alloc, NameTable::empty(alloc))?)?;
     let session = session_at(
         alloc,
         &desk,

@@ -90,3 +90,36 @@ hill, ann/the 1 cat¦LIBB¦t17¦1001 $aHill, Ann¦24504$nThe 1$aThe cat‡\
 ///0.a b¦0¦a b¦24500$a‡\
 //day¦ZZZZZZZZZZZZZZZZ¦w1¦24500$a¦7001 $aDay‡\
 ";
+
+/// The name, and the field.
+pub(crate) const NAMES: &str = "\
+hill, ann ii dr 1900 annabel¦1001 $aHill, Ann,$bII$cDr.$d1900-$eauthor$n2nd$q(Annabel)$tRed ships$kSelections‡\
+dvorak, antonin 1841 1904¦1001 $aDvořák, Antonín,$d1841-1904.‡\
+1990 x, y p q¦1001 $d1990$aX, Y$aP, Q$n3‡\
+¦1001 $a...‡\
+¦1001 $tRed ships‡\
+hill, ann ii dr 1900 2nd¦1101 $aHill, Ann,$bII$cDr.$d1900-$eauthor$n2nd$q(Annabel)$tRed ships$kSelections‡\
+dvorak, antonin 1841 1904¦1101 $aDvořák, Antonín,$d1841-1904.‡\
+1990 x, y p q 3¦1101 $d1990$aX, Y$aP, Q$n3‡\
+¦1101 $a...‡\
+¦1101 $tRed ships‡\
+hill, ann ii dr 1900 2nd¦1111 $aHill, Ann,$bII$cDr.$d1900-$eauthor$n2nd$q(Annabel)$tRed ships$kSelections‡\
+dvorak, antonin 1841 1904¦1111 $aDvořák, Antonín,$d1841-1904.‡\
+1990 x, y p q 3¦1111 $d1990$aX, Y$aP, Q$n3‡\
+¦1111 $a...‡\
+¦1111 $tRed ships‡\
+hill, ann ii dr 1900 annabel¦7001 $aHill, Ann,$bII$cDr.$d1900-$eauthor$n2nd$q(Annabel)$tRed ships$kSelections‡\
+dvorak, antonin 1841 1904¦7001 $aDvořák, Antonín,$d1841-1904.‡\
+1990 x, y p q¦7001 $d1990$aX, Y$aP, Q$n3‡\
+¦7001 $a...‡\
+¦7001 $tRed ships‡\
+hill, ann ii dr 1900 2nd¦7101 $aHill, Ann,$bII$cDr.$d1900-$eauthor$n2nd$q(Annabel)$tRed ships$kSelections‡\
+dvorak, antonin 1841 1904¦7101 $aDvořák, Antonín,$d1841-1904.‡\
+1990 x, y p q 3¦7101 $d1990$aX, Y$aP, Q$n3‡\
+¦7101 $a...‡\
+¦7101 $tRed ships‡\
+hill, ann ii dr 1900 2nd¦7111 $aHill, Ann,$bII$cDr.$d1900-$eauthor$n2nd$q(Annabel)$tRed ships$kSelections‡\
+dvorak, antonin 1841 1904¦7111 $aDvořák, Antonín,$d1841-1904.‡\
+1990 x, y p q 3¦7111 $d1990$aX, Y$aP, Q$n3‡\
+¦7111 $a...‡\
+¦7111 $tRed ships‡";
