@@ -1,6 +1,6 @@
 -- Records in parts of which no two match: the resolution of all is the resolutions of the parts together.
-use Rattle.std.proofs.Common.{◌≡◌, Bool, true, false, IsTrue, List, [], ◌∷◌, ◌++◌, refl, inl, inr, arith}
-use Rattle.std.specs.Prelude.{◌↔◌, Contains, AllPairs}
+use Rattle.std.proofs.Common.{◌≡◌, Bool, true, false, IsTrue, List, [], ◌∷◌, ◌++◌, refl, arith}
+use Rattle.std.specs.Prelude.{◌↔◌, Contains}
 use Rattle.merge_laws.specs.Resolution.{JoinLaws, MatchLaws, member, IsResolution, DoNotMatch, AreApart}
 use Rattle.merge_laws.proofs.Places.{AllPairs-none, AllPairs-append}
 use Rattle.merge_laws.proofs.Resolutions.{IsDominated-refl, IsResolution-from_apart, IsResolution-append, IsResolution-through, IsResolution-permutation, IsPermutation-from_resolutions, apart-from_resolution}

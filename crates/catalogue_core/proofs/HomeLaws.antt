@@ -7,7 +7,7 @@ use Rattle.std.specs.declared.cmp.Ordering.TheVariants.{Less, Equal, Greater}
 use Rattle.std.specs.Ordering.{match_ordering, is_eq, ordering_reverse}
 use Rattle.std.specs.BTreeMap.{is_at, insert_entry}
 use Rattle.std.specs.List.Sorted.{IsStrictlySortedBy}
-use Rattle.std.specs.Map.{set_value, remove_entry, keys_of}
+use Rattle.std.specs.Map.{remove_entry, keys_of}
 use Rattle.union_base.specs.SortedLists.{has}
 use Rattle.union_base.specs.declared.record_id.RecordId.{RecordId}
 use Rattle.field_merge.specs.Kept.{id_cmp}

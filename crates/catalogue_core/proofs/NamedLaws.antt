@@ -1,6 +1,6 @@
 -- The editions of a catalogue, as a walk along the homes meets them.
-use Rattle.std.proofs.Common.{◌≡◌, ◌≢◌, ℕ, Bool, true, false, cond, ◌&&◌, IsTrue, List, [], ◌∷◌, length, Contains, AllPairs, refl, sym, ap, subst, ◌∙◌, inl, inr, arith}
-use Rattle.std.specs.Prelude.{filter, find, not, is_none, Option, Some, None, is_some}
+use Rattle.std.proofs.Common.{◌≡◌, ◌≢◌, ℕ, Bool, true, false, cond, IsTrue, List, [], ◌∷◌, length, Contains, AllPairs, refl, sym, ap, subst, ◌∙◌, inl, inr, arith}
+use Rattle.std.specs.Prelude.{find, not, is_none, Option, Some, None, is_some}
 use Rattle.std.specs.Option.{option_map, option_and_then}
 use Rattle.std.specs.List.{list_all, AllByRecursion, cons_option}
 use Rattle.std.specs.List.Sorted.{IsPermutation, IsStrictlySortedBy}

@@ -1,6 +1,5 @@
 -- Each batch has a reach, whatever the history.
-use Rattle.std.proofs.Common.{◌≡◌, ℕ, ◌+◌, ◌*◌, Bool, true, false, List, [], ◌∷◌, ◌++◌, length, Contains, refl, ◌∙◌, inl, inr}
-use Rattle.std.specs.Prelude.{◌⊎◌}
+use Rattle.std.proofs.Common.{◌≡◌, ℕ, ◌+◌, ◌*◌, Bool, true, false, List, [], ◌∷◌, ◌++◌, length, refl, ◌∙◌, inl, inr}
 use Rattle.std.specs.List.{list_all, list_any}
 use Rattle.std.specs.BTreeMap.{is_at}
 use Rattle.std.specs.Map.{remove_entry, values_of}
@@ -22,7 +21,7 @@ use Rattle.catalogue_editions.specs.declared.op.Op.TheVariants.{Load, Withdraw}
 use Rattle.catalogue_core.specs.Histories.{MapOf, id_of, is_current, after_op, current}
 use Rattle.catalogue_core.specs.Plans.{AreSingle}
 use Rattle.catalogue_core.specs.PreparedReaches.{without_named, without_all, IsReachOfLeaving, IsReachOfComing, IsReachOfParts}
-use Rattle.catalogue_core.specs.Reaches.{IsReachOfInsertion, IsReachOfWithdrawal, IsReachOfReplacement, IsReachOfOp, IsReachOf}
+use Rattle.catalogue_core.specs.Reaches.{IsReachOfInsertion, IsReachOfWithdrawal, IsReachOfOp, IsReachOf}
 use Rattle.catalogue_core.specs.declared.history_entry.HistoryEntry.{HistoryEntry}
 use Rattle.catalogue_core.proofs.Looking.{bears, member-from_any, bears-resolution, bears-current, single-remove, single-op, single-turns}
 

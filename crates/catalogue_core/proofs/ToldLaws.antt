@@ -3,7 +3,6 @@ use Rattle.std.proofs.Common.{◌≡◌, ℕ, List, [], ◌∷◌, ◌++◌, sym
 use Rattle.std.specs.Prelude.{Option}
 use Rattle.std.specs.Map.{values_of as values}
 use Rattle.std.proofs.lemmas.List.Sums.{fold-append}
-use Rattle.union_base.specs.declared.record_id.RecordId.{RecordId}
 use Rattle.merge_laws.specs.Resolution.{AreApart}
 use Rattle.merge_laws.proofs.Resolutions.{apart-from_resolution, IsPermutation-from_resolutions}
 use Rattle.swoosh_resolver.specs.Changes.{view_of}

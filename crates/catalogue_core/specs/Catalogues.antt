@@ -6,6 +6,7 @@ use Rattle.authority_names.specs.Leads.{Table}
 use Rattle.catalogue_core.specs.contracts.history_entry.HistoryEntry.{the_row}
 use Rattle.catalogue_core.specs.declared.history_entry.HistoryEntry.{HistoryEntry}
 
+-- what contracts see of a catalogue
 pub record CatalogueValue : Type 0 where
   pub history : List HistoryEntry
   pub names : Table

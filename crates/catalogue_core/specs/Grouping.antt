@@ -24,9 +24,11 @@ pub record KeptWorks : Type 0 where
   pub names : Table
   pub works : Option WorkList
 
+-- the works, without the room that there is for them
 abbrev pub list_in : Option WorkMap → Option WorkList
 list_in works = option_map (λ w. w.works) works
 
+-- what a catalogue keeps of names and works
 abbrev pub kept_works : NamedWorks → KeptWorks
 kept_works kept = record { names = kept.names; works = list_in kept.works }
 

@@ -1,11 +1,9 @@
 -- Records in parts, each with what it resolves to by itself.
-use Rattle.std.specs.Prelude.{◌↔◌, Bool, IsTrue, List, [], ◌∷◌, ◌++◌, Contains}
+use Rattle.std.specs.Prelude.{◌↔◌, IsTrue, List, [], ◌∷◌, ◌++◌, Contains}
 use Rattle.std.specs.List.Sorted.{IsPermutation}
 use Rattle.union_base.specs.SortedLists.{is_ascending}
-use Rattle.merge_laws.specs.Resolution.{IsResolution}
 use Rattle.match_features.specs.declared.keys.FeatureKey.{FeatureKey}
 use Rattle.catalogue_editions.specs.Ids.{edition_cmp}
-use Rattle.catalogue_editions.specs.Joining.{join}
 use Rattle.catalogue_editions.specs.Matching.{match, SeeksKey, IsPostedUnder}
 use Rattle.catalogue_editions.specs.Resolutions.{IsOrderedResolution}
 use Rattle.catalogue_editions.specs.declared.edition.Edition.{Edition}

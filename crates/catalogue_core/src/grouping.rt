@@ -71,11 +71,7 @@ fn pairs(
 }
 
 /// The works of the editions by the names. Returns `Memory` if allocation fails.
-pub fn grouped(
-    alloc: Global,
-    names: &NameTable,
-    blocks: &Blocks<Edition>,
-) -> Result<Works, Memory>
+pub fn grouped(alloc: Global, names: &NameTable, blocks: &Blocks<Edition>) -> Result<Works, Memory>
     ensures { IfOk result (λ works. works.works ≡ works_of (work_pairs names.now (values_of (blocks_in blocks.now.blocks)))) }
 {
     let mut works = Works::empty(alloc);

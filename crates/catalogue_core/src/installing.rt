@@ -1,7 +1,8 @@
 //! A plan takes effect.
 //!
-//! All memory is taken first: for the works, where they are kept, and the blocks, for one turn more in the history, and last for ids that are new.
-//! Where it runs out the catalogue is as before. Then everything is installed, which wants no memory and is not refused.
+//! All memory is taken first: for the works, where they are kept, and the blocks, for one turn more in the history, and last for
+//! ids that are new. Where it runs out the catalogue is as before. Then everything is installed, which wants no memory and is not
+//! refused.
 ghost use Rattle.std.specs.Prelude.{◌≡◌, ◌++◌, ◌∷◌, [], IfOk, OnOk, OnErr};
 ghost use Rattle.swoosh_resolver.specs.Tables.{values_of};
 ghost use Rattle.std.specs.Option.{option_map};

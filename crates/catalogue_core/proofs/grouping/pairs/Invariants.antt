@@ -1,5 +1,4 @@
-use Rattle.std.proofs.Common.{◌≡◌, ◌++◌, map}
-use Rattle.swoosh_resolver.specs.Tables.{blocks_in, values_of}
+use Rattle.std.proofs.Common.{◌≡◌, map}
 use Rattle.catalogue_editions.specs.EditionKeys.{work_pairs}
 use Rattle.catalogue_core.proofs.grouping.pairs.Given as goal
 

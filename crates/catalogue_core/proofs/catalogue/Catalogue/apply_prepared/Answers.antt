@@ -4,7 +4,6 @@ use Rattle.catalogue_editions.specs.Net.{net}
 use Rattle.catalogue_core.specs.PreparedReaches.{IsReachOfParts}
 use Rattle.catalogue_editions.specs.declared.batch.Batch.{Batch}
 use Rattle.catalogue_editions.specs.declared.edition.Edition.{Edition}
-use Rattle.catalogue_core.specs.declared.history_entry.HistoryEntry.{HistoryEntry}
 use Rattle.catalogue_editions.proofs.Apart.{one-ordered}
 use Rattle.catalogue_core.specs.Catalogues.{CatalogueValue}
 use Rattle.catalogue_core.proofs.catalogue.Catalogue.apply_prepared.Goals as goal

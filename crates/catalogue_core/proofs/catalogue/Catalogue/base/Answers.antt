@@ -1,6 +1,6 @@
 use Rattle.std.proofs.Common.{◌≡◌, sym, ap, ◌∙◌}
 use Rattle.std.specs.Prelude.{Some, None}
-use Rattle.std.specs.Option.{option_map, option_and_then, option_copied}
+use Rattle.std.specs.Option.{option_map, option_and_then}
 use Rattle.catalogue_core.specs.Grouping.{kept_works}
 use Rattle.catalogue_core.specs.Histories.{at_id, current}
 use Rattle.catalogue_core.specs.Keeping.{batches, loaded_at}

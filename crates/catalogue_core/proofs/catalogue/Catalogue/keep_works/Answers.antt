@@ -1,6 +1,4 @@
 use Rattle.std.proofs.Common.{◌≡◌, sym, ◌∙◌}
-use Rattle.catalogue_core.specs.Grouping.{kept_works}
-use Rattle.catalogue_core.proofs.NamedLaws.{works-in_order}
 use Rattle.catalogue_core.proofs.catalogue.Catalogue.keep_works.Goals as goal
 
 pub invariant_of-self : goal.invariant_of-self
