@@ -1,5 +1,5 @@
 -- Plans: what a turn makes of a catalogue, as far as it is worked out.
-use Rattle.std.specs.Prelude.{◌≡◌, ℕ, true, List, [], ◌∷◌, if◌then◌else◌, filter_map, Option, Some, None}
+use Rattle.std.specs.Prelude.{◌≡◌, ℕ, true, List, [], ◌∷◌, ◌++◌, if◌then◌else◌, filter_map, Option, Some, None}
 use Rattle.std.specs.Option.{option_map, option_and_then}
 use Rattle.std.specs.List.{AllByRecursion}
 use Rattle.std.specs.List.Sorted.{IsStrictlySortedBy}
@@ -14,10 +14,12 @@ use Rattle.swoosh_resolver.specs.declared.change.Place.{Place as Seat}
 use Rattle.catalogue_core.specs.Histories.{MapOf, at_id}
 use Rattle.catalogue_core.specs.Homes.{Block, has_contributor, place_of}
 use Rattle.catalogue_editions.specs.Joining.{join}
-use Rattle.catalogue_core.specs.Keeping.{loaded_at}
+use Rattle.catalogue_core.specs.Keeping.{batches, loaded_at}
 use Rattle.catalogue_editions.specs.Matching.{match}
 use Rattle.catalogue_editions.specs.declared.batch.Batch.{Batch}
 use Rattle.catalogue_editions.specs.declared.edition.Edition.{Edition}
+use Rattle.catalogue_core.specs.declared.context.Context.{Context}
+use Rattle.catalogue_core.specs.declared.plan.Plan.{Plan}
 use Rattle.record_homes.specs.declared.home.Home.{Home}
 use Rattle.record_homes.specs.declared.place.Place.{Place}
 
@@ -34,6 +36,14 @@ pub record IsPlanned (all : List Batch) (homes : MapOf Home) (blocks : List (Opt
   pub touches : IsStrictlySortedBy id_cmp (keys_of touched)
   pub fits : Fits match blocks closed opened
   pub resolved : IsResolution match join (values_of editions) (view_of blocks closed opened)
+
+-- the batches that had their turn, and the one whose turn it is
+abbrev pub batches_with : Context → List Batch
+batches_with context = batches context.history.now ++ context.batch.now ∷ []
+
+-- the same of a plan on what stands
+abbrev pub IsPlannedOn : Context → MapOf Edition → Plan → Type 0
+IsPlannedOn context editions plan = IsPlanned (batches_with context) context.homes.now.entries context.blocks.now.blocks editions plan.change.closed.items plan.change.opened.items plan.touched.entries
 
 -- the edition that was loaded under the id, and none where it is the one that goes
 abbrev pub base_beside : List Batch → MapOf Home → MapOf (Option Place) → RecordId → RecordId → Option Edition

@@ -27,6 +27,7 @@ ghost use Rattle.catalogue_editions.specs.Resolutions.{IsOrderedResolution};
 ghost use Rattle.catalogue_core.specs.Walks.{holder_of};
 
 use crate::by_key;
+use crate::context::Context;
 use crate::grouping::{Grouping, NamedWorks, grouped};
 use crate::history_entry::HistoryEntry;
 use crate::installing::install;
@@ -140,14 +141,13 @@ impl Catalogue {
         ensures reach { (number : ℕ) → IsReachOf batch.library (current self.old.history) batch.ops number
             → steps.new ≤ steps.old + number }
     {
-        let (plan, found) = planned(
-            alloc,
-            &self.history,
-            &self.homes,
-            &self.blocks,
-            &batch,
-            steps,
-        )?;
+        let context = Context {
+            history: &self.history,
+            homes: &self.homes,
+            blocks: &self.blocks,
+            batch: &batch,
+        };
+        let (plan, found) = planned(alloc, &context, steps)?;
         let entry = HistoryEntry {
             pass: number,
             batch,
@@ -185,14 +185,13 @@ impl Catalogue {
         ensures reach { (number : ℕ) → IsReachOf batch.library (current self.old.history) batch.ops number
             → steps.new ≤ steps.old + number }
     {
-        let (plan, found) = planned(
-            alloc,
-            &self.history,
-            &self.homes,
-            &self.blocks,
-            &batch,
-            steps,
-        )?;
+        let context = Context {
+            history: &self.history,
+            homes: &self.homes,
+            blocks: &self.blocks,
+            batch: &batch,
+        };
+        let (plan, found) = planned(alloc, &context, steps)?;
         let delta = delta_of(alloc, &self.blocks, &plan.change)?;
         let entry = HistoryEntry {
             pass: number,

@@ -18,6 +18,7 @@ pub use edition_blocks::delta;
 
 mod by_key;
 pub mod catalogue;
+mod context;
 pub mod grouping;
 pub mod history_entry;
 mod homes;

@@ -14,17 +14,16 @@ ghost use Rattle.catalogue_editions.specs.Joining.{join};
 ghost use Rattle.catalogue_core.specs.Keeping.{batches, loaded, loaded_at, StandFor};
 ghost use Rattle.catalogue_editions.specs.Matching.{match as edition_match};
 ghost use Rattle.catalogue_editions.specs.Net.{net};
-ghost use Rattle.catalogue_core.specs.Plans.{IsPlanned};
+ghost use Rattle.catalogue_core.specs.Plans.{batches_with, IsPlannedOn};
 ghost use Rattle.catalogue_core.specs.PreparedReaches.{without_all, IsReachOfLeaving, IsReachOfComing, IsReachOfParts};
 ghost use Rattle.catalogue_core.specs.Reaches.{IsReachOfWithdrawal};
 ghost use Rattle.catalogue_core.specs.Touches.{IsTouched};
 ghost use Rattle.catalogue_editions.specs.declared.edition.Edition.{Edition as EditionModel};
 ghost use Rattle.catalogue_editions.specs.declared.batch.Batch.{Batch as BatchModel};
 
-use crate::history_entry::HistoryEntry;
+use crate::context::Context;
 use crate::plan::Plan;
 use crate::planning::{place_of, withdraw};
-use catalogue_editions::batch::Batch;
 use catalogue_editions::edition::Edition;
 use catalogue_editions::op::Op;
 use catalogue_editions::outcome::Outcome;
@@ -57,30 +56,22 @@ fn named(alloc: Global, library: &LibraryCode, op: &Op) -> Result<RecordId, Memo
 /// The plan without the record of that id, where it is current by it. Counts the match tests. Returns `Memory` if allocation fails.
 fn withdraw_current<L: Ledger>(
     alloc: Global,
-    history: &[HistoryEntry],
-    homes: &HomeTable,
-    blocks: &Blocks<Edition>,
-    batch: &Batch,
+    context: &Context<'_>,
     plan: Plan,
     id: &RecordId,
     steps: &mut Steps<L>,
 ) -> Result<Plan, Memory>
-    requires housed { AreHoused blocks.now.blocks homes.now.entries }
-    requires planned { (all : MapOf EditionModel) × IsPlanned (batches history.now ++ batch.now ∷ []) homes.now.entries
-        blocks.now.blocks all plan.change.closed.items plan.change.opened.items plan.touched.entries }
-    ensures planned { IfOk result (λ next. (all : MapOf EditionModel) → IsPlanned (batches history.now ++ batch.now ∷ [])
-        homes.now.entries blocks.now.blocks all plan.change.closed.items plan.change.opened.items plan.touched.entries
-        → IsPlanned (batches history.now ++ batch.now ∷ []) homes.now.entries blocks.now.blocks
-        (remove_entry (is_at (id_cmp id.now)) all) next.change.closed.items next.change.opened.items next.touched.entries) }
-    ensures free { (all : MapOf EditionModel) → IsPlanned (batches history.now ++ batch.now ∷ [])
-        homes.now.entries blocks.now.blocks all plan.change.closed.items plan.change.opened.items plan.touched.entries
+    requires housed { AreHoused context.now.blocks.now.blocks context.now.homes.now.entries }
+    requires planned { (all : MapOf EditionModel) × IsPlannedOn context.now all plan }
+    ensures planned { IfOk result (λ next. (all : MapOf EditionModel) → IsPlannedOn context.now all plan
+        → IsPlannedOn context.now (remove_entry (is_at (id_cmp id.now)) all) next) }
+    ensures free { (all : MapOf EditionModel) → IsPlannedOn context.now all plan
         → is_current all id.now ≡ false → steps.new ≤ steps.old }
-    ensures cost { (all : MapOf EditionModel) (number : ℕ) → IsPlanned (batches history.now ++ batch.now ∷ [])
-        homes.now.entries blocks.now.blocks all plan.change.closed.items plan.change.opened.items plan.touched.entries
+    ensures cost { (all : MapOf EditionModel) (number : ℕ) → IsPlannedOn context.now all plan
         → is_current all id.now ≡ true → IsReachOfWithdrawal (values_of all) id.now number → steps.new ≤ steps.old + number }
 {
-    match place_of(homes, &plan.touched, id) {
-        Some(_) => withdraw(alloc, history, homes, blocks, batch, plan, id, steps),
+    match place_of(context.homes, &plan.touched, id) {
+        Some(_) => withdraw(alloc, context, plan, id, steps),
         None => Ok(plan),
     }
 }
@@ -113,29 +104,24 @@ fn insert_parts<L: Ledger>(
 /// Returns `Memory` if allocation fails.
 fn without_named<L: Ledger>(
     alloc: Global,
-    history: &[HistoryEntry],
-    homes: &HomeTable,
-    blocks: &Blocks<Edition>,
-    batch: &Batch,
+    context: &Context<'_>,
     steps: &mut Steps<L>,
 ) -> Result<Plan, Memory>
-    requires current { StandFor (batches history.now) (places_in homes.now.entries) (current history.now) }
-    requires resolved { IsResolution edition_match join (bases history.now) (values_of_blocks (blocks_in blocks.now.blocks)) }
-    requires housed { AreHoused blocks.now.blocks homes.now.entries }
-    ensures planned { IfOk result (λ plan. IsPlanned (batches history.now ++ batch.now ∷ []) homes.now.entries
-        blocks.now.blocks (without_all batch.now.library (current history.now) batch.now.ops) plan.change.closed.items
-        plan.change.opened.items plan.touched.entries) }
-    ensures cost { (number : ℕ) → IsReachOfLeaving batch.now.library (current history.now) batch.now.ops number
+    requires current { StandFor (batches context.now.history.now) (places_in context.now.homes.now.entries) (current context.now.history.now) }
+    requires resolved { IsResolution edition_match join (bases context.now.history.now) (values_of_blocks (blocks_in context.now.blocks.now.blocks)) }
+    requires housed { AreHoused context.now.blocks.now.blocks context.now.homes.now.entries }
+    ensures planned { IfOk result (λ plan. IsPlannedOn context.now (without_all context.now.batch.now.library (current context.now.history.now) context.now.batch.now.ops) plan) }
+    ensures cost { (number : ℕ) → IsReachOfLeaving context.now.batch.now.library (current context.now.history.now) context.now.batch.now.ops number
         → steps.new ≤ steps.old + number }
 {
-    let ops = batch.ops.as_slice();
+    let ops = context.batch.ops.as_slice();
     let mut plan = Plan {
-        change: blocks.start(),
+        change: context.blocks.start(),
         touched: BTreeMap::new(alloc),
     };
     for op in ops {
-        let id = named(alloc, &batch.library, op)?;
-        plan = withdraw_current(alloc, history, homes, blocks, batch, plan, &id, steps)?;
+        let id = named(alloc, &context.batch.library, op)?;
+        plan = withdraw_current(alloc, context, plan, &id, steps)?;
     }
     Ok(plan)
 }
@@ -183,52 +169,51 @@ fn touch_op(
 /// Returns `Memory` if allocation fails.
 fn touch_all(
     alloc: Global,
-    history: &[HistoryEntry],
-    homes: &HomeTable,
-    batch: &Batch,
+    context: &Context<'_>,
 ) -> Result<(BTreeMap<RecordId, Option<Place>>, Vec<Outcome>), Memory>
-    requires { StandFor (batches history.now) (places_in homes.now.entries) (current history.now) }
-    ensures touched { IfOk result (λ turn. IsTouched (batches history.now ++ batch.now ∷ []) homes.now.entries
-        (after_batch (current history.now) batch.now) turn.0.entries) }
-    ensures outcomes { IfOk result (λ turn. turn.1.items ≡ outcomes batch.now.library (current history.now) batch.now.ops) }
+    requires { StandFor (batches context.now.history.now) (places_in context.now.homes.now.entries) (current context.now.history.now) }
+    ensures touched { IfOk result (λ turn. IsTouched (batches_with context.now) context.now.homes.now.entries
+        (after_batch (current context.now.history.now) context.now.batch.now) turn.0.entries) }
+    ensures outcomes { IfOk result (λ turn. turn.1.items ≡ outcomes context.now.batch.now.library (current context.now.history.now) context.now.batch.now.ops) }
 {
-    let ops = batch.ops.as_slice();
+    let ops = context.batch.ops.as_slice();
     let mut outcomes = Vec::with_capacity(alloc, ops.len())?;
     let mut touched = BTreeMap::new(alloc);
-    let turn = history.len();
+    let turn = context.history.len();
     for (i, op) in ops.iter().enumerate() {
         let place = Place { turn, op: i };
-        let outcome = touch_op(alloc, homes, &mut touched, &batch.library, place, op)?;
+        let outcome = touch_op(
+            alloc,
+            context.homes,
+            &mut touched,
+            &context.batch.library,
+            place,
+            op,
+        )?;
         outcomes.push(outcome)?;
     }
     Ok((touched, outcomes))
 }
 
-/// The plan of a turn of this batch, for a catalogue with that history, those homes and those blocks, where the batch's loads
-/// come to these parts; and what came of each of its operations. Counts the match tests. Returns `Memory` if allocation fails.
+/// The plan of the turn, where the batch's loads come to these parts; and what came of each of the batch's operations. Counts the match tests. Returns `Memory` if allocation fails.
 pub fn planned_parts<L: Ledger>(
     alloc: Global,
-    history: &[HistoryEntry],
-    homes: &HomeTable,
-    blocks: &Blocks<Edition>,
-    batch: &Batch,
+    context: &Context<'_>,
     parts: Vec<Edition>,
     steps: &mut Steps<L>,
 ) -> Result<(Plan, Vec<Outcome>), Memory>
-    requires current { StandFor (batches history.now) (places_in homes.now.entries) (current history.now) }
-    requires resolved { IsResolution edition_match join (bases history.now) (values_of_blocks (blocks_in blocks.now.blocks)) }
-    requires housed { AreHoused blocks.now.blocks homes.now.entries }
-    requires parts { IsResolution edition_match join (net batch.now) parts.items }
-    ensures planned { IfOk result (λ turn. IsPlanned (batches history.now ++ batch.now ∷ []) homes.now.entries
-        blocks.now.blocks (after_batch (current history.now) batch.now) turn.0.change.closed.items
-        turn.0.change.opened.items turn.0.touched.entries) }
-    ensures outcomes { IfOk result (λ turn. turn.1.items ≡ outcomes batch.now.library (current history.now) batch.now.ops) }
+    requires current { StandFor (batches context.now.history.now) (places_in context.now.homes.now.entries) (current context.now.history.now) }
+    requires resolved { IsResolution edition_match join (bases context.now.history.now) (values_of_blocks (blocks_in context.now.blocks.now.blocks)) }
+    requires housed { AreHoused context.now.blocks.now.blocks context.now.homes.now.entries }
+    requires parts { IsResolution edition_match join (net context.now.batch.now) parts.items }
+    ensures planned { IfOk result (λ turn. IsPlannedOn context.now (after_batch (current context.now.history.now) context.now.batch.now) turn.0) }
+    ensures outcomes { IfOk result (λ turn. turn.1.items ≡ outcomes context.now.batch.now.library (current context.now.history.now) context.now.batch.now.ops) }
     ensures cost { (number : ℕ)
-        → IsReachOfParts batch.now.library (current history.now) batch.now.ops parts.items number
+        → IsReachOfParts context.now.batch.now.library (current context.now.history.now) context.now.batch.now.ops parts.items number
         → steps.new ≤ steps.old + number }
 {
-    let (touched, outcomes) = touch_all(alloc, history, homes, batch)?;
-    let Plan { change, touched: _ } = without_named(alloc, history, homes, blocks, batch, steps)?;
-    let change = insert_parts(alloc, blocks, change, parts, steps)?;
+    let (touched, outcomes) = touch_all(alloc, context)?;
+    let Plan { change, touched: _ } = without_named(alloc, context, steps)?;
+    let change = insert_parts(alloc, context.blocks, change, parts, steps)?;
     Ok((Plan { change, touched }, outcomes))
 }

@@ -9,6 +9,7 @@ ghost use Rattle.catalogue_editions.specs.Matching.{match as edition_match};
 ghost use Rattle.catalogue_editions.specs.Net.{net};
 ghost use Rattle.catalogue_core.specs.PreparedReaches.{IsReachOfParts};
 
+use crate::context::Context;
 use crate::grouping::NamedWorks;
 use crate::history_entry::HistoryEntry;
 use crate::installing::install;
@@ -49,7 +50,13 @@ pub fn apply_parts<L: Ledger>(
     ensures reach { (reach : ℕ) → IsReachOfParts batch.library (current history.old.items) batch.ops parts.items reach
         → steps.new ≤ steps.old + reach }
 {
-    let (plan, found) = planned_parts(alloc, history, homes, blocks, &batch, parts, steps)?;
+    let context = Context {
+        history,
+        homes,
+        blocks,
+        batch: &batch,
+    };
+    let (plan, found) = planned_parts(alloc, &context, parts, steps)?;
     let entry = HistoryEntry {
         pass: number,
         batch,

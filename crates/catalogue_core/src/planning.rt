@@ -15,16 +15,15 @@ ghost use Rattle.catalogue_editions.specs.Ids.{least};
 ghost use Rattle.catalogue_core.specs.Histories.{MapOf, is_current, after_op, outcome_of};
 ghost use Rattle.catalogue_core.specs.Homes.{Block, AreHoused, has_contributor, place_of};
 ghost use Rattle.catalogue_editions.specs.Batches.{is_own_op};
-ghost use Rattle.catalogue_core.specs.Keeping.{batches, loaded, loaded_at};
+ghost use Rattle.catalogue_core.specs.Keeping.{loaded, loaded_at};
 ghost use Rattle.catalogue_editions.specs.declared.op.Op.TheVariants.{Load, Withdraw};
-ghost use Rattle.catalogue_core.specs.Plans.{IsPlanned, IsLeft, base_beside};
+ghost use Rattle.catalogue_core.specs.Plans.{batches_with, IsPlannedOn, IsLeft, base_beside};
 ghost use Rattle.catalogue_core.specs.Reaches.{IsReachOfWithdrawal, IsReachOfInsertion, IsReachOfOp};
 ghost use Rattle.catalogue_editions.specs.declared.edition.Edition.{Edition as EditionModel};
 
-use crate::history_entry::HistoryEntry;
+use crate::context::Context;
 use crate::keeping::loaded_in;
 use crate::plan::Plan;
-use catalogue_editions::batch::Batch;
 use catalogue_editions::edition::Edition;
 use catalogue_editions::op::Op;
 use catalogue_editions::outcome::Outcome;
@@ -62,39 +61,35 @@ pub fn place_of(
 /// The record under the id that is current by the plan, as its edition, where this is another id than the one that goes.
 /// Takes no memory.
 fn base_beside<'a>(
-    history: &'a [HistoryEntry],
-    batch: &'a Batch,
-    homes: &HomeTable,
+    context: &Context<'a>,
     touched: &BTreeMap<RecordId, Option<Place>>,
     gone: &RecordId,
     id: &RecordId,
 ) -> Option<&'a Edition>
-    ensures { option_copied result ≡ base_beside (batches history.now ++ batch.now ∷ []) homes.now.entries
+    ensures { option_copied result ≡ base_beside (batches_with context.now) context.now.homes.now.entries
         touched.now.entries gone.now id.now }
 {
     if gone.cmp(id).is_eq() {
         return None;
     }
-    let place = place_of(homes, touched, id)?;
-    loaded_in(history, batch, place)
+    let place = place_of(context.homes, touched, id)?;
+    loaded_in(context.history, context.batch, place)
 }
 
 /// Copies of the records under the ids, but of the one that goes. Returns `Memory` if allocation fails.
 fn bases_beside(
     alloc: Global,
-    history: &[HistoryEntry],
-    batch: &Batch,
-    homes: &HomeTable,
+    context: &Context<'_>,
     touched: &BTreeMap<RecordId, Option<Place>>,
     gone: &RecordId,
     ids: &[RecordId],
 ) -> Result<Vec<Edition>, Memory>
-    ensures { IfOk result (λ bases. bases.items ≡ filter_map (base_beside (batches history.now ++ batch.now ∷ [])
-        homes.now.entries touched.now.entries gone.now) ids.now) }
+    ensures { IfOk result (λ bases. bases.items ≡ filter_map (base_beside (batches_with context.now)
+        context.now.homes.now.entries touched.now.entries gone.now) ids.now) }
 {
     let mut bases = Vec::with_capacity(alloc, ids.len())?;
     for id in ids {
-        if let Some(base) = base_beside(history, batch, homes, touched, gone, id) {
+        if let Some(base) = base_beside(context, touched, gone, id) {
             bases.push(Join::copied(base, alloc)?)?;
         }
     }
@@ -173,28 +168,24 @@ fn holder_at(
 /// contributors. The record is current by the plan. Returns `Memory` if allocation fails.
 fn left_behind(
     alloc: Global,
-    history: &[HistoryEntry],
-    homes: &HomeTable,
-    blocks: &Blocks<Edition>,
-    batch: &Batch,
+    context: &Context<'_>,
     plan: &Plan,
     id: &RecordId,
 ) -> Result<(change::Place, Vec<Edition>), Memory>
-    requires housed { AreHoused blocks.now.blocks homes.now.entries }
-    requires planned { (all : MapOf EditionModel) × IsPlanned (batches history.now ++ batch.now ∷ []) homes.now.entries
-        blocks.now.blocks all plan.now.change.closed.items plan.now.change.opened.items plan.now.touched.entries
+    requires housed { AreHoused context.now.blocks.now.blocks context.now.homes.now.entries }
+    requires planned { (all : MapOf EditionModel) × IsPlannedOn context.now all plan.now
         × (is_current all id.now ≡ true) }
-    ensures { IfOk result (λ found. IsLeft (batches history.now ++ batch.now ∷ []) homes.now.entries blocks.now.blocks
+    ensures { IfOk result (λ found. IsLeft (batches_with context.now) context.now.homes.now.entries context.now.blocks.now.blocks
         plan.now.change.closed.items plan.now.change.opened.items plan.now.touched.entries id.now found.0 found.1.items) }
 {
-    let Some(at) = holder_at(homes, blocks, &plan.change, id) else {
+    let Some(at) = holder_at(context.homes, context.blocks, &plan.change, id) else {
         unreachable!()
     };
-    let Some(edition) = blocks.member(&plan.change, at) else {
+    let Some(edition) = context.blocks.member(&plan.change, at) else {
         unreachable!()
     };
     let ids = edition.content().contributors.as_slice();
-    let left = bases_beside(alloc, history, batch, homes, &plan.touched, id, ids)?;
+    let left = bases_beside(alloc, context, &plan.touched, id, ids)?;
     Ok((at, left))
 }
 
@@ -202,33 +193,26 @@ fn left_behind(
 /// records come to takes its place. Counts the match tests. Returns `Memory` if allocation fails.
 pub fn withdraw<L: Ledger>(
     alloc: Global,
-    history: &[HistoryEntry],
-    homes: &HomeTable,
-    blocks: &Blocks<Edition>,
-    batch: &Batch,
+    context: &Context<'_>,
     plan: Plan,
     id: &RecordId,
     steps: &mut Steps<L>,
 ) -> Result<Plan, Memory>
-    requires housed { AreHoused blocks.now.blocks homes.now.entries }
-    requires planned { (all : MapOf EditionModel) × IsPlanned (batches history.now ++ batch.now ∷ []) homes.now.entries
-        blocks.now.blocks all plan.change.closed.items plan.change.opened.items plan.touched.entries
+    requires housed { AreHoused context.now.blocks.now.blocks context.now.homes.now.entries }
+    requires planned { (all : MapOf EditionModel) × IsPlannedOn context.now all plan
         × (is_current all id.now ≡ true) }
-    ensures planned { IfOk result (λ next. (all : MapOf EditionModel) → IsPlanned (batches history.now ++ batch.now ∷ [])
-        homes.now.entries blocks.now.blocks all plan.change.closed.items plan.change.opened.items plan.touched.entries
-        → IsPlanned (batches history.now ++ batch.now ∷ []) homes.now.entries blocks.now.blocks
-        (remove_entry (is_at (id_cmp id.now)) all) next.change.closed.items next.change.opened.items next.touched.entries) }
-    ensures cost { (all : MapOf EditionModel) (number : ℕ) → IsPlanned (batches history.now ++ batch.now ∷ [])
-        homes.now.entries blocks.now.blocks all plan.change.closed.items plan.change.opened.items plan.touched.entries
+    ensures planned { IfOk result (λ next. (all : MapOf EditionModel) → IsPlannedOn context.now all plan
+        → IsPlannedOn context.now (remove_entry (is_at (id_cmp id.now)) all) next) }
+    ensures cost { (all : MapOf EditionModel) (number : ℕ) → IsPlannedOn context.now all plan
         → IsReachOfWithdrawal (values_of all) id.now number → steps.new ≤ steps.old + number }
 {
-    let (at, left) = left_behind(alloc, history, homes, blocks, batch, &plan, id)?;
+    let (at, left) = left_behind(alloc, context, &plan, id)?;
     let parts = reopen(left, steps)?;
     let Plan {
         change,
         mut touched,
     } = plan;
-    let change = blocks.plan_split(alloc, change, at, parts)?;
+    let change = context.blocks.plan_split(alloc, change, at, parts)?;
     touched.insert(id.copied(alloc)?, None)?;
     Ok(Plan { change, touched })
 }
@@ -237,27 +221,19 @@ pub fn withdraw<L: Ledger>(
 /// Counts the match tests. Returns `Memory` if allocation fails.
 fn insert<L: Ledger>(
     alloc: Global,
-    history: &[HistoryEntry],
-    homes: &HomeTable,
-    blocks: &Blocks<Edition>,
-    batch: &Batch,
+    context: &Context<'_>,
     plan: Plan,
     place: Place,
     edition: &Edition,
     steps: &mut Steps<L>,
 ) -> Result<Plan, Memory>
-    requires planned { (all : MapOf EditionModel) × IsPlanned (batches history.now ++ batch.now ∷ []) homes.now.entries
-        blocks.now.blocks all plan.change.closed.items plan.change.opened.items plan.touched.entries }
+    requires planned { (all : MapOf EditionModel) × IsPlannedOn context.now all plan }
     requires own { edition.now.content.contributors ≡ least edition.now ∷ [] }
-    requires loads { loaded_at (batches history.now ++ batch.now ∷ []) place ≡ Some edition.now }
-    ensures planned { IfOk result (λ next. (all : MapOf EditionModel) → IsPlanned (batches history.now ++ batch.now ∷ [])
-        homes.now.entries blocks.now.blocks all plan.change.closed.items plan.change.opened.items plan.touched.entries
+    requires loads { loaded_at (batches_with context.now) place ≡ Some edition.now }
+    ensures planned { IfOk result (λ next. (all : MapOf EditionModel) → IsPlannedOn context.now all plan
         → is_current all (least edition.now) ≡ false
-        → IsPlanned (batches history.now ++ batch.now ∷ []) homes.now.entries blocks.now.blocks
-        (insert_entry id_cmp all (least edition.now) edition.now) next.change.closed.items next.change.opened.items
-        next.touched.entries) }
-    ensures cost { (all : MapOf EditionModel) (number : ℕ) → IsPlanned (batches history.now ++ batch.now ∷ [])
-        homes.now.entries blocks.now.blocks all plan.change.closed.items plan.change.opened.items plan.touched.entries
+        → IsPlannedOn context.now (insert_entry id_cmp all (least edition.now) edition.now) next) }
+    ensures cost { (all : MapOf EditionModel) (number : ℕ) → IsPlannedOn context.now all plan
         → IsReachOfInsertion (values_of all) edition.now number → steps.new ≤ steps.old + number }
 {
     let Plan {
@@ -266,7 +242,7 @@ fn insert<L: Ledger>(
     } = plan;
     touched.insert(edition.least().copied(alloc)?, Some(place))?;
     let copy = Join::copied(edition, alloc)?;
-    let change = blocks.plan_insert(alloc, change, copy, steps)?;
+    let change = context.blocks.plan_insert(alloc, change, copy, steps)?;
     Ok(Plan { change, touched })
 }
 
@@ -274,45 +250,32 @@ fn insert<L: Ledger>(
 /// tests. Returns `Memory` if allocation fails.
 fn plan_load<L: Ledger>(
     alloc: Global,
-    history: &[HistoryEntry],
-    homes: &HomeTable,
-    blocks: &Blocks<Edition>,
-    batch: &Batch,
+    context: &Context<'_>,
     plan: Plan,
     place: Place,
     edition: &Edition,
     steps: &mut Steps<L>,
 ) -> Result<(Plan, Outcome), Memory>
-    requires housed { AreHoused blocks.now.blocks homes.now.entries }
-    requires planned { (all : MapOf EditionModel) × IsPlanned (batches history.now ++ batch.now ∷ []) homes.now.entries
-        blocks.now.blocks all plan.change.closed.items plan.change.opened.items plan.touched.entries }
+    requires housed { AreHoused context.now.blocks.now.blocks context.now.homes.now.entries }
+    requires planned { (all : MapOf EditionModel) × IsPlannedOn context.now all plan }
     requires own { edition.now.content.contributors ≡ least edition.now ∷ [] }
-    requires loads { loaded_at (batches history.now ++ batch.now ∷ []) place ≡ Some edition.now }
-    ensures planned { IfOk result (λ next. (all : MapOf EditionModel) → IsPlanned (batches history.now ++ batch.now ∷ [])
-        homes.now.entries blocks.now.blocks all plan.change.closed.items plan.change.opened.items plan.touched.entries
-        → IsPlanned (batches history.now ++ batch.now ∷ []) homes.now.entries blocks.now.blocks
-        (after_op batch.now.library all (Load edition.now)) next.0.change.closed.items next.0.change.opened.items
-        next.0.touched.entries) }
-    ensures outcome { IfOk result (λ next. (all : MapOf EditionModel) → IsPlanned (batches history.now ++ batch.now ∷ [])
-        homes.now.entries blocks.now.blocks all plan.change.closed.items plan.change.opened.items plan.touched.entries
-        → next.1 ≡ outcome_of batch.now.library all (Load edition.now)) }
-    ensures cost { (all : MapOf EditionModel) (number : ℕ) → IsPlanned (batches history.now ++ batch.now ∷ [])
-        homes.now.entries blocks.now.blocks all plan.change.closed.items plan.change.opened.items plan.touched.entries
-        → IsReachOfOp batch.now.library all (Load edition.now) number → steps.new ≤ steps.old + number }
+    requires loads { loaded_at (batches_with context.now) place ≡ Some edition.now }
+    ensures planned { IfOk result (λ next. (all : MapOf EditionModel) → IsPlannedOn context.now all plan
+        → IsPlannedOn context.now (after_op context.now.batch.now.library all (Load edition.now)) next.0) }
+    ensures outcome { IfOk result (λ next. (all : MapOf EditionModel) → IsPlannedOn context.now all plan
+        → next.1 ≡ outcome_of context.now.batch.now.library all (Load edition.now)) }
+    ensures cost { (all : MapOf EditionModel) (number : ℕ) → IsPlannedOn context.now all plan
+        → IsReachOfOp context.now.batch.now.library all (Load edition.now) number → steps.new ≤ steps.old + number }
 {
     let id = edition.least();
-    match place_of(homes, &plan.touched, id) {
+    match place_of(context.homes, &plan.touched, id) {
         Some(_) => {
-            let rest = withdraw(alloc, history, homes, blocks, batch, plan, id, steps)?;
-            let next = insert(
-                alloc, history, homes, blocks, batch, rest, place, edition, steps,
-            )?;
+            let rest = withdraw(alloc, context, plan, id, steps)?;
+            let next = insert(alloc, context, rest, place, edition, steps)?;
             Ok((next, Outcome::Replaced))
         }
         None => {
-            let next = insert(
-                alloc, history, homes, blocks, batch, plan, place, edition, steps,
-            )?;
+            let next = insert(alloc, context, plan, place, edition, steps)?;
             Ok((next, Outcome::Added))
         }
     }
@@ -322,36 +285,27 @@ fn plan_load<L: Ledger>(
 /// Counts the match tests. Returns `Memory` if allocation fails.
 fn plan_withdrawal<L: Ledger>(
     alloc: Global,
-    history: &[HistoryEntry],
-    homes: &HomeTable,
-    blocks: &Blocks<Edition>,
-    batch: &Batch,
+    context: &Context<'_>,
     plan: Plan,
     control: &Bytes,
     steps: &mut Steps<L>,
 ) -> Result<(Plan, Outcome), Memory>
-    requires housed { AreHoused blocks.now.blocks homes.now.entries }
-    requires planned { (all : MapOf EditionModel) × IsPlanned (batches history.now ++ batch.now ∷ []) homes.now.entries
-        blocks.now.blocks all plan.change.closed.items plan.change.opened.items plan.touched.entries }
-    ensures planned { IfOk result (λ next. (all : MapOf EditionModel) → IsPlanned (batches history.now ++ batch.now ∷ [])
-        homes.now.entries blocks.now.blocks all plan.change.closed.items plan.change.opened.items plan.touched.entries
-        → IsPlanned (batches history.now ++ batch.now ∷ []) homes.now.entries blocks.now.blocks
-        (after_op batch.now.library all (Withdraw control.now)) next.0.change.closed.items next.0.change.opened.items
-        next.0.touched.entries) }
-    ensures outcome { IfOk result (λ next. (all : MapOf EditionModel) → IsPlanned (batches history.now ++ batch.now ∷ [])
-        homes.now.entries blocks.now.blocks all plan.change.closed.items plan.change.opened.items plan.touched.entries
-        → next.1 ≡ outcome_of batch.now.library all (Withdraw control.now)) }
-    ensures cost { (all : MapOf EditionModel) (number : ℕ) → IsPlanned (batches history.now ++ batch.now ∷ [])
-        homes.now.entries blocks.now.blocks all plan.change.closed.items plan.change.opened.items plan.touched.entries
-        → IsReachOfOp batch.now.library all (Withdraw control.now) number → steps.new ≤ steps.old + number }
+    requires housed { AreHoused context.now.blocks.now.blocks context.now.homes.now.entries }
+    requires planned { (all : MapOf EditionModel) × IsPlannedOn context.now all plan }
+    ensures planned { IfOk result (λ next. (all : MapOf EditionModel) → IsPlannedOn context.now all plan
+        → IsPlannedOn context.now (after_op context.now.batch.now.library all (Withdraw control.now)) next.0) }
+    ensures outcome { IfOk result (λ next. (all : MapOf EditionModel) → IsPlannedOn context.now all plan
+        → next.1 ≡ outcome_of context.now.batch.now.library all (Withdraw control.now)) }
+    ensures cost { (all : MapOf EditionModel) (number : ℕ) → IsPlannedOn context.now all plan
+        → IsReachOfOp context.now.batch.now.library all (Withdraw control.now) number → steps.new ≤ steps.old + number }
 {
     let id = RecordId {
-        library: batch.library,
+        library: context.batch.library,
         control: control.copied(alloc)?,
     };
-    match place_of(homes, &plan.touched, &id) {
+    match place_of(context.homes, &plan.touched, &id) {
         Some(_) => {
-            let next = withdraw(alloc, history, homes, blocks, batch, plan, &id, steps)?;
+            let next = withdraw(alloc, context, plan, &id, steps)?;
             Ok((next, Outcome::Removed))
         }
         None => Ok((plan, Outcome::Absent)),
@@ -362,38 +316,25 @@ fn plan_withdrawal<L: Ledger>(
 /// where it runs out.
 pub fn plan_op<L: Ledger>(
     alloc: Global,
-    history: &[HistoryEntry],
-    homes: &HomeTable,
-    blocks: &Blocks<Edition>,
-    batch: &Batch,
+    context: &Context<'_>,
     plan: Plan,
     place: Place,
     op: &Op,
     steps: &mut Steps<L>,
 ) -> Result<(Plan, Outcome), Memory>
-    requires housed { AreHoused blocks.now.blocks homes.now.entries }
-    requires planned { (all : MapOf EditionModel) × IsPlanned (batches history.now ++ batch.now ∷ []) homes.now.entries
-        blocks.now.blocks all plan.change.closed.items plan.change.opened.items plan.touched.entries }
-    requires own { is_own_op batch.now.library op.now ≡ true }
-    requires loads { loaded_at (batches history.now ++ batch.now ∷ []) place ≡ loaded op.now }
-    ensures planned { IfOk result (λ next. (all : MapOf EditionModel) → IsPlanned (batches history.now ++ batch.now ∷ [])
-        homes.now.entries blocks.now.blocks all plan.change.closed.items plan.change.opened.items plan.touched.entries
-        → IsPlanned (batches history.now ++ batch.now ∷ []) homes.now.entries blocks.now.blocks
-        (after_op batch.now.library all op.now) next.0.change.closed.items next.0.change.opened.items
-        next.0.touched.entries) }
-    ensures outcome { IfOk result (λ next. (all : MapOf EditionModel) → IsPlanned (batches history.now ++ batch.now ∷ [])
-        homes.now.entries blocks.now.blocks all plan.change.closed.items plan.change.opened.items plan.touched.entries
-        → next.1 ≡ outcome_of batch.now.library all op.now) }
-    ensures cost { (all : MapOf EditionModel) (number : ℕ) → IsPlanned (batches history.now ++ batch.now ∷ [])
-        homes.now.entries blocks.now.blocks all plan.change.closed.items plan.change.opened.items plan.touched.entries
-        → IsReachOfOp batch.now.library all op.now number → steps.new ≤ steps.old + number }
+    requires housed { AreHoused context.now.blocks.now.blocks context.now.homes.now.entries }
+    requires planned { (all : MapOf EditionModel) × IsPlannedOn context.now all plan }
+    requires own { is_own_op context.now.batch.now.library op.now ≡ true }
+    requires loads { loaded_at (batches_with context.now) place ≡ loaded op.now }
+    ensures planned { IfOk result (λ next. (all : MapOf EditionModel) → IsPlannedOn context.now all plan
+        → IsPlannedOn context.now (after_op context.now.batch.now.library all op.now) next.0) }
+    ensures outcome { IfOk result (λ next. (all : MapOf EditionModel) → IsPlannedOn context.now all plan
+        → next.1 ≡ outcome_of context.now.batch.now.library all op.now) }
+    ensures cost { (all : MapOf EditionModel) (number : ℕ) → IsPlannedOn context.now all plan
+        → IsReachOfOp context.now.batch.now.library all op.now number → steps.new ≤ steps.old + number }
 {
     match op {
-        Op::Load(edition) => plan_load(
-            alloc, history, homes, blocks, batch, plan, place, edition, steps,
-        ),
-        Op::Withdraw(control) => plan_withdrawal(
-            alloc, history, homes, blocks, batch, plan, control, steps,
-        ),
+        Op::Load(edition) => plan_load(alloc, context, plan, place, edition, steps),
+        Op::Withdraw(control) => plan_withdrawal(alloc, context, plan, control, steps),
     }
 }

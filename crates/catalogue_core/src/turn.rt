@@ -10,57 +10,45 @@ ghost use Rattle.catalogue_core.specs.Homes.{AreHoused, places_in};
 ghost use Rattle.catalogue_editions.specs.Joining.{join};
 ghost use Rattle.catalogue_core.specs.Keeping.{batches, StandFor};
 ghost use Rattle.catalogue_editions.specs.Matching.{match as edition_match};
-ghost use Rattle.catalogue_core.specs.Plans.{IsPlanned};
+ghost use Rattle.catalogue_core.specs.Plans.{IsPlannedOn};
 ghost use Rattle.catalogue_core.specs.Reaches.{IsReachOf};
 
-use crate::history_entry::HistoryEntry;
+use crate::context::Context;
 use crate::plan::Plan;
 use crate::planning::plan_op;
-use catalogue_editions::batch::Batch;
-use catalogue_editions::edition::Edition;
 use catalogue_editions::outcome::Outcome;
 use merge_laws::steps::Steps;
 use record_homes::place::Place;
-use record_homes::table::HomeTable;
 use std::alloc::Global;
 use std::collections::BTreeMap;
 use std::sync::ledger::Ledger;
-use swoosh_resolver::blocks::Blocks;
 use union_base::memory::Memory;
 use union_base::record_id::RecordId;
 
-/// The plan of a turn of this batch, for a catalogue with that history, those homes and those blocks, and what came of each of
-/// its operations. Counts the match tests. Returns `Memory` if allocation fails.
+/// The plan of the turn, and what came of each of the batch's operations. Counts the match tests. Returns `Memory` if allocation fails.
 pub fn planned<L: Ledger>(
     alloc: Global,
-    history: &[HistoryEntry],
-    homes: &HomeTable,
-    blocks: &Blocks<Edition>,
-    batch: &Batch,
+    context: &Context<'_>,
     steps: &mut Steps<L>,
 ) -> Result<(Plan, Vec<Outcome>), Memory>
-    requires current { StandFor (batches history.now) (places_in homes.now.entries) (current history.now) }
-    requires resolved { IsResolution edition_match join (bases history.now) (values_of (blocks_in blocks.now.blocks)) }
-    requires housed { AreHoused blocks.now.blocks homes.now.entries }
-    ensures planned { IfOk result (λ turn. IsPlanned (batches history.now ++ batch.now ∷ []) homes.now.entries
-        blocks.now.blocks (after_batch (current history.now) batch.now) turn.0.change.closed.items
-        turn.0.change.opened.items turn.0.touched.entries) }
-    ensures outcomes { IfOk result (λ turn. turn.1.items ≡ outcomes batch.now.library (current history.now) batch.now.ops) }
-    ensures cost { (number : ℕ) → IsReachOf batch.now.library (current history.now) batch.now.ops number
+    requires current { StandFor (batches context.now.history.now) (places_in context.now.homes.now.entries) (current context.now.history.now) }
+    requires resolved { IsResolution edition_match join (bases context.now.history.now) (values_of (blocks_in context.now.blocks.now.blocks)) }
+    requires housed { AreHoused context.now.blocks.now.blocks context.now.homes.now.entries }
+    ensures planned { IfOk result (λ turn. IsPlannedOn context.now (after_batch (current context.now.history.now) context.now.batch.now) turn.0) }
+    ensures outcomes { IfOk result (λ turn. turn.1.items ≡ outcomes context.now.batch.now.library (current context.now.history.now) context.now.batch.now.ops) }
+    ensures cost { (number : ℕ) → IsReachOf context.now.batch.now.library (current context.now.history.now) context.now.batch.now.ops number
         → steps.new ≤ steps.old + number }
 {
-    let ops = batch.ops.as_slice();
+    let ops = context.batch.ops.as_slice();
     let mut outcomes = Vec::with_capacity(alloc, ops.len())?;
     let mut plan = Plan {
-        change: blocks.start(),
+        change: context.blocks.start(),
         touched: BTreeMap::new(alloc),
     };
-    let turn = history.len();
+    let turn = context.history.len();
     for (i, op) in ops.iter().enumerate() {
         let place = Place { turn, op: i };
-        let (next, outcome) = plan_op(
-            alloc, history, homes, blocks, batch, plan, place, op, steps,
-        )?;
+        let (next, outcome) = plan_op(alloc, context, plan, place, op, steps)?;
         plan = next;
         outcomes.push(outcome)?;
     }

@@ -7,4 +7,4 @@ use Rattle.catalogue_core.proofs.parts_planning.touch_all.Given as goal
 -- what was touched follows the operations so far
 abbrev pub invariant-loop-i : goal.invariant-loop-i
 invariant-loop-i l =
-    TouchesOn (batches l.history ++ l.batch ∷ []) l.homes.entries l.batch.library l.batch.ops (current l.history) l.touched.entries l.outcomes.items l.i
+    TouchesOn (batches l.context.history.now ++ l.context.batch.now ∷ []) l.context.homes.now.entries l.context.batch.now.library l.context.batch.now.ops (current l.context.history.now) l.touched.entries l.outcomes.items l.i

@@ -8,9 +8,9 @@ use Rattle.catalogue_core.proofs.parts_planning.without_named.Goals as goal
 
 pub loop-op-init : goal.loop-op-init
 loop-op-init g c =
-    leaves-begin (batches c.args.history.now ++ c.args.batch.now ∷ []) c.args.homes.now.entries c.args.blocks.now.blocks c.args.batch.now.library c.args.batch.now.ops (current c.args.history.now)
+    leaves-begin (batches c.args.context.now.history.now ++ c.args.context.now.batch.now ∷ []) c.args.context.now.homes.now.entries c.args.context.now.blocks.now.blocks c.args.context.now.batch.now.library c.args.context.now.batch.now.ops (current c.args.context.now.history.now)
     c.start.result.closed.items c.start.result.opened.items c.new.result.entries c.args.steps.now
-    (plan-begins c.args.history.now c.args.batch.now c.args.homes.now.entries c.args.blocks.now.blocks c.start.result.closed.items c.start.result.opened.items c.new.result.entries
+    (plan-begins c.args.context.now.history.now c.args.context.now.batch.now c.args.context.now.homes.now.entries c.args.context.now.blocks.now.blocks c.start.result.closed.items c.start.result.opened.items c.new.result.entries
     c.start.ensures.closed c.start.ensures.opened c.new.ensures.empty c.requires.current c.requires.resolved c.start.ensures.fits)
 
 pub returns-in_err-plan-clause-cost : goal.returns-in_err-plan-clause-cost

@@ -9,7 +9,7 @@ use Rattle.catalogue_core.proofs.planning.bases_beside.Goals.{in-Some+in_ok-copi
 
 pub loop-id-preserved : goal.loop-id-preserved
 loop-id-preserved c =
-    let base = base_beside (batches c.args.history.now ++ c.args.batch.now ∷ []) c.args.homes.now.entries c.args.touched.now.entries c.args.gone.now in
+    let base = base_beside (batches c.args.context.now.history.now ++ c.args.context.now.batch.now ∷ []) c.args.context.now.homes.now.entries c.args.touched.now.entries c.args.gone.now in
     elim c.match-base_beside.branch [
       | in-Some+in_ok-copied+in_ok-push w ↦
           mapped-next base c.args.ids.now c.loop-id.id-index c.id-item.result c.loop-id-test.true c.id-item.is c.loop-id.bases.items c.match-base_beside.bases.items c.loop-id.invariant

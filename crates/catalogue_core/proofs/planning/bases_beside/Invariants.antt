@@ -6,4 +6,4 @@ use Rattle.catalogue_core.proofs.planning.bases_beside.Given as goal
 
 abbrev pub invariant-loop-id : goal.invariant-loop-id
 invariant-loop-id l =
-    l.bases.items ≡ filter_map (base_beside (batches l.history ++ l.batch ∷ []) l.homes.entries l.touched.entries l.gone) (take l.id-index l.ids)
+    l.bases.items ≡ filter_map (base_beside (batches l.context.history.now ++ l.context.batch.now ∷ []) l.context.homes.now.entries l.touched.entries l.gone) (take l.id-index l.ids)

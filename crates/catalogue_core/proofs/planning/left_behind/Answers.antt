@@ -23,6 +23,6 @@ returns c =
       stands = stands;
       bears = bears;
       are = c.in_ok-left.ensures
-          ∙ ap (filter_map (base_beside (batches c.args.history.now ++ c.args.batch.now ∷ []) c.args.homes.now.entries c.args.plan.now.touched.entries c.args.id.now))
+          ∙ ap (filter_map (base_beside (batches c.args.context.now.history.now ++ c.args.context.now.batch.now ∷ []) c.args.context.now.homes.now.entries c.args.plan.now.touched.entries c.args.id.now))
           (c.as_slice-ids.ensures.value ∙ ap (λ (x : Content). x.contributors) c.content.ensures ∙ ap (λ (x : Edition). x.content.contributors) same);
     }

@@ -7,22 +7,22 @@ use Rattle.catalogue_core.proofs.turn.planned.Goals as goal
 
 pub loop-i-init : goal.loop-i-init
 loop-i-init g c =
-    plans-begin (batches c.args.history.now ++ c.args.batch.now ∷ []) c.args.homes.now.entries c.args.blocks.now.blocks c.args.batch.now.library c.args.batch.now.ops (current c.args.history.now)
+    plans-begin (batches c.args.context.now.history.now ++ c.args.context.now.batch.now ∷ []) c.args.context.now.homes.now.entries c.args.context.now.blocks.now.blocks c.args.context.now.batch.now.library c.args.context.now.batch.now.ops (current c.args.context.now.history.now)
     c.start.result.closed.items c.start.result.opened.items c.new.result.entries c.in_ok-outcomes.outcomes.items c.args.steps.now
-    (plan-begins c.args.history.now c.args.batch.now c.args.homes.now.entries c.args.blocks.now.blocks c.start.result.closed.items c.start.result.opened.items c.new.result.entries
+    (plan-begins c.args.context.now.history.now c.args.context.now.batch.now c.args.context.now.homes.now.entries c.args.context.now.blocks.now.blocks c.start.result.closed.items c.start.result.opened.items c.new.result.entries
     c.start.ensures.closed c.start.ensures.opened c.new.ensures.empty c.requires.current c.requires.resolved c.start.ensures.fits)
     c.in_ok-outcomes.ensures.items
 
 pub plan_op-requires-clause-own : goal.plan_op-requires-clause-own
 plan_op-requires-clause-own g c =
     let op = c.index-ops-i.result in
-    op-own c.args.batch.now c.loop-i.i op (subst (λ (xs : List Op). c.loop-i.i < length xs) c.as_slice-ops.ensures c.loop-i-test.true)
+    op-own c.args.context.now.batch.now c.loop-i.i op (subst (λ (xs : List Op). c.loop-i.i < length xs) c.as_slice-ops.ensures c.loop-i-test.true)
     (subst (λ (xs : List Op). op ≡ get_or xs c.loop-i.i op) c.as_slice-ops.ensures c.index-ops-i.is)
 
 pub plan_op-requires-clause-loads : goal.plan_op-requires-clause-loads
 plan_op-requires-clause-loads g c =
     let op = c.index-ops-i.result in
-    op-loads c.args.history.now c.args.batch.now c.loop-i.i op (length c.args.history.now) refl (subst (λ (xs : List Op). c.loop-i.i < length xs) c.as_slice-ops.ensures c.loop-i-test.true)
+    op-loads c.args.context.now.history.now c.args.context.now.batch.now c.loop-i.i op (length c.args.context.now.history.now) refl (subst (λ (xs : List Op). c.loop-i.i < length xs) c.as_slice-ops.ensures c.loop-i-test.true)
     (subst (λ (xs : List Op). op ≡ get_or xs c.loop-i.i op) c.as_slice-ops.ensures c.index-ops-i.is)
 
 pub returns-in_err-push-clause-cost : goal.returns-in_err-push-clause-cost

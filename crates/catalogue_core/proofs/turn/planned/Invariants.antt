@@ -7,5 +7,5 @@ use Rattle.catalogue_core.proofs.turn.planned.Given as goal
 
 abbrev pub invariant-loop-i : goal.invariant-loop-i
 invariant-loop-i g l =
-    PlansOn (batches l.history ++ l.batch ∷ []) l.homes.entries l.blocks.blocks l.batch.library l.batch.ops (current l.history) l.plan.change.closed.items l.plan.change.opened.items l.plan.touched.entries
+    PlansOn (batches l.context.history.now ++ l.context.batch.now ∷ []) l.context.homes.now.entries l.context.blocks.now.blocks l.context.batch.now.library l.context.batch.now.ops (current l.context.history.now) l.plan.change.closed.items l.plan.change.opened.items l.plan.touched.entries
     l.outcomes.items l.i l.initial.steps l.steps
