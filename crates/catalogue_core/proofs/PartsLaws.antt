@@ -11,7 +11,13 @@ use Rattle.catalogue_editions.specs.Joining.{join}
 use Rattle.catalogue_editions.specs.JoinLaws.{edition_join_laws}
 use Rattle.catalogue_editions.specs.Matching.{match, share}
 use Rattle.catalogue_editions.specs.MatchLaws.{edition_match_laws}
-use Rattle.catalogue_core.specs.PreparedReaches.{IsReachOfComing}
+use Rattle.catalogue_editions.specs.Net.{net}
+use Rattle.catalogue_editions.specs.Resolutions.{IsOrderedResolution}
+use Rattle.catalogue_editions.specs.declared.batch.Batch.{Batch}
+use Rattle.catalogue_editions.proofs.Apart.{one-ordered}
+use Rattle.catalogue_core.specs.Histories.{current}
+use Rattle.catalogue_core.specs.PreparedReaches.{IsReachOfComing, IsReachOfParts}
+use Rattle.catalogue_core.specs.declared.history_entry.HistoryEntry.{HistoryEntry}
 use Rattle.catalogue_core.specs.Reaches.{IsReachOfInsertion}
 use Rattle.catalogue_editions.specs.declared.edition.Edition.{Edition}
 use Rattle.catalogue_core.proofs.PlanLaws.{resolved-by_members}
@@ -95,3 +101,14 @@ module _ {start parts view done rest : List Edition} {begun steps : ℕ} (g : Co
 
     pub comes-paid_all : (list : List Edition) (number : ℕ) → IsResolution match join list start → IsReachOfComing list parts number → steps ≤ begun + number
     comes-paid_all list number one r = let (left, coming, le) = g.paid list number one r in omega arith
+
+-- a reach of the parts of a batch, in whichever form the batch, its parts and the history are kept
+pub one-reach : (prepared batch : Batch) (kept parts : List Edition) (history inside : List HistoryEntry) (number : ℕ) → batch ≡ prepared → inside ≡ history
+    → IsOrderedResolution (net prepared) kept → IsOrderedResolution (net prepared) parts → IsReachOfParts prepared.library (current history) prepared.ops parts number
+    → IsReachOfParts batch.library (current inside) batch.ops kept number
+one-reach prepared batch kept parts history inside number same stood is other r =
+    let mine : IsReachOfParts prepared.library (current history) prepared.ops kept number =
+    subst (λ ps. IsReachOfParts prepared.library (current history) prepared.ops ps number) (one-ordered (net prepared) parts kept other is) r in
+    let there : IsReachOfParts prepared.library (current inside) prepared.ops kept number =
+    subst (λ hs. IsReachOfParts prepared.library (current hs) prepared.ops kept number) (sym stood) mine in
+    subst (λ (b : Batch). IsReachOfParts b.library (current inside) b.ops kept number) (sym same) there

@@ -18,8 +18,8 @@ use Rattle.catalogue_core.specs.Keeping.{batches, loaded_at}
 use Rattle.catalogue_editions.specs.Matching.{match}
 use Rattle.catalogue_editions.specs.declared.batch.Batch.{Batch}
 use Rattle.catalogue_editions.specs.declared.edition.Edition.{Edition}
-use Rattle.catalogue_core.specs.declared.context.Context.{Context}
-use Rattle.catalogue_core.specs.declared.plan.Plan.{Plan}
+use Rattle.catalogue_core.specs.declared.turn.context.Context.{Context}
+use Rattle.catalogue_core.specs.declared.turn.plan.Plan.{Plan}
 use Rattle.record_homes.specs.declared.home.Home.{Home}
 use Rattle.record_homes.specs.declared.place.Place.{Place}
 

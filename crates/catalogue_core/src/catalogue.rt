@@ -26,15 +26,15 @@ ghost use Rattle.catalogue_core.specs.Reaches.{IsReachOf};
 ghost use Rattle.catalogue_editions.specs.Resolutions.{IsOrderedResolution};
 ghost use Rattle.catalogue_core.specs.Walks.{holder_of};
 
-use crate::by_key;
-use crate::context::Context;
 use crate::grouping::{Grouping, NamedWorks, grouped};
 use crate::history_entry::HistoryEntry;
-use crate::installing::install;
 use crate::keeping::loaded_at;
-use crate::parts_turn::apply_parts;
-use crate::turn::planned;
-use crate::walk::in_order;
+use crate::turn::context::Context;
+use crate::turn::installing::install;
+use crate::turn::one_by_one::planned;
+use crate::turn::prepared::planned_parts;
+use crate::walk::by_key;
+use crate::walk::in_order::in_order;
 use authority_names::name_table::NameTable;
 use catalogue_editions::batch::Batch;
 use catalogue_editions::edition::Edition;
@@ -229,17 +229,27 @@ impl Catalogue {
             → IsReachOfParts prepared.library (current self.old.history) prepared.ops parts reach → steps.new ≤ steps.old + reach }
     {
         let (batch, parts) = prepared.into_parts();
-        apply_parts(
+        let context = Context {
+            history: &self.history,
+            homes: &self.homes,
+            blocks: &self.blocks,
+            batch: &batch,
+        };
+        let (plan, found) = planned_parts(alloc, &context, parts, steps)?;
+        let entry = HistoryEntry {
+            pass: number,
+            batch,
+        };
+        install(
             alloc,
             &mut self.history,
             &mut self.homes,
             &mut self.blocks,
             &mut self.works,
-            number,
-            batch,
-            parts,
-            steps,
-        )
+            entry,
+            plan,
+        )?;
+        Ok(found)
     }
 
     /// The editions in order of their least contributors. They are kept in no order, and sorted at each call.

@@ -16,20 +16,12 @@ pub use catalogue_editions::{
 };
 pub use edition_blocks::delta;
 
-mod by_key;
 pub mod catalogue;
-mod context;
 pub mod grouping;
 pub mod history_entry;
-mod homes;
-mod installing;
 mod keeping;
 pub mod laws;
 pub mod parts_laws;
-mod parts_planning;
-mod parts_turn;
-mod plan;
-mod planning;
 pub mod reach_laws;
 mod turn;
 mod walk;

@@ -1,7 +1,7 @@
 //! What holds where the records are in parts that are known apart, as on several machines. Each function here does nothing
 //! when it runs: its contract is the law.
 //!
-//! The parts of a batch, of which `parts_turn` speaks, are something else.
+//! The parts of a batch, of which `turn::prepared` speaks, are something else.
 ghost use Rattle.std.specs.Prelude.{◌≡◌, ◌↔◌, false, List};
 ghost use Rattle.catalogue_editions.specs.Matching.{match as edition_match};
 ghost use Rattle.catalogue_editions.specs.Resolutions.{IsOrderedResolution};

@@ -1,0 +1,29 @@
+use Rattle.std.proofs.Common.{◌≡◌, ◌<◌, ◌++◌, ◌∷◌, [], List, length, get_or, subst}
+use Rattle.catalogue_core.specs.Histories.{current}
+use Rattle.catalogue_core.specs.Keeping.{batches}
+use Rattle.catalogue_editions.specs.declared.op.Op.{Op}
+use Rattle.catalogue_core.proofs.LeavingLaws.{leaves-begin, leaves-paid, leaves-next}
+use Rattle.catalogue_core.proofs.TurnLaws.{plan-begins}
+use Rattle.catalogue_core.proofs.turn.prepared.without_named.Goals as goal
+
+pub loop-op-init : goal.loop-op-init
+loop-op-init g c =
+    leaves-begin (batches c.args.context.now.history.now ++ c.args.context.now.batch.now ∷ []) c.args.context.now.homes.now.entries c.args.context.now.blocks.now.blocks c.args.context.now.batch.now.library c.args.context.now.batch.now.ops (current c.args.context.now.history.now)
+    c.start.result.closed.items c.start.result.opened.items c.new.result.entries c.args.steps.now
+    (plan-begins c.args.context.now.history.now c.args.context.now.batch.now c.args.context.now.homes.now.entries c.args.context.now.blocks.now.blocks c.start.result.closed.items c.start.result.opened.items c.new.result.entries
+    c.start.ensures.closed c.start.ensures.opened c.new.ensures.empty c.requires.current c.requires.resolved c.start.ensures.fits)
+
+pub returns-in_err-plan-clause-cost : goal.returns-in_err-plan-clause-cost
+returns-in_err-plan-clause-cost g c =
+    let op = c.op-item.result in
+    leaves-paid c.loop-op.invariant op c.in_ok-id.id c.in_ok-id.ensures (subst (λ (xs : List Op). c.loop-op.op-index < length xs) c.as_slice-ops.ensures c.loop-op-test.true)
+    (subst (λ (xs : List Op). op ≡ get_or xs c.loop-op.op-index op) c.as_slice-ops.ensures c.op-item.is) c.withdraw_current.new.steps
+    c.withdraw_current.ensures.free c.withdraw_current.ensures.cost
+
+pub loop-op-preserved : goal.loop-op-preserved
+loop-op-preserved g c =
+    let op = c.op-item.result in
+    let next = c.in_ok-plan.plan in
+    leaves-next c.loop-op.invariant op c.in_ok-id.id c.in_ok-id.ensures (subst (λ (xs : List Op). c.loop-op.op-index < length xs) c.as_slice-ops.ensures c.loop-op-test.true)
+    (subst (λ (xs : List Op). op ≡ get_or xs c.loop-op.op-index op) c.as_slice-ops.ensures c.op-item.is) c.withdraw_current.new.steps
+    c.withdraw_current.ensures.free c.withdraw_current.ensures.cost next.change.closed.items next.change.opened.items next.touched.entries c.in_ok-plan.ensures.planned

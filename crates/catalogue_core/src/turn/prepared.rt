@@ -1,0 +1,219 @@
+//! The plan of a turn whose loads are resolved among themselves already: the records that the batch names are withdrawn, and then
+//! what its loads come to is inserted, a part at a time.
+ghost use Rattle.std.specs.Prelude.{◌≡◌, ◌≤◌, ◌+◌, ◌++◌, ◌∷◌, [], ℕ, List, true, false, IfOk, OnOk};
+ghost use Rattle.std.specs.BTreeMap.{is_at};
+ghost use Rattle.std.specs.Map.{remove_entry, values_of};
+ghost use Rattle.field_merge.specs.Kept.{id_cmp};
+ghost use Rattle.merge_laws.specs.Resolution.{IsResolution};
+ghost use Rattle.swoosh_resolver.specs.Changes.{Fits, view_of};
+ghost use Rattle.swoosh_resolver.specs.Tables.{blocks_in, values_of as values_of_blocks};
+ghost use Rattle.catalogue_editions.specs.Batches.{is_own_op};
+ghost use Rattle.catalogue_core.specs.Histories.{MapOf, id_of, is_current, after_op, outcome_of, outcomes, after_batch, bases, current};
+ghost use Rattle.catalogue_core.specs.Homes.{AreHoused, places_in};
+ghost use Rattle.catalogue_editions.specs.Joining.{join};
+ghost use Rattle.catalogue_core.specs.Keeping.{batches, loaded, loaded_at, StandFor};
+ghost use Rattle.catalogue_editions.specs.Matching.{match as edition_match};
+ghost use Rattle.catalogue_editions.specs.Net.{net};
+ghost use Rattle.catalogue_core.specs.Plans.{batches_with, IsPlannedOn};
+ghost use Rattle.catalogue_core.specs.PreparedReaches.{without_all, IsReachOfLeaving, IsReachOfComing, IsReachOfParts};
+ghost use Rattle.catalogue_core.specs.Reaches.{IsReachOfWithdrawal};
+ghost use Rattle.catalogue_core.specs.Touches.{IsTouched};
+ghost use Rattle.catalogue_editions.specs.declared.edition.Edition.{Edition as EditionModel};
+ghost use Rattle.catalogue_editions.specs.declared.batch.Batch.{Batch as BatchModel};
+
+use crate::turn::context::Context;
+use crate::turn::plan::Plan;
+use crate::turn::steps::{place_of, withdraw};
+use catalogue_editions::edition::Edition;
+use catalogue_editions::op::Op;
+use catalogue_editions::outcome::Outcome;
+use merge_laws::steps::Steps;
+use record_homes::place::Place;
+use record_homes::table::HomeTable;
+use std::alloc::Global;
+use std::collections::BTreeMap;
+use std::sync::ledger::Ledger;
+use swoosh_resolver::blocks::Blocks;
+use swoosh_resolver::change::Change;
+use union_base::copied::Copied;
+use union_base::library_code::LibraryCode;
+use union_base::memory::Memory;
+use union_base::record_id::RecordId;
+
+/// The id of the library's record that the operation loads or withdraws. Returns `Memory` if allocation fails.
+fn named(alloc: Global, library: &LibraryCode, op: &Op) -> Result<RecordId, Memory>
+    ensures { IfOk result (λ id. id ≡ id_of library.now op.now) }
+{
+    match op {
+        Op::Load(edition) => edition.least().copied(alloc),
+        Op::Withdraw(control) => Ok(RecordId {
+            library: *library,
+            control: control.copied(alloc)?,
+        }),
+    }
+}
+
+/// The plan without the record of that id, where it is current by it. Counts the match tests. Returns `Memory` if allocation fails.
+fn withdraw_current<L: Ledger>(
+    alloc: Global,
+    context: &Context<'_>,
+    plan: Plan,
+    id: &RecordId,
+    steps: &mut Steps<L>,
+) -> Result<Plan, Memory>
+    requires housed { AreHoused context.now.blocks.now.blocks context.now.homes.now.entries }
+    requires planned { (all : MapOf EditionModel) × IsPlannedOn context.now all plan }
+    ensures planned { IfOk result (λ next. (all : MapOf EditionModel) → IsPlannedOn context.now all plan
+        → IsPlannedOn context.now (remove_entry (is_at (id_cmp id.now)) all) next) }
+    ensures free { (all : MapOf EditionModel) → IsPlannedOn context.now all plan
+        → is_current all id.now ≡ false → steps.new ≤ steps.old }
+    ensures cost { (all : MapOf EditionModel) (number : ℕ) → IsPlannedOn context.now all plan
+        → is_current all id.now ≡ true → IsReachOfWithdrawal (values_of all) id.now number → steps.new ≤ steps.old + number }
+{
+    match place_of(context.homes, &plan.touched, id) {
+        Some(_) => withdraw(alloc, context, plan, id, steps),
+        None => Ok(plan),
+    }
+}
+
+/// The change with the parts inserted, one after the other. Counts the match tests. Returns `Memory` if allocation fails.
+fn insert_parts<L: Ledger>(
+    alloc: Global,
+    blocks: &Blocks<Edition>,
+    change: Change<Edition>,
+    parts: Vec<Edition>,
+    steps: &mut Steps<L>,
+) -> Result<Change<Edition>, Memory>
+    requires { Fits edition_match blocks.now.blocks change.closed.items change.opened.items }
+    ensures fits { IfOk result (λ new. Fits edition_match blocks.now.blocks new.closed.items new.opened.items) }
+    ensures resolved { IfOk result (λ new. IsResolution edition_match join
+        (view_of blocks.now.blocks change.closed.items change.opened.items ++ parts.items)
+        (view_of blocks.now.blocks new.closed.items new.opened.items)) }
+    ensures cost { (list : List EditionModel) (number : ℕ)
+        → IsResolution edition_match join list (view_of blocks.now.blocks change.closed.items change.opened.items)
+        → IsReachOfComing list parts.items number → steps.new ≤ steps.old + number }
+{
+    let mut change = change;
+    for part in parts {
+        change = blocks.plan_insert(alloc, change, part, steps)?;
+    }
+    Ok(change)
+}
+
+/// A plan of the turn of this batch, by which the records that the batch names are no longer current. Counts the match tests.
+/// Returns `Memory` if allocation fails.
+fn without_named<L: Ledger>(
+    alloc: Global,
+    context: &Context<'_>,
+    steps: &mut Steps<L>,
+) -> Result<Plan, Memory>
+    requires current { StandFor (batches context.now.history.now) (places_in context.now.homes.now.entries) (current context.now.history.now) }
+    requires resolved { IsResolution edition_match join (bases context.now.history.now) (values_of_blocks (blocks_in context.now.blocks.now.blocks)) }
+    requires housed { AreHoused context.now.blocks.now.blocks context.now.homes.now.entries }
+    ensures planned { IfOk result (λ plan. IsPlannedOn context.now (without_all context.now.batch.now.library (current context.now.history.now) context.now.batch.now.ops) plan) }
+    ensures cost { (number : ℕ) → IsReachOfLeaving context.now.batch.now.library (current context.now.history.now) context.now.batch.now.ops number
+        → steps.new ≤ steps.old + number }
+{
+    let ops = context.batch.ops.as_slice();
+    let mut plan = Plan {
+        change: context.blocks.start(),
+        touched: BTreeMap::new(alloc),
+    };
+    for op in ops {
+        let id = named(alloc, &context.batch.library, op)?;
+        plan = withdraw_current(alloc, context, plan, &id, steps)?;
+    }
+    Ok(plan)
+}
+
+/// Lets what a turn touched follow an operation of its batch, which stands at that place, and answers what came of it. Memory
+/// where it runs out.
+fn touch_op(
+    alloc: Global,
+    homes: &HomeTable,
+    touched: &mut BTreeMap<RecordId, Option<Place>>,
+    library: &LibraryCode,
+    place: Place,
+    op: &Op,
+) -> Result<Outcome, Memory>
+    requires own { is_own_op library.now op.now ≡ true }
+    ensures touched { OnOk result ((all : List BatchModel) (editions : MapOf EditionModel) → loaded_at all place ≡ loaded op.now
+        → IsTouched all homes.now.entries editions touched.old.entries
+        → IsTouched all homes.now.entries (after_op library.now editions op.now) touched.new.entries) }
+    ensures outcome { IfOk result (λ found. (all : List BatchModel) (editions : MapOf EditionModel)
+        → IsTouched all homes.now.entries editions touched.old.entries → found ≡ outcome_of library.now editions op.now) }
+{
+    let id = named(alloc, library, op)?;
+    let is_current = place_of(homes, touched, &id).is_some();
+    match op {
+        Op::Load(_) => {
+            touched.insert(id, Some(place))?;
+            Ok(if is_current {
+                Outcome::Replaced
+            } else {
+                Outcome::Added
+            })
+        }
+        Op::Withdraw(_) => {
+            touched.insert(id, None)?;
+            Ok(if is_current {
+                Outcome::Removed
+            } else {
+                Outcome::Absent
+            })
+        }
+    }
+}
+
+/// Where the records are found that the batch, as the next turn, loads or withdraws, and what came of each of its operations.
+/// Returns `Memory` if allocation fails.
+fn touch_all(
+    alloc: Global,
+    context: &Context<'_>,
+) -> Result<(BTreeMap<RecordId, Option<Place>>, Vec<Outcome>), Memory>
+    requires { StandFor (batches context.now.history.now) (places_in context.now.homes.now.entries) (current context.now.history.now) }
+    ensures touched { IfOk result (λ turn. IsTouched (batches_with context.now) context.now.homes.now.entries
+        (after_batch (current context.now.history.now) context.now.batch.now) turn.0.entries) }
+    ensures outcomes { IfOk result (λ turn. turn.1.items ≡ outcomes context.now.batch.now.library (current context.now.history.now) context.now.batch.now.ops) }
+{
+    let ops = context.batch.ops.as_slice();
+    let mut outcomes = Vec::with_capacity(alloc, ops.len())?;
+    let mut touched = BTreeMap::new(alloc);
+    let turn = context.history.len();
+    for (i, op) in ops.iter().enumerate() {
+        let place = Place { turn, op: i };
+        let outcome = touch_op(
+            alloc,
+            context.homes,
+            &mut touched,
+            &context.batch.library,
+            place,
+            op,
+        )?;
+        outcomes.push(outcome)?;
+    }
+    Ok((touched, outcomes))
+}
+
+/// The plan of the turn, where the batch's loads come to these parts; and what came of each of the batch's operations. Counts the match tests. Returns `Memory` if allocation fails.
+pub fn planned_parts<L: Ledger>(
+    alloc: Global,
+    context: &Context<'_>,
+    parts: Vec<Edition>,
+    steps: &mut Steps<L>,
+) -> Result<(Plan, Vec<Outcome>), Memory>
+    requires current { StandFor (batches context.now.history.now) (places_in context.now.homes.now.entries) (current context.now.history.now) }
+    requires resolved { IsResolution edition_match join (bases context.now.history.now) (values_of_blocks (blocks_in context.now.blocks.now.blocks)) }
+    requires housed { AreHoused context.now.blocks.now.blocks context.now.homes.now.entries }
+    requires parts { IsResolution edition_match join (net context.now.batch.now) parts.items }
+    ensures planned { IfOk result (λ turn. IsPlannedOn context.now (after_batch (current context.now.history.now) context.now.batch.now) turn.0) }
+    ensures outcomes { IfOk result (λ turn. turn.1.items ≡ outcomes context.now.batch.now.library (current context.now.history.now) context.now.batch.now.ops) }
+    ensures cost { (number : ℕ)
+        → IsReachOfParts context.now.batch.now.library (current context.now.history.now) context.now.batch.now.ops parts.items number
+        → steps.new ≤ steps.old + number }
+{
+    let (touched, outcomes) = touch_all(alloc, context)?;
+    let Plan { change, touched: _ } = without_named(alloc, context, steps)?;
+    let change = insert_parts(alloc, context.blocks, change, parts, steps)?;
+    Ok((Plan { change, touched }, outcomes))
+}
