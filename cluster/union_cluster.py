@@ -471,8 +471,14 @@ def run(plan, out, notes, progress=False):
     return 1 if some else 0
 
 
+def program(name, crate):
+    """The program's path: beside this file, where a package has put both, or else where the repository builds it."""
+    here = os.path.dirname(os.path.realpath(__file__))
+    beside = os.path.join(here, name)
+    return beside if os.path.exists(beside) else f"{here}/../crates/{crate}/out/{crate}"
+
+
 def words_of(arguments):
-    here = os.path.dirname(os.path.abspath(__file__))
     parser = argparse.ArgumentParser(prog="union-cluster", description="union export on a cluster of workers: see docs/CLUSTER.md")
     parser.add_argument("--scheduler", help="the address of a Dask scheduler; without it, workers are started on this machine")
     parser.add_argument("--workers", type=int, default=os.cpu_count(), help="how many workers are started on this machine")
@@ -484,8 +490,8 @@ def words_of(arguments):
     parser.add_argument("--victim", default="", help=argparse.SUPPRESS)
     parser.add_argument("--scratch", help="a folder that all workers see, for files that are gone at the end")
     parser.add_argument("--prefer", help="as of union export")
-    parser.add_argument("--union", default=f"{here}/../crates/union_main/out/union_main", help="the program union")
-    parser.add_argument("--keys", default=f"{here}/../crates/union_keys_main/out/union_keys_main", help="the program union-keys")
+    parser.add_argument("--union", default=program("union", "union_main"), help="the program union")
+    parser.add_argument("--keys", default=program("union-keys", "union_keys_main"), help="the program union-keys")
     parser.add_argument("--progress", action="store_true", help="tell the progress on standard error")
     parser.add_argument("libraries", nargs="+", metavar="LIB=PATH")
     return parser.parse_args(arguments)
