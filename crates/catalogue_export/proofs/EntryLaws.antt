@@ -1,8 +1,8 @@
 -- The rules on numbers of fields, by the fields.
-use Rattle.std.proofs.Common.{◌≡◌, ℕ, suc, ◌+◌, ◌-◌, ◌≤◌, Bool, true, false, not, ◌&&◌, ◌||◌, List, [], ◌∷◌, ◌++◌, length, length-append, get_or, append_assoc, refl, sym, ◌∙◌, ap, subst, arith, inl, inr, None, Some}
+use Rattle.std.proofs.Common.{◌≡◌, ℕ, suc, ◌+◌, ◌-◌, ◌≤◌, Bool, true, false, not, ◌||◌, List, [], ◌∷◌, ◌++◌, length, length-append, get_or, append_assoc, refl, sym, ◌∙◌, ap, subst, arith, None, Some}
 use Rattle.std.proofs.Math.Seq.{get_or-append_seam}
-use Rattle.std.proofs.lemmas.Bool.{and_parts, and_from, not-true, cases_eq, eq-eqb}
-use Rattle.std.specs.List.{list_all}
+use Rattle.std.proofs.lemmas.Bool.{and_parts, and_from, not-true, eq-eqb}
+use Rattle.std.specs.List.{list_all, list_any}
 use Rattle.std.specs.Prelude.{◌==◌}
 use Rattle.marc_leader.specs.declared.entry.Entry.{Entry}
 use Rattle.union_base.specs.Fields.{spelled as body_bytes}
@@ -11,8 +11,9 @@ use Rattle.marc_fields.specs.Rules.{text_of}
 use Rattle.marc_fields.specs.Spelling.{AreEntriesOf}
 use Rattle.marc_fields.specs.declared.rules.Rule.TheVariants.{ControlNumber}
 use Rattle.marc_fields.proofs.NoFailure.{text-spelled}
-use Rattle.marc_rules.specs.RequiredFields.{is_same, places, once, no_entry, text_at, is_control_number, tag_001, tag_008, tag_245, control_number_place, fixed_008_place, title_245_place, class_of, has_class, repeated_from, number_failure}
-use Rattle.marc_rules.proofs.RequiredLaws.{no_class, new_class, number_failure-control}
+use Rattle.marc_rules.specs.RequiredFields.{is_same, places, once, no_entry, text_at, is_control_number, tag_001, tag_008, tag_245, control_number_place, fixed_008_place, title_245_place, repeats, repeated_from, number_failure}
+use Rattle.marc_rules.proofs.RequiredLaws.{number_failure-control}
+use Rattle.catalogue_export.proofs.ClassNumbers.{class_number, fresh-class}
 use Rattle.catalogue_export.proofs.CountLaws.{one_if, counted, counted-append, uncounted}
 
 -- the field has that tag
@@ -101,28 +102,28 @@ all_pass (i ∷ ps) = all_pass ps
 
 -- as many entries as fields have a class
 class-count : (k : ℕ) (bytes : List ℕ) (entries : List Entry) (fields : List Field) → AreEntriesOf bytes entries fields
-    → counted (λ (e : Entry). class_of e.tag == k) entries ≡ counted (λ (f : Field). class_of f.tag == k) fields
+    → counted (λ (e : Entry). class_number e.tag == k) entries ≡ counted (λ (f : Field). class_number f.tag == k) fields
 class-count k bytes [] [] are = refl
 class-count k bytes [] (f ∷ fields) are = absurd are
 class-count k bytes (e ∷ entries) [] are = absurd are
 class-count k bytes (e ∷ entries) (f ∷ fields) are =
-    ap (λ t. one_if (class_of t == k) + counted (λ (d : Entry). class_of d.tag == k) entries) are.0.tag
-    ∙ ap (λ n. one_if (class_of f.tag == k) + n) (class-count k bytes entries fields are.1)
+    ap (λ t. one_if (class_number t == k) + counted (λ (d : Entry). class_number d.tag == k) entries) are.0.tag
+    ∙ ap (λ n. one_if (class_number f.tag == k) + n) (class-count k bytes entries fields are.1)
 
 -- where no class is had twice, none is repeated
 repeated-none : (earlier : List Entry) (i : ℕ) (entries : List Entry)
-    → ((k : ℕ) → (k ≡ 0 → ⊥) → counted (λ (e : Entry). class_of e.tag == k) (earlier ++ entries) ≤ 1)
+    → ((k : ℕ) → (k ≡ 0 → ⊥) → counted (λ (e : Entry). class_number e.tag == k) (earlier ++ entries) ≤ 1)
     → repeated_from earlier i entries ≡ None
 repeated-none earlier i [] few = refl
 repeated-none earlier i (e ∷ entries) few =
     rw fresh (repeated-none (earlier ++ e ∷ []) (suc i) entries (λ k some. subst (λ es. counted (Of k) es ≤ 1) (sym (append_assoc earlier (e ∷ []) entries)) (few k some)))
   where
     Of : ℕ → Entry → Bool
-    Of k d = class_of d.tag == k
+    Of k d = class_number d.tag == k
 
-    none : (class_of e.tag ≡ 0 → ⊥) → has_class (class_of e.tag) earlier ≡ false
+    none : (class_number e.tag ≡ 0 → ⊥) → list_any (Of (class_number e.tag)) earlier ≡ false
     none some =
-        let k : ℕ = class_of e.tag in
+        let k : ℕ = class_number e.tag in
         let mine : counted (Of k) (e ∷ entries) ≡ 1 + counted (Of k) entries = ap (λ b. one_if b + counted (Of k) entries) (eq-eqb k k refl) in
         let whole = counted-append (Of k) earlier (e ∷ entries) in
         let most : counted (Of k) (earlier ++ e ∷ entries) ≤ 1 = few k some in
@@ -132,11 +133,8 @@ repeated-none earlier i (e ∷ entries) few =
         sum_bound : (all before mine after : ℕ) → all ≡ before + mine → mine ≡ 1 + after → all ≤ 1 → before ≡ 0
         sum_bound all before mine after p q r = omega arith
 
-    fresh : (not (class_of e.tag == 0) && has_class (class_of e.tag) earlier) ≡ false
-    fresh = elim (cases_eq (class_of e.tag) 0) [
-      | inl is ↦ no_class earlier e is
-      | inr some ↦ new_class earlier e (none some)
-    ]
+    fresh : repeats earlier e ≡ false
+    fresh = fresh-class earlier e none
 
 -- what fields have that break no rule on numbers but that on 001
 pub record AreCounted (fields : List Field) : Type 0 where
@@ -144,7 +142,7 @@ pub record AreCounted (fields : List Field) : Type 0 where
   pub described : counted (is_under tag_008) fields ≡ 1
   pub sized : list_all (passes_under tag_008 (λ text. length text == 40)) fields ≡ true
   pub titled : counted (is_under tag_245) fields ≡ 1
-  pub apart : (k : ℕ) → (k ≡ 0 → ⊥) → counted (λ (f : Field). class_of f.tag == k) fields ≤ 1
+  pub apart : (k : ℕ) → (k ≡ 0 → ⊥) → counted (λ (f : Field). class_number f.tag == k) fields ≤ 1
 
 module _ (bytes : List ℕ) (entries : List Entry) (fields : List Field) (are : AreEntriesOf bytes entries fields) (counts : AreCounted fields) where
   only : (passes : List ℕ → Bool) (tag : List ℕ) → counted (is_under tag) fields ≡ 1 → list_all (passes_under tag passes) fields ≡ true

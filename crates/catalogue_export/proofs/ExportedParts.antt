@@ -10,7 +10,8 @@ use Rattle.union_base.specs.Bodies.{Body}
 use Rattle.union_base.specs.declared.field.Field.{Field}
 use Rattle.union_base.specs.declared.record_id.RecordId.{RecordId}
 use Rattle.marc_parts.specs.Parts.{has_tag}
-use Rattle.marc_rules.specs.RequiredFields.{is_same, class_of}
+use Rattle.marc_rules.specs.RequiredFields.{is_same}
+use Rattle.catalogue_export.proofs.ClassNumbers.{class_number}
 use Rattle.field_merge.specs.Contents.{is_main_entry, has_slot, is_made_anew, is_united}
 use Rattle.field_merge.specs.declared.content.Content.{Content}
 use Rattle.field_merge.specs.declared.slot.Slot.{Slot}
@@ -229,7 +230,7 @@ other_tag test f tag held differs = of (is_same f.tag tag) refl
     of false is = refl
 
 -- a united field has no class
-pub united-class : (f : Field) → is_united f ≡ true → class_of f.tag ≡ 0
+pub united-class : (f : Field) → is_united f ≡ true → class_number f.tag ≡ 0
 united-class f united =
     let both = or_parts (has_slot f) (is_made_anew f) (not-true (has_slot f || is_made_anew f) united) in
     let slots = or_parts (has_tag (codes "005") f || (has_tag (codes "010") f || has_tag (codes "040") f)) (is_main_entry f || (has_tag (codes "240") f || has_tag (codes "245") f)) both.0 in

@@ -23,7 +23,8 @@ use Rattle.marc_parts.specs.Loads.{has_number_shape, is_utf8_field}
 use Rattle.marc_parts.specs.Trimmed.{trim_end}
 use Rattle.marc_rules.specs.Accepted.{IsAccepted}
 use Rattle.marc_rules.specs.NineteenRules.{first_rule}
-use Rattle.marc_rules.specs.RequiredFields.{is_same, class_of, places, is_control_number, tag_001, tag_008, tag_245, number_failure}
+use Rattle.marc_rules.specs.RequiredFields.{is_same, places, is_control_number, tag_001, tag_008, tag_245, number_failure}
+use Rattle.catalogue_export.proofs.ClassNumbers.{class_number}
 use Rattle.field_merge.specs.Contents.{is_main_entry, is_united}
 use Rattle.field_merge.specs.declared.content.Content.{Content}
 use Rattle.workset_keys.specs.WorkKeys.{own_name}
@@ -310,13 +311,13 @@ module _ (c : Content) (id : RecordId) (ids : List RecordId) (key : List ℕ) (s
       = subst (λ n. n ≤ counted (is_under tag_245) (front_parts c key)) here (front-title (λ g. one_if (is_same g.tag tag_245)) c key) in
       sum_one _ _ _ (record-count p) most least (others-none p refl (λ g is. other_tag united_tag g tag_245 is refl))
 
-  apart : (k : ℕ) → (k ≡ 0 → ⊥) → counted (λ (f : Field). class_of f.tag == k) (in_tag_order (fitting (parts c key))) ≤ 1
+  apart : (k : ℕ) → (k ≡ 0 → ⊥) → counted (λ (f : Field). class_number f.tag == k) (in_tag_order (fitting (parts c key))) ≤ 1
   unfolding class_sum
   apart k some =
-      let p : List ℕ → Bool = λ t. class_of t == k in
+      let p : List ℕ → Bool = λ t. class_number t == k in
       let none : (0 == k) ≡ false = ne_eqb 0 k (λ e. some (sym e)) in
       let one = no_more (one_if (6 == k)) in
-      let most : counted (λ (f : Field). class_of f.tag == k) (front_parts c key) ≤ class_sum k = front-count p (one_if (6 == k)) one one one one in
+      let most : counted (λ (f : Field). class_number f.tag == k) (front_parts c key) ≤ class_sum k = front-count p (one_if (6 == k)) one one one one in
       sum_few _ _ _ (class_sum k) (record-count p) most (only_one k some) (others-none p none (λ g is. ap (λ n. n == k) (united-class g is) ∙ none))
 
   -- the test of a field under one tag

@@ -4,6 +4,7 @@ pub mod TagOrderLaws
 pub mod FittingLaws
 pub mod SoundLaws
 pub mod CountLaws
+pub mod ClassNumbers
 pub mod EntryLaws
 pub mod PlaceLaws
 pub mod SpelledLaws

@@ -1,26 +1,29 @@
 -- What counting fields shows.
-use Rattle.std.proofs.Common.{◌≡◌, ℕ, zero, suc, ◌+◌, ◌<◌, Bool, true, false, not, ◌&&◌, ◌||◌, List, [], ◌∷◌, length, get_or, take, drop, refl, sym, ◌∙◌, ap, arith, add-one, inl, inr, get_or-set_same, get_or-set_other, None, Some}
+use Rattle.std.proofs.Common.{◌≡◌, ℕ, suc, ◌+◌, ◌<◌, Bool, true, false, ◌||◌, List, [], ◌∷◌, length, get_or, take, drop, refl, sym, ◌∙◌, ap, arith, add-one, inl, inr, get_or-set_same, get_or-set_other, None, Some}
 use Rattle.std.proofs.Math.ListN.{set}
 use Rattle.std.proofs.Math.Seq.{drop-cons}
 use Rattle.std.proofs.lemmas.Bool.{cases_eq}
 use Rattle.std.proofs.lemmas.Bool.Decides.{nat_tests}
 use Rattle.std.proofs.lemmas.List.Folds.{list_any-append}
-use Rattle.std.specs.Prelude.{◌==◌}
+use Rattle.std.specs.Prelude.{◌==◌, Option}
+use Rattle.std.specs.List.{list_any}
+use Rattle.std.specs.Option.{option_map_or}
 use Rattle.marc_leader.specs.declared.entry.Entry.{Entry}
 use Rattle.marc_fields.proofs.AppendingLaws.{take_one_more}
 use Rattle.marc_fields.specs.Rows.{unless, fails, or_then}
 use Rattle.marc_fields.specs.declared.rules.Rule.TheVariants.{ControlNumber, Status}
 use Rattle.marc_rules.specs.Contents.{is_status, coding_failure, content_failure}
-use Rattle.marc_rules.specs.RequiredFields.{class_of, has_class, repeated_from, control_number_place, load_failure, number_failure}
+use Rattle.marc_rules.specs.declared.required_fields.SingleClass.{SingleClass}
+use Rattle.marc_rules.specs.RequiredFields.{class_of, number_of, is_of, repeats, repeated_from, control_number_place, load_failure, number_failure}
 
 -- the number that was found, where there is one
-abbrev pub found_one : ℕ → List ℕ
-found_one zero = []
-found_one (suc i) = suc i ∷ []
+abbrev pub found_one : Option ℕ → List ℕ
+found_one None = []
+found_one (Some i) = i ∷ []
 
 -- the next entry repeats none
 pub repeated-later : (entries : List Entry) (i : ℕ) (e : Entry) → i < length entries → e ≡ get_or entries i e
-    → (not (class_of e.tag == 0) && has_class (class_of e.tag) (take i entries)) ≡ false
+    → repeats (take i entries) e ≡ false
     → repeated_from (take i entries) (i + 1) (drop i entries) ≡ repeated_from (take (i + 1) entries) (i + 1 + 1) (drop (i + 1) entries)
 repeated-later entries i e below is test =
     ap (repeated_from (take i entries) (i + 1)) (drop-cons entries i e below ∙ ap (λ x. x ∷ drop (suc i) entries) (sym is))
@@ -33,11 +36,11 @@ or_none true = refl
 or_none false = refl
 
 -- one more entry has its class
-pub has_class-more : (entries : List Entry) (i : ℕ) (e : Entry) (k : ℕ) → i < length entries → e ≡ get_or entries i e
-    → has_class k (take (i + 1) entries) ≡ (has_class k (take i entries) || (class_of e.tag == k))
-has_class-more entries i e k below is =
-    ap (has_class k) (take_one_more entries i e below is)
-    ∙ (list_any-append (λ (d : Entry). class_of d.tag == k) (take i entries) (e ∷ []) ∙ ap (λ b. has_class k (take i entries) || b) (or_none (class_of e.tag == k)))
+has_class-more : (entries : List Entry) (i : ℕ) (e : Entry) (class : SingleClass) → i < length entries → e ≡ get_or entries i e
+    → list_any (is_of class) (take (i + 1) entries) ≡ (list_any (is_of class) (take i entries) || is_of class e)
+has_class-more entries i e class below is =
+    ap (list_any (is_of class)) (take_one_more entries i e below is)
+    ∙ (list_any-append (is_of class) (take i entries) (e ∷ []) ∙ ap (λ b. list_any (is_of class) (take i entries) || b) (or_none (is_of class e)))
 
 alike : (m n : ℕ) → m ≡ n → (m == n) ≡ true
 alike m n h = grind (arith, nat_tests)
@@ -49,41 +52,44 @@ or_true : (test : Bool) → (test || true) ≡ true
 or_true true = refl
 or_true false = refl
 
+-- the marks of the classes that are seen among these entries
+abbrev pub AreMarks : List Bool → List Entry → Type 0
+AreMarks marks entries = (class : SingleClass) → get_or marks (number_of class) false ≡ list_any (is_of class) entries
+
 -- a class that is seen with an entry
-pub seen-set : (entries : List Entry) (i : ℕ) (e : Entry) (old : List Bool) (class : ℕ) → i < length entries → e ≡ get_or entries i e
-    → class ≡ class_of e.tag → class < length old → ((k : ℕ) → 0 < k → k < 7 → get_or old k false ≡ has_class k (take i entries))
-    → (k : ℕ) → 0 < k → k < 7 → get_or (set old class true) k false ≡ has_class k (take (i + 1) entries)
-seen-set entries i e old class below is of room seen = λ k some few.
+pub seen-set : (entries : List Entry) (i : ℕ) (e : Entry) (old : List Bool) (class : SingleClass) → i < length entries → e ≡ get_or entries i e
+    → class_of e.tag ≡ Some class → number_of class < length old → AreMarks old (take i entries)
+    → AreMarks (set old (number_of class) true) (take (i + 1) entries)
+seen-set entries i e old class below is of room seen = λ k.
     let more = has_class-more entries i e k below is in
-    elim (cases_eq k class) [
+    let mine : is_of k e ≡ (number_of class == number_of k) = ap (λ o. option_map_or (λ (other : SingleClass). number_of other == number_of k) o false) of in
+    elim (cases_eq (number_of k) (number_of class)) [
       | inl same ↦
-          let one : (class_of e.tag == k) ≡ true = alike (class_of e.tag) k (sym of ∙ sym same) in
-          let here : get_or (set old class true) class false ≡ true = get_or-set_same old class true false room in
-          ap (λ n. get_or (set old class true) n false) same ∙ (here ∙ sym (more ∙ (ap (λ b. has_class k (take i entries) || b) one ∙ or_true (has_class k (take i entries)))))
+          let one : is_of k e ≡ true = mine ∙ alike (number_of class) (number_of k) (sym same) in
+          let here : get_or (set old (number_of class) true) (number_of class) false ≡ true = get_or-set_same old (number_of class) true false room in
+          ap (λ n. get_or (set old (number_of class) true) n false) same
+          ∙ (here ∙ sym (more ∙ (ap (λ b. list_any (is_of k) (take i entries) || b) one ∙ or_true (list_any (is_of k) (take i entries)))))
       | inr other ↦
-          let none : (class_of e.tag == k) ≡ false = differ (class_of e.tag) k (λ h. other (sym h ∙ sym of)) in
-          let there : get_or (set old class true) k false ≡ get_or old k false = get_or-set_other old class k true false other in
-          there ∙ (seen k some few ∙ sym (more ∙ (ap (λ b. has_class k (take i entries) || b) none ∙ or_none (has_class k (take i entries)))))
+          let none : is_of k e ≡ false = mine ∙ differ (number_of class) (number_of k) (λ h. other (sym h)) in
+          let there : get_or (set old (number_of class) true) (number_of k) false ≡ get_or old (number_of k) false
+          = get_or-set_other old (number_of class) (number_of k) true false other in
+          there ∙ (seen k ∙ sym (more ∙ (ap (λ b. list_any (is_of k) (take i entries) || b) none ∙ or_none (list_any (is_of k) (take i entries)))))
     ]
 
 -- an entry without a class
 pub seen-same : (entries : List Entry) (i : ℕ) (e : Entry) (old : List Bool) → i < length entries → e ≡ get_or entries i e
-    → class_of e.tag ≡ 0 → ((k : ℕ) → 0 < k → k < 7 → get_or old k false ≡ has_class k (take i entries))
-    → (k : ℕ) → 0 < k → k < 7 → get_or old k false ≡ has_class k (take (i + 1) entries)
-seen-same entries i e old below is of seen = λ k some few.
-    let none : (class_of e.tag == k) ≡ false = differ (class_of e.tag) k (λ h. omega arith) in
-    seen k some few ∙ sym (has_class-more entries i e k below is ∙ (ap (λ b. has_class k (take i entries) || b) none ∙ or_none (has_class k (take i entries))))
+    → class_of e.tag ≡ None → AreMarks old (take i entries) → AreMarks old (take (i + 1) entries)
+seen-same entries i e old below is of seen = λ k.
+    let none : is_of k e ≡ false = ap (λ o. option_map_or (λ (other : SingleClass). number_of other == number_of k) o false) of in
+    seen k ∙ sym (has_class-more entries i e k below is ∙ (ap (λ b. list_any (is_of k) (take i entries) || b) none ∙ or_none (list_any (is_of k) (take i entries))))
 
--- it repeats none
-pub no_class : (entries : List Entry) (e : Entry) → class_of e.tag ≡ 0 → (not (class_of e.tag == 0) && has_class (class_of e.tag) entries) ≡ false
-no_class entries e of = let zero_is : (class_of e.tag == 0) ≡ true = alike (class_of e.tag) 0 of in rw zero_is refl
+-- what it is that an entry repeats one
+pub repeats-class : (earlier : List Entry) (e : Entry) (class : SingleClass) → class_of e.tag ≡ Some class → repeats earlier e ≡ list_any (is_of class) earlier
+repeats-class earlier e class of = ap (λ o. option_map_or (λ k. list_any (is_of k) earlier) o false) of
 
-pub new_class : (entries : List Entry) (e : Entry) → has_class (class_of e.tag) entries ≡ false → (not (class_of e.tag == 0) && has_class (class_of e.tag) entries) ≡ false
-new_class entries e none = rw none (and_none (not (class_of e.tag == 0)))
-  where
-    and_none : (test : Bool) → (test && false) ≡ false
-    and_none true = refl
-    and_none false = refl
+-- an entry without a class repeats none
+pub repeats-none : (earlier : List Entry) (e : Entry) → class_of e.tag ≡ None → repeats earlier e ≡ false
+repeats-none earlier e of = ap (λ o. option_map_or (λ k. list_any (is_of k) earlier) o false) of
 
 -- the rules on numbers, one after the other
 pub number_failure-control : (status : ℕ) (bytes : List ℕ) (entries : List Entry) (place : ℕ) → control_number_place bytes entries ≡ Some place

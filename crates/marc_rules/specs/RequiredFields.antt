@@ -1,7 +1,8 @@
 -- The rules on which fields stand, and how often (MARC 21, 001, 008, 245 and 'Repeatability'; the places are this project's
 -- own).
-use Rattle.std.specs.Prelude.{ℕ, suc, ◌-◌, Bool, true, not, ◌&&◌, ◌||◌, ◌==◌, nat_eq, List, [], ◌∷◌, ◌++◌, length, slice_index_or, codes, Option, None, Some, if◌then◌else◌}
+use Rattle.std.specs.Prelude.{ℕ, suc, ◌-◌, Bool, true, false, ◌||◌, ◌==◌, nat_eq, List, [], ◌∷◌, ◌++◌, length, slice_index_or, codes, Option, None, Some, if◌then◌else◌}
 use Rattle.std.specs.List.{list_any}
+use Rattle.std.specs.Option.{option_map_or}
 use Rattle.std.specs.Cmp.Lexicographic.{pointwise}
 use Rattle.marc_leader.specs.declared.entry.Entry.{Entry}
 use Rattle.marc_fields.specs.Rows.{fails, or_then}
@@ -10,6 +11,10 @@ use Rattle.marc_fields.specs.declared.rules.Failure.{Failure}
 use Rattle.marc_fields.specs.declared.rules.Rule.TheVariants.{ControlNumber, Repeated, Fixed008, Title245}
 use Rattle.marc_parts.specs.Loads.{has_number_shape}
 use Rattle.marc_parts.specs.Trimmed.{trimmed}
+use Rattle.marc_rules.specs.declared.required_fields.NotOne.{NotOne}
+use Rattle.marc_rules.specs.declared.required_fields.NotOne.TheVariants.{Missing, Second}
+use Rattle.marc_rules.specs.declared.required_fields.SingleClass.{SingleClass}
+use Rattle.marc_rules.specs.declared.required_fields.SingleClass.TheVariants.{NumberSource, LatestChange, CongressNumber, CatalogingSource, UniformTitle, MainEntry}
 
 -- the two tags are one
 abbrev pub is_same : List ℕ → List ℕ → Bool
@@ -20,12 +25,22 @@ abbrev pub places : List ℕ → ℕ → List Entry → List ℕ
 places tag i [] = []
 places tag i (e ∷ entries) = (if is_same e.tag tag then i ∷ places tag (suc i) entries else places tag (suc i) entries)
 
--- the place at which a field that has to stand once is refused: 0 where there is none, the second where there are more, and its own
--- where it does not pass
+-- why the entries at these places are not one: there is none, or a second
+abbrev pub not_one : List ℕ → Option NotOne
+not_one [] = Some Missing
+not_one (i ∷ []) = None
+not_one (i ∷ j ∷ rest) = Some (Second j)
+
+-- the place at which they are refused: 0 where there is none, else the second
+abbrev pub place_of : NotOne → ℕ
+place_of Missing = 0
+place_of (Second place) = place
+
+-- the place at which a field that has to stand once is refused: that of the refusal, or its own where it does not pass
 abbrev pub once : (ℕ → Bool) → List ℕ → Option ℕ
-once passes [] = Some 0
+once passes [] = Some (place_of Missing)
 once passes (i ∷ []) = (if passes i then None else Some i)
-once passes (i ∷ j ∷ rest) = Some j
+once passes (i ∷ j ∷ rest) = Some (place_of (Second j))
 
 -- what stands for an entry where there is none
 abbrev pub no_entry : Entry
@@ -63,26 +78,38 @@ fixed_008_place bytes entries = once (λ i. length (text_at bytes entries i) == 
 abbrev pub title_245_place : List Entry → Option ℕ
 title_245_place entries = once (λ i. true) (places tag_245 1 entries)
 
--- fields of one of these classes stand once: 003, 005, 010, 040, 240 each, and the main entries 100, 110, 111, 130 together
-abbrev pub class_of : List ℕ → ℕ
+-- the class of fields of which one may stand, by the tag: 003, 005, 010, 040, 240 each, and the main entries together
+abbrev pub class_of : List ℕ → Option SingleClass
 class_of tag =
-    (if is_same tag (codes "003") then 1
-    else (if is_same tag (codes "005") then 2
-    else (if is_same tag (codes "010") then 3
-    else (if is_same tag (codes "040") then 4
-    else (if is_same tag (codes "240") then 5
+    (if is_same tag (codes "003") then Some NumberSource
+    else (if is_same tag (codes "005") then Some LatestChange
+    else (if is_same tag (codes "010") then Some CongressNumber
+    else (if is_same tag (codes "040") then Some CatalogingSource
+    else (if is_same tag (codes "240") then Some UniformTitle
     else (if ((is_same tag (codes "100") || is_same tag (codes "110")) || is_same tag (codes "111"))
-    || is_same tag (codes "130") then 6 else 0))))))
+    || is_same tag (codes "130") then Some MainEntry else None))))))
 
--- an earlier field is of that class
-abbrev pub has_class : ℕ → List Entry → Bool
-has_class class entries = list_any (λ e. class_of e.tag == class) entries
+-- the class's place among the six
+abbrev pub number_of : SingleClass → ℕ
+number_of NumberSource = 0
+number_of LatestChange = 1
+number_of CongressNumber = 2
+number_of CatalogingSource = 3
+number_of UniformTitle = 4
+number_of MainEntry = 5
+
+-- the entry is of that class
+abbrev pub is_of : SingleClass → Entry → Bool
+is_of class e = option_map_or (λ other. number_of other == number_of class) (class_of e.tag) false
+
+-- the entry is of a class of which an earlier one is
+abbrev pub repeats : List Entry → Entry → Bool
+repeats earlier e = option_map_or (λ class. list_any (is_of class) earlier) (class_of e.tag) false
 
 -- the least number of an entry of a class of which an earlier one is
 abbrev pub repeated_from : List Entry → ℕ → List Entry → Option ℕ
 repeated_from earlier i [] = None
-repeated_from earlier i (e ∷ entries) =
-    (if not (class_of e.tag == 0) && has_class (class_of e.tag) earlier then Some i else repeated_from (earlier ++ e ∷ []) (suc i) entries)
+repeated_from earlier i (e ∷ entries) = (if repeats earlier e then Some i else repeated_from (earlier ++ e ∷ []) (suc i) entries)
 
 -- the rules on a record that is loaded
 abbrev pub load_failure : List ℕ → List Entry → Option Failure

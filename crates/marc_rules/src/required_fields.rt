@@ -3,7 +3,7 @@ ghost use Rattle.std.specs.Prelude.{⊤, ◌≡◌, ◌+◌, ◌<◌, ◌≤◌,
 ghost use Rattle.std.specs.List.{list_all};
 ghost use Rattle.marc_fields.specs.Rows.{Answers};
 ghost use Rattle.marc_fields.specs.Rules.{is_tile};
-ghost use Rattle.marc_rules.specs.RequiredFields.{is_same, places, once, is_control_number, class_of, repeated_from, control_number_place, fixed_008_place, title_245_place, load_failure, number_failure};
+ghost use Rattle.marc_rules.specs.RequiredFields.{is_same, places, not_one, place_of, is_control_number, class_of, number_of, repeated_from, control_number_place, fixed_008_place, title_245_place, load_failure, number_failure};
 
 use marc_fields::decoding::DecodeRefusal;
 use marc_fields::parts::text_in;
@@ -17,6 +17,32 @@ pub const DELETED: u8 = b'd';
 
 /// How many bytes field 008 has (MARC 21, 008).
 const FIXED_008_SIZE: usize = 40;
+
+/// Why a tag's entries are not one.
+#[derive(Clone, Copy, Debug, PartialEq, Eq)]
+pub enum NotOne {
+    /// No entry has the tag.
+    Missing,
+    /// Several have it, the second of them with this number.
+    Second(u32),
+}
+
+/// A class of fields of which one may stand (MARC 21, 'Repeatability').
+#[derive(Clone, Copy, Debug, PartialEq, Eq)]
+pub enum SingleClass {
+    /// 003, whose number 001 is.
+    NumberSource,
+    /// 005, when the record was last changed.
+    LatestChange,
+    /// 010, the number of the Library of Congress.
+    CongressNumber,
+    /// 040, who made and changed the record.
+    CatalogingSource,
+    /// 240, the uniform title.
+    UniformTitle,
+    /// 100, 110, 111 and 130, the main entry.
+    MainEntry,
+}
 
 /// Whether the two tags are one.
 fn are_same(tag: &[u8], other: &[u8]) -> bool
@@ -32,48 +58,65 @@ fn are_control_number(text: &[u8]) -> bool
     has_number_shape(trimmed(text))
 }
 
-/// The number of the one entry with that tag; else 0 where there is none, and the second one's number where there are more.
-fn only_entry(entries: &[Entry], tag: &[u8]) -> Result<u32, u32>
+/// The number of the one entry with that tag, or why there is not one.
+fn only_entry(entries: &[Entry], tag: &[u8]) -> Result<u32, NotOne>
     requires { length entries.now ≤ 9999 }
     ensures { MatchResult result (λ i. (places tag.now 1 entries.now ≡ i ∷ []) × ((1 ≤ i) × (i ≤ length entries.now)))
-        (λ place. (passes : ℕ → Bool) → once passes (places tag.now 1 entries.now) ≡ Some place) }
+        (λ refusal. not_one (places tag.now 1 entries.now) ≡ Some refusal) }
 {
-    let mut found = 0;
+    let mut found = None;
     for (i, entry) in entries.iter().enumerate() {
         if are_same(&entry.tag, tag) {
-            if found > 0 {
-                return Err(i as u32 + 1);
+            if found.is_some() {
+                return Err(NotOne::Second(i as u32 + 1));
             }
-            found = i as u32 + 1;
+            found = Some(i as u32 + 1);
         }
     }
-    if found == 0 { Err(0) } else { Ok(found) }
+    found.ok_or(NotOne::Missing)
 }
 
-/// The class of fields of which one may stand (MARC 21, 'Repeatability'); 0 where the tag has none.
-fn class_of_tag(tag: &[u8; 3]) -> usize
-    ensures value { result ≡ class_of tag.now }
-    ensures few { result < 7 }
+/// The place at which a field is refused that has to stand once: 0 where it is missing, and else the second one's number.
+fn place_of(refusal: NotOne) -> u32
+    ensures { result ≡ place_of refusal }
+{
+    match refusal {
+        NotOne::Missing => 0,
+        NotOne::Second(place) => place,
+    }
+}
+
+/// The class of fields of which one may stand (MARC 21, 'Repeatability'), where the tag has one.
+fn class_of_tag(tag: &[u8; 3]) -> Option<SingleClass>
+    ensures { result ≡ class_of tag.now }
 {
     if are_same(tag, b"003") {
-        1
+        Some(SingleClass::NumberSource)
     } else if are_same(tag, b"005") {
-        2
+        Some(SingleClass::LatestChange)
     } else if are_same(tag, b"010") {
-        3
+        Some(SingleClass::CongressNumber)
     } else if are_same(tag, b"040") {
-        4
+        Some(SingleClass::CatalogingSource)
     } else if are_same(tag, b"240") {
-        5
+        Some(SingleClass::UniformTitle)
     } else if are_same(tag, b"100")
         || are_same(tag, b"110")
         || are_same(tag, b"111")
         || are_same(tag, b"130")
     {
-        6
+        Some(SingleClass::MainEntry)
     } else {
-        0
+        None
     }
+}
+
+/// The class's place among the six.
+fn number_of(class: SingleClass) -> usize
+    ensures value { result ≡ number_of class }
+    ensures few { result < 6 }
+{
+    class as usize
 }
 
 /// The number of the first entry that repeats a field which may stand once.
@@ -81,14 +124,14 @@ fn first_repeated(entries: &[Entry]) -> Option<u32>
     requires { length entries.now ≤ 9999 }
     ensures { result ≡ repeated_from [] 1 entries.now }
 {
-    let mut seen = [false; 7];
+    let mut seen = [false; 6];
     for (i, entry) in entries.iter().enumerate() {
-        let class = class_of_tag(&entry.tag);
-        if class > 0 {
-            if seen[class] {
+        if let Some(class) = class_of_tag(&entry.tag) {
+            let number = number_of(class);
+            if seen[number] {
                 return Some(i as u32 + 1);
             }
-            seen[class] = true;
+            seen[number] = true;
         }
     }
     None
@@ -108,7 +151,7 @@ fn bad_control_number(entries: &[Entry], bytes: &[u8]) -> Option<u32>
                 Some(number)
             }
         }
-        Err(place) => Some(place),
+        Err(refusal) => Some(place_of(refusal)),
     }
 }
 
@@ -126,7 +169,7 @@ fn bad_fixed_008(entries: &[Entry], bytes: &[u8]) -> Option<u32>
                 Some(number)
             }
         }
-        Err(place) => Some(place),
+        Err(refusal) => Some(place_of(refusal)),
     }
 }
 
@@ -137,7 +180,7 @@ fn bad_title_245(entries: &[Entry]) -> Option<u32>
 {
     match only_entry(entries, b"245") {
         Ok(_) => None,
-        Err(place) => Some(place),
+        Err(refusal) => Some(place_of(refusal)),
     }
 }
 

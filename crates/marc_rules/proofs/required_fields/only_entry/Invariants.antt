@@ -1,4 +1,4 @@
-use Rattle.std.proofs.Common.{◌≡◌, ◌+◌, ◌≤◌, ◌++◌, drop}
+use Rattle.std.proofs.Common.{◌≡◌, ◌+◌, ◌≤◌, ◌++◌, drop, ℕ, Some}
 use Rattle.marc_rules.specs.RequiredFields.{places}
 use Rattle.marc_rules.proofs.RequiredLaws.{found_one}
 use Rattle.marc_rules.proofs.required_fields.only_entry.Given as goal
@@ -7,5 +7,5 @@ use Rattle.marc_rules.proofs.required_fields.only_entry.Given as goal
 abbrev pub invariant-loop-i : goal.invariant-loop-i
 invariant-loop-i l = record {
   places : places l.tag 1 l.entries ≡ found_one l.found ++ places l.tag (l.i + 1) (drop l.i l.entries);
-  few : l.found ≤ l.i;
+  few : (number : ℕ) → l.found ≡ Some number → (1 ≤ number) × (number ≤ l.i);
 }
