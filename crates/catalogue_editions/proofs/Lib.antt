@@ -3,3 +3,4 @@ pub mod KeyTexts
 mod Runs
 pub mod Apart
 pub mod OwnLaws
+mod RecordsLaws

@@ -9,7 +9,7 @@ use Rattle.union_base.specs.declared.field.Field.{Field}
 use Rattle.marc_fields.specs.declared.marc_record.Record.{Record}
 use Rattle.marc_parts.specs.Parts.{first_under}
 use Rattle.field_merge.specs.Preferences.{most_codes}
-use Rattle.field_merge.specs.PreferenceLaws.{level-most}
+use Rattle.field_merge.proofs.LevelLaws.{level-most}
 use Rattle.field_merge.specs.Ranks.{rank}
 use Rattle.field_merge.specs.Contents.{is_main_entry, slot, contributor, content}
 use Rattle.field_merge.specs.declared.rank.Rank.{Rank}

@@ -10,7 +10,6 @@ use Rattle.field_merge.specs.declared.slot.Slot.{Slot}
 use Rattle.catalogue_editions.specs.declared.edition.Edition.{Edition}
 use Rattle.catalogue_editions.specs.declared.op.Op.{Op}
 use Rattle.catalogue_editions.specs.declared.op.Op.TheVariants.{Load, Withdraw}
-use Rattle.catalogue_editions.specs.declared.op.TheConstants.{LARGEST_BATCH}
 
 -- there is one id, of that library
 abbrev pub is_one_of : List ℕ → List RecordId → Bool
@@ -38,6 +37,10 @@ abbrev pub is_own_op : List ℕ → Op → Bool
 is_own_op library (Load e) = is_own library e
 is_own_op library (Withdraw number) = true
 
+-- the most operations of one turn
+abbrev pub largest_batch : ℕ
+largest_batch = 256
+
 -- the operations of one turn
 abbrev pub is_batch : List ℕ → List Op → Bool
-is_batch library ops = (nat_le 1 (length ops) && nat_le (length ops) LARGEST_BATCH) && list_all (is_own_op library) ops
+is_batch library ops = (nat_le 1 (length ops) && nat_le (length ops) largest_batch) && list_all (is_own_op library) ops

@@ -11,7 +11,6 @@ pub mod MatchLaws
 pub mod ExactKeys
 pub mod RecordLaws
 pub mod Records
-pub mod RecordsLaws
 pub mod Ids
 pub mod IndexKeys
 pub mod EditionKeys

@@ -10,6 +10,8 @@ ghost use Rattle.marc_rules.specs.Accepted.{IsAccepted};
 ghost use Rattle.merge_laws.specs.Resolution.{IsResolution};
 ghost use Rattle.catalogue_editions.specs.declared.edition.Edition.{Edition};
 ghost use Rattle.catalogue_editions.specs.EditionKeys.{IsKeyWithoutNames};
+ghost use Rattle.catalogue_editions.specs.declared.op.TheConstants.{LARGEST_BATCH};
+ghost use Rattle.catalogue_editions.specs.Batches.{largest_batch};
 ghost use Rattle.catalogue_editions.specs.Ids.{least, edition_cmp};
 ghost use Rattle.catalogue_editions.specs.Joining.{join};
 ghost use Rattle.catalogue_editions.specs.Matching.{match as edition_match};
@@ -43,4 +45,9 @@ pub fn ordered_resolution_is_unique()
 /// Where no names are given, the work key is that of the fields alone.
 pub fn key_without_names()
     ensures { IsKeyWithoutNames }
+{}
+
+/// `op::LARGEST_BATCH` is the number that the definition of a batch has.
+pub fn largest_batch_is_defined()
+    ensures { LARGEST_BATCH ≡ largest_batch }
 {}

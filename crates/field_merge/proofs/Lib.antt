@@ -1,3 +1,5 @@
 pub mod PreferredLaws
 pub mod Gathering
 pub mod Members
+pub mod LevelLaws
+pub mod GreaterParts

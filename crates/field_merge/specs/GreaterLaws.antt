@@ -9,11 +9,6 @@ use Rattle.std.specs.FinMap.{IsAntisymmetric}
 use Rattle.field_merge.specs.Merging.{greater}
 
 module _ {K : Type 0} (R : K → K → Ordering) where
-  -- it is one of the two
-  pub greater-either : (x y : K) → (greater R x y ≡ x) ⊎ (greater R x y ≡ y)
-  greater-either x y =
-      elim (R x y) as (λ r. (match_ordering r y x x ≡ x) ⊎ (match_ordering r y x x ≡ y)) [ Less ↦ inr refl | Equal ↦ inl refl | Greater ↦ inl refl ]
-
   -- the greater of a value and itself is that value
   pub greater-idempotent : (x : K) → greater R x x ≡ x
   greater-idempotent x = elim (R x x) as (λ r. match_ordering r x x x ≡ x) [ Less ↦ refl | Equal ↦ refl | Greater ↦ refl ]

@@ -1,12 +1,8 @@
--- How a preference lies in its sixty-four places, and that its levels fit a byte.
-use Rattle.std.specs.Prelude.{◌≡◌, ℕ, ◌-◌, ◌≤◌, IsTrue, List, length, take, ◌++◌, replicate, codes, Some, None}
-use Rattle.std.specs.List.{position}
-use Rattle.std.specs.Cmp.Lexicographic.{pointwise}
-use Rattle.std.specs.Prelude.{nat_eq}
-use Rattle.std.specs.Option.{option_map_or}
+-- How a preference lies in its sixty-four places.
+use Rattle.std.specs.Prelude.{◌≡◌, ℕ, ◌-◌, ◌≤◌, IsTrue, List, length, take, ◌++◌, replicate, codes}
 use Rattle.std.proofs.Common.{sym, arith}
 use Rattle.std.proofs.lemmas.List.{length-take}
-use Rattle.field_merge.specs.Preferences.{most_codes, are_preferred, level}
+use Rattle.field_merge.specs.Preferences.{most_codes, are_preferred}
 
 -- the code that stands in the places that are not used
 abbrev pub unused : List ℕ
@@ -27,11 +23,3 @@ filled_size places size filled = omega (arith, length-take {A = List ℕ}, fille
 pub filled_places : (places : List (List ℕ)) (size : ℕ) → IsFilled places size
     → take size places ++ replicate (most_codes - length (take size places)) unused ≡ places
 filled_places places size filled = rw (filled_size places size filled) (sym filled.rest)
-
--- a level is 64 at most
-pub level-most : (prefer : List (List ℕ)) (library : List ℕ) → level prefer library ≤ most_codes
-level-most prefer library =
-    elim (position (λ code. pointwise nat_eq code library) prefer) as (λ o. option_map_or (λ place. most_codes - place) o 0 ≤ most_codes) [
-      | None ↦ omega arith
-      | Some place ↦ omega arith
-    ]

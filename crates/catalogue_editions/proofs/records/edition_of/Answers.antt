@@ -10,7 +10,7 @@ use Rattle.catalogue_editions.specs.Linked.{are_linked}
 use Rattle.catalogue_editions.specs.Sound.{is_sound}
 use Rattle.catalogue_editions.specs.RecordLaws.{is_loaded}
 use Rattle.catalogue_editions.specs.Records.{edition_made}
-use Rattle.catalogue_editions.specs.RecordsLaws.{edition-is}
+use Rattle.catalogue_editions.proofs.RecordsLaws.{edition-is}
 use Rattle.catalogue_editions.proofs.records.edition_of.Goals as goal
 
 pub invariant_of-parts : goal.invariant_of-parts

@@ -1,6 +1,6 @@
 use Rattle.std.specs.Option.{option_cmp}
 use Rattle.field_merge.specs.Orders.{slot_cmp, fixed_cmp}
-use Rattle.field_merge.specs.GreaterLaws.{greater-either}
+use Rattle.field_merge.proofs.GreaterParts.{greater-either}
 use Rattle.field_merge.proofs.laws.slots_of_a_merge.Goals as goal
 
 pub returns : goal.returns
