@@ -82,7 +82,8 @@ impl Viewer {
         ensures seen { IsPrefix self.old.seen self.new.seen }
         ensures learnt { IsPrefix self.old.learnt self.new.learnt }
     {
-        for _ in 0..self.board.count() {
+        let posted = self.board.count() as u64;
+        for _ in self.catalogue.turns()..posted {
             let place = self.catalogue.turns();
             match posted_at(alloc, &self.board, place)? {
                 Some(next) => self.take_in(alloc, next)?,
