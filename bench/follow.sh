@@ -28,7 +28,7 @@ done
 # The median of the loads in the file: microseconds, turns, answers, microseconds of its slowest answer, kilobytes of memory, and the
 # microseconds of the slowest answer of all.
 median() {
-    sort -k 2n "$1" | awk '{ if ($8 > slowest) slowest = $8; load[NR] = $2 " " $4 " " $6 " " $8 " " $9 }
+    sort -k 2n "$1" | awk 'BEGIN { slowest = 0 } { if ($8 > slowest) slowest = $8; load[NR] = $2 " " $4 " " $6 " " $8 " " $9 }
         END { print load[(NR + 1) / 2], slowest }'
 }
 
