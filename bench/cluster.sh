@@ -1,6 +1,6 @@
 #!/bin/sh
-# A catalogue in parts on this machine: the time of `union export`, and of cluster/union-cluster with 1, 2 and 4 workers, over the files
-# of one consortium, and what the driver tells of rows, rounds and bytes.
+# A catalogue in parts on this machine: the time of `union export`, and of cluster/union-cluster with 4, 2 and 1 workers, over the files
+# of one consortium, the memory of the largest process of each, and what the driver tells of rows, rounds and bytes.
 #
 # usage: bench/cluster.sh [RECORDS [LIBRARIES]]
 #
@@ -22,9 +22,9 @@ done
 # shellcheck disable=SC2086
 /usr/bin/time -f "union export: %e s, %M KB" "$program" export $words >"$work/one.out" 2>"$work/one.notes"
 tail -n 1 "$work/one.notes"
-for workers in 1 2 4; do
+for workers in 4 2 1; do
     # shellcheck disable=SC2086
-    /usr/bin/time -f "%e s" "$top/cluster/union-cluster" --workers=$workers --parts=4 --union="$program" --keys="$keys" --scratch="$work" \
+    /usr/bin/time -f "%e s, the largest process %M KB" "$top/cluster/union-cluster" --workers=$workers --parts=4 --union="$program" --keys="$keys" --scratch="$work" \
         --progress $words >"$work/many.out" 2>"$work/many.notes"
     cmp "$work/one.out" "$work/many.out"
     echo "$workers workers: $(tail -n 1 "$work/many.notes")"
