@@ -1,7 +1,7 @@
-use Rattle.std.proofs.Common.{◌++◌, Bor, map, refl, sym, ap, subst, ◌∙◌, ◌≡◌}
+use Rattle.std.proofs.Common.{◌++◌, Bor, map, refl, ap, subst, ◌∙◌, ◌≡◌}
 use Rattle.std.specs.Prelude.{OnOk, OnErr}
 use Rattle.catalogue_editions.specs.declared.edition.Edition.{Edition}
-use Rattle.catalogue_export.specs.Editions.{edition_text, export_text, left_of_one, left_of}
+use Rattle.catalogue_export.specs.Editions.{export_text, left_of}
 use Rattle.catalogue_export.specs.Writing.{HasWritten, GainsFront, Output}
 use Rattle.catalogue_export.proofs.WritingLaws.{none-written, gains-none}
 use Rattle.catalogue_export.proofs.export.export.Goals as goal

@@ -1,5 +1,5 @@
 use Rattle.std.proofs.Common.{◌≡◌, ◌++◌, map, take}
-use Rattle.catalogue_export.specs.Editions.{edition_text, export_text, left_of_one, left_of}
+use Rattle.catalogue_export.specs.Editions.{export_text, left_of}
 use Rattle.catalogue_export.specs.Writing.{IsWrittenTo}
 use Rattle.catalogue_export.proofs.export.write_editions.Given as goal
 
