@@ -1,8 +1,8 @@
-use Rattle.std.proofs.Common.{◌++◌, Bor, map, refl, sym, ap, subst, ◌∙◌, ◌≡◌}
+use Rattle.std.proofs.Common.{◌++◌, Bor, map, refl, ap, subst, ◌∙◌, ◌≡◌}
 use Rattle.std.specs.Prelude.{OnOk, OnErr}
 use Rattle.catalogue_editions.specs.declared.edition.Edition.{Edition}
-use Rattle.catalogue_export.specs.Editions.{left_of_one, left_of}
-use Rattle.catalogue_json.specs.JsonExport.{edition_line, json_export_text}
+use Rattle.catalogue_export.specs.Editions.{left_of}
+use Rattle.catalogue_json.specs.JsonExport.{json_export_text}
 use Rattle.catalogue_export.specs.Writing.{HasWritten, GainsFront, Output}
 use Rattle.catalogue_export.proofs.WritingLaws.{none-written, gains-none}
 use Rattle.catalogue_json.proofs.json_export.export_json.Goals as goal

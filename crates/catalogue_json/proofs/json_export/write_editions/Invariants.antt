@@ -1,6 +1,6 @@
 use Rattle.std.proofs.Common.{◌≡◌, ◌++◌, map, take}
-use Rattle.catalogue_export.specs.Editions.{left_of_one, left_of}
-use Rattle.catalogue_json.specs.JsonExport.{edition_line, json_export_text}
+use Rattle.catalogue_export.specs.Editions.{left_of}
+use Rattle.catalogue_json.specs.JsonExport.{json_export_text}
 use Rattle.catalogue_export.specs.Writing.{IsWrittenTo}
 use Rattle.catalogue_json.proofs.json_export.write_editions.Given as goal
 
