@@ -1,5 +1,6 @@
 //! Exports whose expected bytes another program made.
 use crate::worked::{BLUE, BRIDGE, RED, edition_in};
+use catalogue_core::catalogue::Catalogue;
 use catalogue_export::editions::append_editions;
 use merge_laws::join::Join;
 use std::test::Fail;
@@ -27,7 +28,8 @@ fn two_editions_one_behind_the_other(rt: HostRuntime) -> Result<(), Fail> {
     editions.push(edition_in(alloc, "LIBA", ONE)?)?;
     let mut text = Vec::new(alloc);
     let mut left = Vec::new(alloc);
-    append_editions(alloc, editions.as_slice(), &mut text, &mut left)?;
+    let catalogue = Catalogue::empty(alloc)?;
+    append_editions(alloc, &catalogue, editions.as_slice(), &mut text, &mut left)?;
     let mut expected = Vec::new(alloc);
     expected.extend_from_slice(SHIPS_EXPORTED)?;
     expected.extend_from_slice(ONE_EXPORTED)?;

@@ -38,7 +38,8 @@ fn less_full_record_of_a_preferred_library(rt: HostRuntime) -> Result<(), Fail> 
     let full = edition_by(alloc, &prefer, "LIBA", FULL)?;
     let later = edition_by(alloc, &prefer, "LIBB", LATER)?;
     let mut text = Vec::new(alloc);
-    append_edition(alloc, &full.joined(alloc, &later)?, &mut text)?;
+    let catalogue = Catalogue::empty(alloc)?;
+    append_edition(alloc, &catalogue, &full.joined(alloc, &later)?, &mut text)?;
     assert_eq!(rt; text.as_slice(), PREFERRED);
     Ok(())
 }
