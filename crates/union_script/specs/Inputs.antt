@@ -6,14 +6,15 @@ use Rattle.std.specs.declared.option.Option.{Option}
 use Rattle.union_words.specs.Flows.{InputFile}
 use Rattle.union_words.specs.ScriptLines.{ScriptLine, Load, Export, Works, Notices, Ask, Word}
 use Rattle.union_words.specs.declared.input.Input.{Input}
-use Rattle.union_words.specs.declared.input.Input.TheVariants.{Library, Asks, Script}
+use Rattle.union_words.specs.declared.input.Input.TheVariants.{Library, Asks, Script, Names}
 use Rattle.union_script.specs.Texts.{Contents, script_of}
 
--- the most bytes that are read of it: 2^40 of a library's file, and 2^20 of a script or a file of questions
+-- the most bytes that are read of it: 2^40 of a library's file or a file of names, and 2^20 of a script or a file of questions
 abbrev pub limit_of : Input → ℕ
 limit_of (Library code) = 1099511627776
 limit_of Asks = 1048576
 limit_of Script = 1048576
+limit_of Names = 1099511627776
 
 -- the file of a line that loads one
 abbrev pub loaded_by : ScriptLine → List InputFile

@@ -7,7 +7,7 @@ use Rattle.union_words.specs.Flows.{ShelfFlow, IsCalm, FailsAt, NoneFails, Outfl
 use Rattle.union_words.specs.ScriptLines.{ScriptLine}
 use Rattle.union_words.specs.Statuses.{is_done, is_input_fault, end_by}
 use Rattle.union_words.specs.declared.input.Input.{Input}
-use Rattle.union_words.specs.declared.input.Input.TheVariants.{Library, Asks, Script}
+use Rattle.union_words.specs.declared.input.Input.TheVariants.{Library, Asks, Script, Names}
 use Rattle.union_words.specs.declared.status.Status.{Status}
 use Rattle.union_words.specs.declared.status.Status.TheVariants.{Done, DoneWithRefusals, Usage, OpenFault, ReadFault, WriteFault, TooLong, Memory}
 use Rattle.union_script.specs.Inputs.{inputs_of, AreWithin, IsTooLongAt}
@@ -28,6 +28,7 @@ WritesBefore Cause Script contents script out = Keeps out.old out.new
 WritesBefore Cause (Library code) contents script out =
     (stop : StopsLoading (Library code) script [] (Some contents) out.old out.new) × Cause stop.file.path
 WritesBefore Cause Asks contents script out = ⊥
+WritesBefore Cause Names contents script out = ⊥
 
 -- something failed under one name and under no other; under that of the script where the input is the script
 pub record FailsSomewhere (path : List ℕ) (shelf : ShelfFlow) (input : Input) : Type 0 where

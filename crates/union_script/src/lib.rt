@@ -18,7 +18,7 @@ mod loading;
 mod noticing;
 pub mod run;
 mod saying;
-mod stops;
+pub mod stops;
 pub mod text_file;
 mod union;
 mod whole;

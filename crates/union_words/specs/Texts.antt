@@ -1,7 +1,7 @@
 -- The texts by which inputs and statuses are told.
 use Rattle.std.specs.Prelude.{ℕ, List, [], ◌∷◌, ◌++◌, codes}
 use Rattle.union_words.specs.declared.input.Input.{Input}
-use Rattle.union_words.specs.declared.input.Input.TheVariants.{Library, Asks, Script}
+use Rattle.union_words.specs.declared.input.Input.TheVariants.{Library, Asks, Script, Names}
 use Rattle.union_words.specs.declared.status.Status.{Status}
 use Rattle.union_words.specs.declared.status.Status.TheVariants.{Done, DoneWithRefusals, Usage, OpenFault, ReadFault, WriteFault, TooLong, Memory}
 
@@ -14,6 +14,7 @@ abbrev pub input_name : Input → List ℕ
 input_name (Library code) = code
 input_name Asks = codes "asks"
 input_name Script = codes "script"
+input_name Names = codes "names"
 
 -- the one line of a run that ended early; none of a run that was done, or could not write
 abbrev pub early_text : Status → List ℕ

@@ -13,6 +13,8 @@ pub enum Input {
     Asks,
     /// The script.
     Script,
+    /// The file of names.
+    Names,
 }
 
 impl Input {
@@ -24,6 +26,7 @@ impl Input {
             Input::Library(library) => library.bytes(),
             Input::Asks => b"asks",
             Input::Script => b"script",
+            Input::Names => b"names",
         }
     }
 }
