@@ -1,5 +1,6 @@
 -- What the code's jobs and lines of scripts stand for.
 use Rattle.std.specs.Prelude.{List, false}
+use Rattle.std.specs.Option.{option_copied}
 use Rattle.union_words.specs.declared.library_file.LibraryFile.{LibraryFile as FileInPlace}
 use Rattle.union_words.specs.declared.libraries.Libraries.{Libraries}
 use Rattle.union_words.specs.declared.loading.Loading.{Loading as LoadingInPlace}
@@ -26,12 +27,18 @@ abbrev pub loading_meaning : LoadingInPlace → Loading
 loading_meaning loading = record {
   workers = loading.workers.number;
   prefer = loading.prefer;
+  names = option_copied loading.names;
   libraries = libraries_meaning loading.libraries;
 }
 
 -- the options, and the words after them
 abbrev pub options_meaning : OptionsInPlace → Options
-options_meaning options = record { workers = options.workers.number; prefer = options.prefer; rest = options.rest.now }
+options_meaning options = record {
+  workers = options.workers.number;
+  prefer = options.prefer;
+  names = option_copied options.names;
+  rest = options.rest.now;
+}
 
 -- the job that the trial is
 abbrev pub trial_meaning : TrialOfNumbers → Job

@@ -15,10 +15,12 @@ pub record LibraryFile : Type 0 where
   pub library : List ℕ
   pub path : List ℕ
 
--- how files are loaded: by so many workers, with this preference among libraries, the best first, and the libraries
+-- how files are loaded: by so many workers, with this preference among libraries, the best first, with the names of the file of
+-- that path, where there is one, and the libraries
 pub record Loading : Type 0 where
   pub workers : ℕ
   pub prefer : List (List ℕ)
+  pub names : Option (List ℕ)
   pub libraries : List LibraryFile
 
 -- what the words ask for
@@ -137,16 +139,39 @@ abbrev pub prefer_in : List (List ℕ) → List (List ℕ) × List (List ℕ)
 prefer_in [] = ([], [])
 prefer_in (word ∷ rest) = prefer_or (prefer_word word) rest (word ∷ rest)
 
+-- the text, where it is a path
+abbrev pub path_of : List ℕ → Option (List ℕ)
+path_of text = (if is_path text then Some text else None)
+
+-- the path in a word `--names=PATH`
+abbrev pub names_word : List ℕ → Option (List ℕ)
+names_word word = option_and_then path_of (option_text (codes "--names=") word)
+
+-- this path of a file of names, and the words after the option that gives it; or no such file, and all of the words
+abbrev pub names_or : Option (List ℕ) → List (List ℕ) → List (List ℕ) → Option (List ℕ) × List (List ℕ)
+names_or None rest words = (None, words)
+names_or (Some path) rest words = (Some path, rest)
+
+-- the path of the file of names, by a first word `--names=PATH` where there is one, and the words after it
+abbrev pub names_in : List (List ℕ) → Option (List ℕ) × List (List ℕ)
+names_in [] = (None, [])
+names_in (word ∷ rest) = names_or (names_word word) rest (word ∷ rest)
+
 -- the options that `export`, `works` and `watch` have in common, and the words after them
 pub record Options : Type 0 where
   pub workers : ℕ
   pub prefer : List (List ℕ)
+  pub names : Option (List ℕ)
   pub rest : List (List ℕ)
+
+-- so many workers, this preference, and what the words say of names
+abbrev pub named_options : ℕ → List (List ℕ) → List (List ℕ) → Options
+named_options workers prefer words =
+    record { workers = workers; prefer = prefer; names = (names_in words).0; rest = (names_in words).1 }
 
 -- the options in their order, and the words after them
 abbrev pub options_in : List (List ℕ) → Options
-options_in words =
-    record { workers = (workers_in words).0; prefer = (prefer_in (workers_in words).1).0; rest = (prefer_in (workers_in words).1).1 }
+options_in words = named_options (workers_in words).0 (prefer_in (workers_in words).1).0 (prefer_in (workers_in words).1).1
 
 -- the word that asks for MARC in JSON
 abbrev pub is_json_word : List ℕ → Bool
@@ -157,19 +182,20 @@ abbrev pub form_in : List (List ℕ) → Form × List (List ℕ)
 form_in [] = (Iso2709, [])
 form_in (word ∷ rest) = (if is_json_word word then (Json, rest) else (Iso2709, word ∷ rest))
 
--- one to 64 words `LIB=PATH`, loaded by so many workers and with this preference
-abbrev pub loading_of : ℕ → List (List ℕ) → List (List ℕ) → Option Loading
-loading_of workers prefer words =
-    (if are_libraries words then Some (record { workers = workers; prefer = prefer; libraries = libraries_of words }) else None)
+-- one to 64 words `LIB=PATH`, loaded as the options say
+abbrev pub loading_of : Options → List (List ℕ) → Option Loading
+loading_of options words =
+    (if are_libraries words
+    then Some (record { workers = options.workers; prefer = options.prefer; names = options.names; libraries = libraries_of words })
+    else None)
 
 -- what the options and the words after them say of a load
 abbrev pub loading_by : Options → Option Loading
-loading_by options = loading_of options.workers options.prefer options.rest
+loading_by options = loading_of options options.rest
 
 -- after `export` and the options that the commands have in common
 abbrev pub export_form_job : Options → Option Job
-export_form_job options =
-    option_map (Export (form_in options.rest).0) (loading_of options.workers options.prefer (form_in options.rest).1)
+export_form_job options = option_map (Export (form_in options.rest).0) (loading_of options (form_in options.rest).1)
 
 -- after `export`
 abbrev pub export_job : List (List ℕ) → Option Job
@@ -178,10 +204,6 @@ export_job words = export_form_job (options_in words)
 -- and after `works`
 abbrev pub works_job : List (List ℕ) → Option Job
 works_job words = option_map Works (loading_by (options_in words))
-
--- the text, where it is a path
-abbrev pub path_of : List ℕ → Option (List ℕ)
-path_of text = (if is_path text then Some text else None)
 
 -- the path in a word `--ask=PATH`
 abbrev pub ask_word : List ℕ → Option (List ℕ)

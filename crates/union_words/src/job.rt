@@ -22,11 +22,11 @@ pub enum Job<'a> {
     ToJson(LibraryFile<'a>),
     /// `fromjson LIB=PATH`: write the records of one file of MARC in JSON as ISO 2709.
     FromJson(LibraryFile<'a>),
-    /// `export [--workers=N] [--prefer=LIB,..] [--json] LIB=PATH ..`: load and export.
+    /// `export [--workers=N] [--prefer=LIB,..] [--names=PATH] [--json] LIB=PATH ..`: load and export.
     Export(Form, Loading<'a>),
-    /// `works [--workers=N] [--prefer=LIB,..] LIB=PATH ..`: load and list the works.
+    /// `works [--workers=N] [--prefer=LIB,..] [--names=PATH] LIB=PATH ..`: load and list the works.
     Works(Loading<'a>),
-    /// `watch --ask=PATH [--workers=N] [--prefer=LIB,..] LIB=PATH ..`: load, and answer the questions of that file beside.
+    /// `watch --ask=PATH [--workers=N] [--prefer=LIB,..] [--names=PATH] LIB=PATH ..`: load, and answer the questions of that file beside.
     Watch(&'a [u8], Loading<'a>),
     /// `follow --ask=PATH LIB=PATH ..`: load one library after the other, and answer the questions of that file beside.
     Follow(&'a [u8], Libraries<'a>),
@@ -135,7 +135,7 @@ fn export_job(words: &[Bytes]) -> Option<Job<'_>>
 {
     let options = Options::read(words);
     let (form, rest) = form_in(options.rest);
-    match Loading::read(options.workers, options.prefer, rest) {
+    match Loading::read(options, rest) {
         Some(loading) => Some(Job::Export(form, loading)),
         None => None,
     }
@@ -145,7 +145,8 @@ fn works_job(words: &[Bytes]) -> Option<Job<'_>>
     ensures { option_map job_meaning result ≡ Words.works_job words.now }
 {
     let options = Options::read(words);
-    match Loading::read(options.workers, options.prefer, options.rest) {
+    let libraries = options.rest;
+    match Loading::read(options, libraries) {
         Some(loading) => Some(Job::Works(loading)),
         None => None,
     }
@@ -165,7 +166,8 @@ fn asking_job<'a>(asks: &'a [u8], words: &'a [Bytes]) -> Option<Job<'a>>
     ensures { option_map job_meaning result ≡ Words.asking_job (Some asks.now) words.now }
 {
     let common = Options::read(words);
-    match Loading::read(common.workers, common.prefer, common.rest) {
+    let rest = common.rest;
+    match Loading::read(common, rest) {
         Some(loading) => Some(Job::Watch(asks, loading)),
         None => None,
     }

@@ -14,6 +14,7 @@ pub mod libraries;
 pub mod library_file;
 pub mod lines;
 pub mod loading;
+mod names;
 pub mod number;
 pub mod options;
 pub mod prefer;

@@ -17,12 +17,12 @@ USAGE
     union check LIB=PATH         say which records of the file break a rule
     union tojson LIB=PATH        write the file's records as MARC in JSON
     union fromjson LIB=PATH      write a file of MARC in JSON as ISO 2709
-    union export [--workers=N] [--prefer=LIB,..] [--json] LIB=PATH ..
-                                 load the files and export the union catalogue
-    union works [--workers=N] [--prefer=LIB,..] LIB=PATH ..
+    union export [--workers=N] [--prefer=LIB,..] [--names=PATH] [--json]
+                 LIB=PATH ..     load the files and export the union catalogue
+    union works [--workers=N] [--prefer=LIB,..] [--names=PATH] LIB=PATH ..
                                  load the files and list the works
-    union watch --ask=PATH [--workers=N] [--prefer=LIB,..] LIB=PATH ..
-                                 load the files, and answer the questions of a
+    union watch --ask=PATH [--workers=N] [--prefer=LIB,..] [--names=PATH]
+                LIB=PATH ..      load the files, and answer the questions of a
                                  file beside
     union follow --ask=PATH LIB=PATH ..
                                  load one file after the other, and answer the
@@ -48,6 +48,13 @@ USAGE
     libraries that are not named, the encoding level decides and then 005, as
     without the option. A library may be named that is not loaded. What matches
     is the same with any preference, and so is all else that an edition shows.
+    --names is a file of MARC 21 authority records. Where a name of an edition
+    (100, 110, 111, 700, 710, 711) is a see-from heading in it (400, 410, 411),
+    the key of the work has the heading that is established for it (100, 110,
+    111), so the works of one person stand together. A see-from heading stays as
+    it is where it is established itself or two headings are established for it,
+    and is looked up once. Records of status d count for nothing. What matches
+    is the same with any names.
     A record of status d withdraws the library's record with its control
     number; any other is loaded, in place of an earlier one.
     SEED is 0 to 18446744073709551615, COUNT 1 to 200000 and WORKERS 1 to 64,
@@ -92,8 +99,13 @@ WHAT GOES WHERE
     export    Standard output has the catalogue's records, as ISO 2709, or with
               --json as lines of MARC in JSON. Records that match are merged
               into one.
-              Standard error has, for each library in the order of the command,
-              the refused records as check tells them, then
+              Standard error has with --names first a line
+              'names refused FRAME NAME PLACE' for each record of that file that
+              is refused, then 'names frames F pairs P refused N': P see-from
+              headings are looked up. NAME is Kind, Coding, NotUtf8, Heading or
+              the name of a rule.
+              Then it has, for each library in the order of the command, the
+              refused records as check tells them, and
               'LIB frames F added A replaced R removed D absent X refused N'.
               Then it has a line 'left LIB.CTL N' for each exported record that
               had no room for N fields.
@@ -151,6 +163,8 @@ EXAMPLES
         union fromjson LIBA=liba.jsonl > again.mrc
     The same, with the cataloguing of LIBB before that of all others:
         union export --prefer=LIBB LIBA=liba.mrc LIBB=libb.mrc > union.mrc
+    The works of two libraries, by the established forms of names:
+        union works --names=names.mrc LIBA=liba.mrc LIBB=libb.mrc
     Questions that are answered while two libraries are loaded:
         union watch --ask=questions.txt LIBA=liba.mrc LIBB=libb.mrc
     The same, with readers that never wait for a turn:
