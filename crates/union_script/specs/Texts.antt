@@ -1,7 +1,9 @@
 -- What a script writes, and how its lines change the catalogue.
 use Rattle.std.specs.Prelude.{◌≡◌, ℕ, Bool, true, false, nat_lt, List, [], ◌∷◌, ◌++◌, length, map, Result, Ok, Err}
 use Rattle.std.specs.List.{list_any}
+use Rattle.std.specs.FinMap.{empty}
 use Rattle.std.specs.Result.{is_err}
+use Rattle.authority_names.specs.Leads.{Table}
 use Rattle.catalogue_query.specs.Answers.{answer_lines}
 use Rattle.catalogue_query.specs.Queries.{query_of}
 use Rattle.catalogue_query.specs.declared.query.Query.{Query}
@@ -78,36 +80,36 @@ pub record Loads (told : Bool) (library : List ℕ) (all : List Frame) (history 
   pub report : text ≡ notices ++ report_text library all (found_in (current history) batches)
   pub applied : now ≡ history ++ turns_of batches
 
--- the text is the export of the catalogue of that history
-pub record IsExport (history : List HistoryEntry) (text : List ℕ) : Type 0 where
+-- the text is the export of the catalogue of that history, by these names
+pub record IsExport (names : Table) (history : List HistoryEntry) (text : List ℕ) : Type 0 where
   pub editions : List Edition
   pub resolved : AreEditionsOf history editions
-  pub export : text ≡ export_text editions
+  pub export : text ≡ export_text names editions
 
--- the text is the list of the works of the catalogue of that history
-pub record IsWorkList (history : List HistoryEntry) (text : List ℕ) : Type 0 where
+-- the text is the list of the works of the catalogue of that history, by these names
+pub record IsWorkList (names : Table) (history : List HistoryEntry) (text : List ℕ) : Type 0 where
   pub editions : List Edition
   pub resolved : AreEditionsOf history editions
-  pub works : text ≡ works_text_of editions
+  pub works : text ≡ works_text_of names editions
 
--- the text is the answer to a query of the catalogue of that history
-pub record IsAnswer (query : Query) (history : List HistoryEntry) (text : List ℕ) : Type 0 where
+-- the text is the answer to a query of the catalogue of that history, by these names
+pub record IsAnswer (names : Table) (query : Query) (history : List HistoryEntry) (text : List ℕ) : Type 0 where
   pub editions : List Edition
   pub resolved : AreEditionsOf history editions
-  pub answer : text ≡ ended_lines (answer_lines query (current history) editions)
+  pub answer : text ≡ ended_lines (answer_lines names query (current history) editions)
 
 -- what is written of a line that gives this query, or none for this reason
 abbrev pub IsReply : Result Query QueryRefusal → List HistoryEntry → List ℕ → Type 0
-IsReply (Ok query) history text = IsAnswer query history text
+IsReply (Ok query) history text = IsAnswer empty query history text
 IsReply (Err Unknown) history text = text ≡ refused_unknown
 IsReply (Err BadRest) history text = text ≡ refused_word
 IsReply (Err QueryMemory) history text = ⊥
 
--- what a line writes over that history, and the history after it
+-- what a line writes over that history, with no table of names, and the history after it
 abbrev pub Writes : Contents → ScriptLine → List HistoryEntry → List ℕ → List HistoryEntry → Type 0
 Writes contents (Load told file) history text now = Loads told file.library (frames (contents file.path)) history text now
-Writes contents Export history text now = IsExport history text × (now ≡ history)
-Writes contents Works history text now = IsWorkList history text × (now ≡ history)
+Writes contents Export history text now = IsExport empty history text × (now ≡ history)
+Writes contents Works history text now = IsWorkList empty history text × (now ≡ history)
 Writes contents Notices history text now = (text ≡ []) × (now ≡ history)
 Writes contents (Ask line) history text now = IsReply (query_of line) history text × (now ≡ history)
 Writes contents Word history text now = (text ≡ refused_word) × (now ≡ history)

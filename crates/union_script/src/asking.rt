@@ -1,5 +1,6 @@
 //! A line of a script that asks something of the catalogue.
-ghost use Rattle.std.specs.Prelude.{◌∷◌, [], IfOk};
+ghost use Rattle.std.specs.Prelude.{◌≡◌, ◌∷◌, [], IfOk};
+ghost use Rattle.std.specs.FinMap.{empty};
 ghost use Rattle.union_words.specs.Flows.{ShelfFlow, IsCalm};
 ghost use Rattle.union_words.specs.ScriptLines.{Ask as AskLine};
 ghost use Rattle.union_script.specs.Lines.{LinesRun};
@@ -17,7 +18,7 @@ use union_words::status::Status;
 
 /// The answer to a query, as it is written.
 fn answer_text(alloc: Global, catalogue: &Catalogue, query: &Query) -> Result<Vec<u8>, Memory>
-    ensures { IfOk result (λ text. IsAnswer query.now catalogue.now text.items) }
+    ensures { IfOk result (λ text. IsAnswer catalogue.now.names query.now catalogue.now.history text.items) }
 {
     let found = answer(alloc, catalogue, query)?;
     let mut text = Vec::new(alloc);
@@ -32,7 +33,8 @@ pub fn run_ask<O: Sink>(
     catalogue: &Catalogue,
     out: &mut O,
 ) -> Result<bool, Status>
-    ensures { (shelf : ShelfFlow) → IsCalm shelf → LinesRun result (AskLine line.now ∷ []) catalogue.now catalogue.now shelf
+    requires { catalogue.now.names ≡ empty }
+    ensures { (shelf : ShelfFlow) → IsCalm shelf → LinesRun result (AskLine line.now ∷ []) catalogue.now.history catalogue.now.history shelf
         (record { old = O.written out.old; new = O.written out.new; before = O.faults out.old; after = O.faults out.new }) }
 {
     match Query::read(alloc, line) {

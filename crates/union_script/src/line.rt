@@ -33,7 +33,7 @@ fn run_load<L: Ledger, F: Shelf, O: Sink>(
 ) -> Result<bool, Status>
     ensures files { F.files shelf.new ≡ F.files shelf.old }
     ensures told { OnOk result (union.new.told ≡ union.old.told) }
-    ensures run { LinesRun result (LoadLine union.old.told (file_meaning file.now) ∷ []) union.old.catalogue union.new.catalogue
+    ensures run { LinesRun result (LoadLine union.old.told (file_meaning file.now) ∷ []) union.old.catalogue.history union.new.catalogue.history
         (record { files = F.files shelf.old; before = F.faults shelf.old; after = F.faults shelf.new })
         (record { old = O.written out.old; new = O.written out.new; before = O.faults out.old; after = O.faults out.new }) }
 {
@@ -45,7 +45,7 @@ fn run_load<L: Ledger, F: Shelf, O: Sink>(
 
 /// Writes the export. Which fields were left out is not told.
 fn run_export<O: Sink>(alloc: Global, catalogue: &Catalogue, out: &mut O) -> Result<bool, Status>
-    ensures { (text : List ℕ) × IsExport catalogue.now text × Says result text false
+    ensures { (text : List ℕ) × IsExport catalogue.now.names catalogue.now.history text × Says result text false
         (record { old = O.written out.old; new = O.written out.new; before = O.faults out.old; after = O.faults out.new }) }
 {
     let mut left = Vec::new(alloc);
@@ -58,7 +58,7 @@ fn run_export<O: Sink>(alloc: Global, catalogue: &Catalogue, out: &mut O) -> Res
 
 /// Writes the list of the works.
 fn run_works<O: Sink>(alloc: Global, catalogue: &Catalogue, out: &mut O) -> Result<bool, Status>
-    ensures { (text : List ℕ) × IsWorkList catalogue.now text × Says result text false
+    ensures { (text : List ℕ) × IsWorkList catalogue.now.names catalogue.now.history text × Says result text false
         (record { old = O.written out.old; new = O.written out.new; before = O.faults out.old; after = O.faults out.new }) }
 {
     match works_text(alloc, catalogue, out) {
@@ -78,7 +78,7 @@ fn run_line<L: Ledger, F: Shelf, O: Sink>(
 ) -> Result<bool, Status>
     ensures files { F.files shelf.new ≡ F.files shelf.old }
     ensures told { OnOk result (union.new.told ≡ tells_after union.old.told (script_line line.now)) }
-    ensures run { LinesRun result (told_line union.old.told (script_line line.now) ∷ []) union.old.catalogue union.new.catalogue
+    ensures run { LinesRun result (told_line union.old.told (script_line line.now) ∷ []) union.old.catalogue.history union.new.catalogue.history
         (record { files = F.files shelf.old; before = F.faults shelf.old; after = F.faults shelf.new })
         (record { old = O.written out.old; new = O.written out.new; before = O.faults out.old; after = O.faults out.new }) }
 {
@@ -106,7 +106,7 @@ pub fn run_unskipped<L: Ledger, F: Shelf, O: Sink>(
     ensures files { F.files shelf.new ≡ F.files shelf.old }
     ensures told { OnOk result (union.new.told
         ≡ told_after union.old.told (asked_by (line.now ∷ []))) }
-    ensures run { LinesRun result (told_from union.old.told (asked_by (line.now ∷ []))) union.old.catalogue union.new.catalogue
+    ensures run { LinesRun result (told_from union.old.told (asked_by (line.now ∷ []))) union.old.catalogue.history union.new.catalogue.history
         (record { files = F.files shelf.old; before = F.faults shelf.old; after = F.faults shelf.new })
         (record { old = O.written out.old; new = O.written out.new; before = O.faults out.old; after = O.faults out.new }) }
 {

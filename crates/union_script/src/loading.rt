@@ -54,7 +54,7 @@ fn apply_batches<L: Ledger, S: Source>(
     ensures told { OnOk result (union.new.told ≡ union.old.told) }
     ensures reads { Reads LARGEST_SOURCE result (record { told = S.left source.old; before = S.faults source.old; after = S.faults source.new })
         (λ done bytes. AreApplied union.old.told reader.old.library (frames bytes)
-        union.old.catalogue union.new.catalogue reader.new done) }
+        union.old.catalogue.history union.new.catalogue.history reader.new done) }
 {
     let mut counts = OutcomeCounts::new();
     let mut notices = Vec::new(alloc);
@@ -76,7 +76,7 @@ fn load_source<L: Ledger, S: Source>(
     ensures told { OnOk result (union.new.told ≡ union.old.told) }
     ensures reads { Reads LARGEST_SOURCE result (record { told = S.left source.old; before = S.faults source.old; after = S.faults source.new })
         (λ report bytes. IsLoaded union.old.told library.now (frames bytes)
-        union.old.catalogue union.new.catalogue report) }
+        union.old.catalogue.history union.new.catalogue.history report) }
 {
     let mut reader = BatchReader::open(alloc, &Preference::none(), library, LARGEST_SOURCE)?;
     let applied = apply_batches(alloc, &mut reader, union, source)?;
@@ -110,7 +110,7 @@ pub fn load_file<L: Ledger, F: Shelf>(
     ensures reads { ReadsFile result (record { input = Input.Library file.now.library; path = (file_meaning file.now).path })
         (record { files = F.files shelf.old; before = F.faults shelf.old; after = F.faults shelf.new })
         (λ report bytes. IsLoaded union.old.told file.now.library (frames bytes)
-        union.old.catalogue union.new.catalogue report) }
+        union.old.catalogue.history union.new.catalogue.history report) }
 {
     let input = Input::Library(file.library);
     let Ok(path) = Bytes::of(alloc, file.path) else {

@@ -47,10 +47,11 @@ fn apply_noticed<L: Ledger>(
     steps: &mut Steps<L>,
     text: &mut Vec<u8>,
 ) -> Result<Vec<Outcome>, Memory>
-    ensures appended { OnOk result (catalogue.new ≡ with_turn catalogue.old batch) }
+    ensures appended { OnOk result (catalogue.new.history ≡ with_turn catalogue.old.history batch) }
+    ensures names { catalogue.new.names ≡ catalogue.old.names }
     ensures outcomes { IfOk result (λ found. found.items
-        ≡ outcomes batch.library (current catalogue.old) batch.ops) }
-    ensures notice { OnOk result ((told : List ℕ) × IsNotice catalogue.old batch told
+        ≡ outcomes batch.library (current catalogue.old.history) batch.ops) }
+    ensures notice { OnOk result ((told : List ℕ) × IsNotice catalogue.old.history batch told
         × (text.new.items ≡ text.old.items ++ told)) }
 {
     // The counts are not used: their clauses say that there are editions before the turn, and after it, for the notice to tell of.
@@ -72,11 +73,11 @@ pub fn apply_turn<L: Ledger>(
     text: &mut Vec<u8>,
 ) -> Result<Vec<Outcome>, Memory>
     ensures told { OnOk result (union.new.told ≡ union.old.told) }
-    ensures appended { OnOk result (union.new.catalogue ≡ with_turn union.old.catalogue batch) }
+    ensures appended { OnOk result (union.new.catalogue.history ≡ with_turn union.old.catalogue.history batch) }
     ensures outcomes { IfOk result (λ found. found.items
-        ≡ outcomes batch.library (current union.old.catalogue) batch.ops) }
+        ≡ outcomes batch.library (current union.old.catalogue.history) batch.ops) }
     ensures tells { OnOk result ((said : List ℕ)
-        × TellsTurn union.old.told union.old.catalogue batch said
+        × TellsTurn union.old.told union.old.catalogue.history batch said
         × (text.new.items ≡ text.old.items ++ said)) }
 {
     if union.told {

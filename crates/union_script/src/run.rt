@@ -1,5 +1,6 @@
 //! The run of a script.
 ghost use Rattle.std.specs.Prelude.{◌≡◌, ◌<◌, List, [], IfOk};
+ghost use Rattle.catalogue_core.specs.Catalogues.{empty_catalogue};
 ghost use Rattle.catalogue_core.specs.declared.history_entry.HistoryEntry.{HistoryEntry};
 ghost use Rattle.union_words.specs.Statuses.{end_by};
 ghost use Rattle.union_script.specs.Lines.{LinesRun};
@@ -24,7 +25,7 @@ use union_words::status::Status;
 
 /// A catalogue without history, which keeps its works, since any line may ask for them.
 fn empty_catalogue(alloc: Global) -> Result<Catalogue, Memory>
-    ensures { IfOk result (λ catalogue. catalogue ≡ []) }
+    ensures { IfOk result (λ catalogue. catalogue ≡ empty_catalogue) }
 {
     let mut catalogue = Catalogue::empty(alloc)?;
     catalogue.keep_works(alloc)?;

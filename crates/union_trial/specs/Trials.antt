@@ -1,5 +1,6 @@
 -- What a run of the trial writes.
 use Rattle.std.specs.Prelude.{◌≡◌, ℕ, List, [], ◌∷◌, ◌++◌, codes, decimal}
+use Rattle.std.specs.FinMap.{empty}
 use Rattle.std.specs.Io.KnownBytes.{Appends}
 use Rattle.union_io.specs.Writing.{AppendsFront}
 use Rattle.union_reports.specs.Reports.{counted}
@@ -26,7 +27,7 @@ pub record IsTrialText (seed count : ℕ) (text : List ℕ) : Type 0 where
   pub history : List HistoryEntry
   pub loaded : AreLoaded seed count 3 history
   pub measures : Measures
-  pub measured : AreMeasured history measures
+  pub measured : AreMeasured empty history measures
   pub line : text ≡ trial_line count measures
 
 -- a run with that status: the line was written; or a prefix of it, where a write failed; or nothing, where memory ran out. It

@@ -70,7 +70,8 @@ fn load_library<R: Threads + Sync, L: Ledger>(
     requires place { place < 3 }
     requires some_worker { 1 ≤ workers }
     requires most_workers { workers ≤ 64 }
-    ensures { OnOk result (Loads seed count place catalogue.old catalogue.new) }
+    ensures names { catalogue.new.names ≡ catalogue.old.names }
+    ensures loads { OnOk result (Loads seed count place catalogue.old.history catalogue.new.history) }
 {
     let library = library_code(place);
     let mut draws = LibraryDraws::of(seed, count, place);
@@ -102,8 +103,9 @@ pub fn load_all<R: Threads + Sync, L: Ledger>(
     requires most { count ≤ MOST_FRAMES }
     requires some_worker { 1 ≤ workers }
     requires most_workers { workers ≤ 64 }
-    requires new { catalogue.old ≡ [] }
-    ensures { OnOk result (AreLoaded seed count 3 catalogue.new) }
+    requires new { catalogue.old.history ≡ [] }
+    ensures names { catalogue.new.names ≡ catalogue.old.names }
+    ensures loaded { OnOk result (AreLoaded seed count 3 catalogue.new.history) }
 {
     for place in 0..LIBRARIES {
         load_library(rt, alloc, seed, count, place, workers, catalogue, steps)?;

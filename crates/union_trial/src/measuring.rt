@@ -13,31 +13,37 @@ use std::alloc::Global;
 use union_base::memory::Memory;
 
 /// How many bytes the edition's record has in the export. The record is made in place of what the buffer holds.
-fn record_size(alloc: Global, edition: &Edition, buffer: &mut Vec<u8>) -> Result<usize, Memory>
-    ensures value { IfOk result (λ size. size ≡ length (edition_text edition.now)) }
+fn record_size(
+    alloc: Global,
+    catalogue: &Catalogue,
+    edition: &Edition,
+    buffer: &mut Vec<u8>,
+) -> Result<usize, Memory>
+    ensures value { IfOk result (λ size. size ≡ length (edition_text catalogue.now.names edition.now)) }
     ensures bound { IfOk result (λ size. size ≤ 99999) }
 {
     buffer.clear();
-    append_edition(alloc, edition, buffer)?;
+    append_edition(alloc, catalogue, edition, buffer)?;
     Ok(buffer.len())
 }
 
 /// How many bytes the export of the catalogue has. The records are made one after the other, and none is kept.
 fn export_size(alloc: Global, catalogue: &Catalogue) -> Result<u128, Memory>
-    ensures { IfOk result (λ size. (all : List EditionModel) × AreEditionsOf catalogue.now all × (size ≡ length (export_text all))) }
+    ensures { IfOk result (λ size. (all : List EditionModel) × AreEditionsOf catalogue.now.history all
+        × (size ≡ length (export_text catalogue.now.names all))) }
 {
     let editions = catalogue.editions(alloc)?;
-    records_size(alloc, editions.as_slice())
+    records_size(alloc, catalogue, editions.as_slice())
 }
 
 /// How many bytes the records of the editions have.
-fn records_size(alloc: Global, editions: &[&Edition]) -> Result<u128, Memory>
-    ensures { IfOk result (λ size. size ≡ length (export_text (map (λ e. e.now) editions.now))) }
+fn records_size(alloc: Global, catalogue: &Catalogue, editions: &[&Edition]) -> Result<u128, Memory>
+    ensures { IfOk result (λ size. size ≡ length (export_text catalogue.now.names (map (λ e. e.now) editions.now))) }
 {
     let mut buffer = Vec::new(alloc);
     let mut size: u128 = 0;
     for edition in editions {
-        size += record_size(alloc, edition, &mut buffer)? as u128;
+        size += record_size(alloc, catalogue, edition, &mut buffer)? as u128;
     }
     Ok(size)
 }
@@ -46,7 +52,7 @@ fn records_size(alloc: Global, editions: &[&Edition]) -> Result<u128, Memory>
 ///
 /// Returns `Memory` if allocation fails.
 pub fn measured(alloc: Global, catalogue: &Catalogue) -> Result<Measures, Memory>
-    ensures { IfOk result (λ m. AreMeasured catalogue.now m) }
+    ensures { IfOk result (λ m. AreMeasured catalogue.now.names catalogue.now.history m) }
 {
     let bytes = export_size(alloc, catalogue)?;
     let works = catalogue.work_count(alloc)?;

@@ -16,13 +16,13 @@ returns-in-Ok-clause-run g c =
     let told = c.args.union.now.told in
     let files = g.F.Shelf.files c.args.shelf.now in
     let out = outflow (g.O.Sink.written c.args.out.now) (g.O.Sink.written c.say.new.out) (g.O.Sink.faults c.args.out.now) (g.O.Sink.faults c.say.new.out) in
-    says_line c.say.result (Load told file) c.args.union.now.catalogue c.load_file.new.union.catalogue report.text.items report.refused files
+    says_line c.say.result (Load told file) c.args.union.now.catalogue.history c.load_file.new.union.catalogue.history report.text.items report.refused files
     (g.F.Shelf.faults c.args.shelf.now) (g.F.Shelf.faults c.load_file.new.shelf) out c.in-Ok.ensures.reads.0
     (on_files files (λ contents read. record { within = one_within contents told file read.0; writes = read.1.loads; refused = read.1.refused }) c.in-Ok.ensures.reads.1)
     (subst (λ text. Says c.say.result text report.refused out) c.as_slice.ensures.value c.say.ensures)
 
 pub returns-in-Err-clause-run : goal.returns-in-Err-clause-run
 returns-in-Err-clause-run g c =
-    stop_at_file c.in-Err.status c.args.union.now.told (file_meaning c.args.file.now) c.args.union.now.catalogue
+    stop_at_file c.in-Err.status c.args.union.now.told (file_meaning c.args.file.now) c.args.union.now.catalogue.history
     (flow (g.F.Shelf.files c.args.shelf.now) (g.F.Shelf.faults c.args.shelf.now) (g.F.Shelf.faults c.load_file.new.shelf))
     (g.O.Sink.written c.args.out.now) (g.O.Sink.faults c.args.out.now) (g.O.Sink.faults c.args.out.now) c.in-Err.ensures.reads

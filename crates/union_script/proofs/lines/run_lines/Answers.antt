@@ -17,7 +17,7 @@ loop-line-init g c = record {
   parts =
       ap (λ told. told_from told (asked_by (lines_of c.args.script.now))) (sym c.requires)
       ∙ ap (λ lines. told_from c.args.union.now.told (asked_by lines)) (sym c.of-lines.ensures);
-  run = on_all (g.F.Shelf.files c.args.shelf.now) (λ contents. run_none contents c.args.union.now.catalogue (g.O.Sink.written c.args.out.now));
+  run = on_all (g.F.Shelf.files c.args.shelf.now) (λ contents. run_none contents c.args.union.now.catalogue.history (g.O.Sink.written c.args.out.now));
 }
 
 pub loop-line-preserved : goal.loop-line-preserved
@@ -29,9 +29,9 @@ loop-line-preserved g c =
     let old = g.O.Sink.written c.args.out.now in
     let mid = g.O.Sink.written c.loop-line.out in
     let new = g.O.Sink.written c.run_unskipped.new.out in
-    let history = c.args.union.now.catalogue in
-    let between = c.loop-line.union.catalogue in
-    let now = c.run_unskipped.new.union.catalogue in
+    let history = c.args.union.now.catalogue.history in
+    let between = c.loop-line.union.catalogue.history in
+    let now = c.run_unskipped.new.union.catalogue.history in
     let told = c.in-Ok.told in
     let tells = c.loop-line.union.told in
     let asked = asked_by (line ∷ []) in
@@ -69,8 +69,8 @@ returns-in-Err g c =
     let a = g.F.Shelf.faults c.args.shelf.now in
     let b = g.F.Shelf.faults c.loop-line.shelf in
     let d = g.F.Shelf.faults c.run_unskipped.new.shelf in
-    let history = c.args.union.now.catalogue in
-    let between = c.loop-line.union.catalogue in
+    let history = c.args.union.now.catalogue.history in
+    let between = c.loop-line.union.catalogue.history in
     let status = c.in-Err.status in
     let tells = c.loop-line.union.told in
     let asked = asked_by (line ∷ []) in

@@ -15,7 +15,7 @@ invariant-loop-line g l = record {
   first : List ScriptLine;
   parts : script_of l.script ≡ first ++ told_from l.union.told (asked_by l.lines);
   run : IfSome (g.F.Shelf.files l.initial.shelf) (λ contents.
-      HasRun contents first l.initial.union.catalogue l.union.catalogue l.refused (g.O.Sink.written l.initial.out) (g.O.Sink.written l.out));
+      HasRun contents first l.initial.union.catalogue.history l.union.catalogue.history l.refused (g.O.Sink.written l.initial.out) (g.O.Sink.written l.out));
 }
 
 abbrev pub decreases-loop-line : goal.decreases-loop-line

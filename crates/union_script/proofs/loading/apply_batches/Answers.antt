@@ -24,7 +24,7 @@ loop-notices-init g c =
       hands = subst (λ reader. Hands library LARGEST_SOURCE left reader left []) (sym c.requires) (hands_none library LARGEST_SOURCE left);
       told = refl;
       tells = c.new-notices.ensures.items;
-      applied = sym (append-nil c.args.union.now.catalogue);
+      applied = sym (append-nil c.args.union.now.catalogue.history);
       found = c.new-counts.ensures.none;
       few = omega (arith, c.new-counts.ensures.total, ap (λ reader. most_ahead reader.stream) c.requires);
     }
@@ -37,13 +37,13 @@ loop-notices-preserved g c =
     let now = g.S.Source.left c.loop-notices.source in
     let then = g.S.Source.left c.next.new.source in
     let batch = c.in-Some.batch in
-    let history = c.args.union.now.catalogue in
+    let history = c.args.union.now.catalogue.history in
     let said = c.in_ok-found.ensures.tells.0 in
     let answers : Answers (Ok (Some batch)) c.loop-notices.reader now c.next.new.self then
     = subst (λ next. Answers (Ok next) c.loop-notices.reader now c.next.new.self then) c.in-Some.is c.in_ok-batch.ensures.answers in
     let fewer : most_ahead c.next.new.self.stream < most_ahead c.loop-notices.reader.stream
     = subst (λ next. OnSome next (most_ahead c.next.new.self.stream < most_ahead c.loop-notices.reader.stream)) c.in-Some.is c.in_ok-batch.ensures.fewer in
-    let items : c.as_slice.result.now ≡ outcomes batch.library (current c.loop-notices.union.catalogue) batch.ops
+    let items : c.as_slice.result.now ≡ outcomes batch.library (current c.loop-notices.union.catalogue.history) batch.ops
     = c.as_slice.ensures.value ∙ c.in_ok-found.ensures.outcomes in
     let all : found_in (current history) before.batches ++ c.as_slice.result.now ≡ found_in (current history) (before.batches ++ batch ∷ [])
     = ap (λ items. found_in (current history) before.batches ++ items) (items ∙ ap (λ h. outcomes batch.library (current h) batch.ops) before.applied)
@@ -60,10 +60,10 @@ loop-notices-preserved g c =
           subst (λ text. TellsTurns c.args.union.now.told history (before.batches ++ batch ∷ []) text) (sym c.in_ok-found.ensures.tells.2)
           (tells_more c.args.union.now.told history before.batches batch c.loop-notices.notices.items said before.tells
           (subst (λ h. TellsTurn c.args.union.now.told h batch said) before.applied
-          (subst (λ told. TellsTurn told c.loop-notices.union.catalogue batch said) before.told c.in_ok-found.ensures.tells.1)));
+          (subst (λ told. TellsTurn told c.loop-notices.union.catalogue.history batch said) before.told c.in_ok-found.ensures.tells.1)));
       applied = c.in_ok-found.ensures.appended ∙ ap (λ h. h ++ record { pass = 0; batch = batch } ∷ []) before.applied ∙ turns_more history before.batches batch;
       found = subst (λ found. AreCounted found c.count.new.self) all (c.count.ensures.more (found_in (current history) before.batches) before.found);
-      few = omega (arith, c.count.ensures.total, ap length items, few_outcomes batch (current c.loop-notices.union.catalogue), fewer, before.few);
+      few = omega (arith, c.count.ensures.total, ap length items, few_outcomes batch (current c.loop-notices.union.catalogue.history), fewer, before.few);
     }
 
 pub returns-clause-reads : goal.returns-clause-reads

@@ -19,9 +19,9 @@ invariant-loop-notices g l = record {
   batches : List Batch;
   hands : Hands l.initial.reader.library LARGEST_SOURCE (g.S.Source.left l.initial.source) l.reader (g.S.Source.left l.source) batches;
   told : l.union.told ≡ l.initial.union.told;
-  tells : TellsTurns l.initial.union.told l.initial.union.catalogue batches l.notices.items;
-  applied : l.union.catalogue ≡ l.initial.union.catalogue ++ turns_of batches;
-  found : AreCounted (found_in (current l.initial.union.catalogue) batches) l.counts;
+  tells : TellsTurns l.initial.union.told l.initial.union.catalogue.history batches l.notices.items;
+  applied : l.union.catalogue.history ≡ l.initial.union.catalogue.history ++ turns_of batches;
+  found : AreCounted (found_in (current l.initial.union.catalogue.history) batches) l.counts;
   few : counted l.counts + 256 * most_ahead l.reader.stream ≤ 256 * (LARGEST_SOURCE + 1);
 }
 

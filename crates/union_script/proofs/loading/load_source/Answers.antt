@@ -11,7 +11,7 @@ use Rattle.union_script.proofs.loading.load_source.Goals as goal
 pub returns-clause-reads : goal.returns-clause-reads
 returns-clause-reads g c =
     let library = c.args.library.now in
-    let history = c.args.union.now.catalogue in
+    let history = c.args.union.now.catalogue.history in
     let own : c.in_ok-reader.reader.library ≡ library = ap (λ reader. reader.library) c.in_ok-reader.ensures in (
       c.in_ok-applied.ensures.reads.0,
       on_told (g.S.Source.left c.args.source.now)

@@ -6,14 +6,14 @@ use Rattle.union_script.proofs.noticing.apply_noticed.Goals as goal
 
 pub returns-clause-notice : goal.returns-clause-notice
 returns-clause-notice g c =
-    let history = c.args.catalogue.now in
+    let history = c.args.catalogue.now.history in
     let batch = c.args.batch in
     let was = c.edition_count-before.ensures in
     let is = c.edition_count-after.ensures in
     let held = c.resolutions_can_be_held.ensures in
     let closed = c.in_ok-found.delta.closed.items in
     let opened = c.in_ok-found.delta.opened.items in
-    let appended : c.apply_told.new.self ≡ with_turn history batch = c.in_ok-found.ensures.appended in
+    let appended : c.apply_told.new.self.history ≡ with_turn history batch = c.in_ok-found.ensures.appended in
     let delta : IsDelta was.0 is.0 closed opened = c.in_ok-found.ensures.delta was.0 is.0 was.1 is.1 in
     let turn : c.turns.result ≡ length history + 1
     = c.turns.ensures.value ∙ ap length appended ∙ length-append history (record { pass = 0; batch = batch } ∷ []) in (

@@ -6,7 +6,7 @@ use Rattle.union_trial.proofs.measuring.measured.Goals as goal
 
 pub returns : goal.returns
 returns c =
-    let history = c.args.catalogue.now in
+    let history = c.args.catalogue.now.history in
     let sized = c.in_ok-bytes.ensures in
     let counted = c.edition_count.ensures in
     let worked = c.in_ok-works.ensures in
@@ -15,6 +15,6 @@ returns c =
       are = sized.1;
       records = c.record_count.ensures;
       editions = counted.2 ∙ ap length (same_editions_of history counted.0 sized.0 counted.1 sized.1);
-      works = worked.2 ∙ ap (λ all. length (works_of (work_pairs all))) (same_editions_of history worked.0 sized.0 worked.1 sized.1);
+      works = worked.2 ∙ ap (λ all. length (works_of (work_pairs c.args.catalogue.now.names all))) (same_editions_of history worked.0 sized.0 worked.1 sized.1);
       bytes = sized.2;
     }

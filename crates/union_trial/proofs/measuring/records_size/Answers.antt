@@ -14,7 +14,7 @@ loop-edition-preserved c =
     let at = seen-at c.args.editions.now place c.edition-item.result c.loop-edition-test.true c.edition-item.is in
     let bound = c.in_ok-size.ensures.bound in
     record {
-      sized = (λ i. before.sized i + c.in_ok-size.ensures.value i) ∙ sym (size-more all place c.edition-item.result.now at);
+      sized = (λ i. before.sized i + c.in_ok-size.ensures.value i) ∙ sym (size-more c.args.catalogue.now.names all place c.edition-item.result.now at);
       within = omega (arith, before.within, bound);
     }
 
@@ -22,4 +22,4 @@ pub returns : goal.returns
 returns c =
     let all = map (λ (e : Bor Edition). e.now) c.args.editions.now in
     let past : length all ≤ c.loop-edition.edition-index = omega (arith, length-map c.args.editions.now (λ (e : Bor Edition). e.now), c.loop-edition-test.false) in
-    c.loop-edition.invariant.sized ∙ ap (λ es. length (export_text es)) (take_all c.loop-edition.edition-index all past)
+    c.loop-edition.invariant.sized ∙ ap (λ es. length (export_text c.args.catalogue.now.names es)) (take_all c.loop-edition.edition-index all past)
