@@ -3,3 +3,4 @@ pub mod DistinctLaws
 pub mod OwnLaws
 pub mod InterleavingLaws
 pub mod UnionLaws
+pub mod RunLaws

@@ -1,6 +1,7 @@
 -- The union catalogue of what libraries deliver.
 use Rattle.std.specs.Prelude.{◌≡◌, List, map, Contains}
 use Rattle.std.specs.List.{list_any}
+use Rattle.authority_names.specs.Leads.{Table}
 use Rattle.catalogue_core.specs.Histories.{AreEditionsOf}
 use Rattle.catalogue_editions.specs.declared.edition.Edition.{Edition}
 use Rattle.catalogue_core.specs.declared.history_entry.HistoryEntry.{HistoryEntry}
@@ -25,10 +26,11 @@ pub record AreSameDeliveries (all other : List Delivery) : Type 0 where
 pub record HasLoaded (all : List Delivery) (loaded : Loaded) : Type 0 where
   pub streams : List Stream
   pub delivered : map delivered streams ≡ all
-  pub interleaving : IsInterleaving (map batches_of streams) loaded.catalogue
+  pub interleaving : IsInterleaving (map batches_of streams) loaded.catalogue.history
   pub reports : loaded.reports.items ≡ reports_of streams
 
--- they make a union, and it is told whether a frame is refused
-pub record HasUnited (all : List Delivery) (loaded : Loaded) : Type 0 where
+-- they make a union, by these names, and it is told whether a frame is refused
+pub record HasUnited (names : Table) (all : List Delivery) (loaded : Loaded) : Type 0 where
+  pub names_are : loaded.catalogue.names ≡ names
   pub refused : loaded.refused ≡ list_any has_refused all
   pub union : HasLoaded all loaded

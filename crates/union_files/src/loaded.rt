@@ -1,7 +1,8 @@
 //! The catalogue that is filled with what libraries deliver.
-ghost use Rattle.std.specs.Prelude.{◌≡◌};
+ghost use Rattle.std.specs.Prelude.{◌≡◌, ◌++◌, ◌||◌, IfOk};
 
 use catalogue_core::catalogue::Catalogue;
+use std::alloc::AllocError;
 
 /// The catalogue that libraries filled, and their reports.
 pub struct Loaded {
@@ -24,6 +25,27 @@ impl Loaded {
             refused,
         } = self;
         (catalogue, reports, refused)
+    }
+
+    /// The same with a text before the reports, which tells of something that was refused, or of nothing. Returns the error where
+    /// allocation fails.
+    pub fn behind(self, text: Vec<u8>, refused: bool) -> Result<Loaded, AllocError>
+        ensures catalogue { IfOk result (λ all. all.catalogue ≡ self.catalogue) }
+        ensures reports { IfOk result (λ all. all.reports.items ≡ text.items ++ self.reports.items) }
+        ensures refused { IfOk result (λ all. all.refused ≡ (refused || self.refused)) }
+    {
+        let Loaded {
+            catalogue,
+            mut reports,
+            refused: other,
+        } = self;
+        let mut all = text;
+        all.append(&mut reports)?;
+        Ok(Loaded {
+            catalogue,
+            reports: all,
+            refused: refused || other,
+        })
     }
 }
 

@@ -1,6 +1,7 @@
 -- Histories and their entries, one turn more.
 use Rattle.std.proofs.Common.{◌≡◌, ℕ, ◌==◌, List, [], ◌∷◌, ◌++◌, refl, sym, ap, subst, ◌∙◌, append_assoc, eq-eqb}
 use Rattle.std.specs.Prelude.{map, filter}
+use Rattle.std.specs.FinMap.{empty}
 use Rattle.std.proofs.lemmas.List.{map-append}
 use Rattle.std.proofs.lemmas.List.Elements.{filter-append}
 use mathlib.Core.List.{IsPrefix}
@@ -30,7 +31,7 @@ back [] = refl
 back (entry ∷ history) = ap (λ (rest : List HistoryEntry). entry ∷ rest) (back history)
 
 -- an answer over a history is one over its entries
-pub answer_told : (history : List HistoryEntry) (query : Query) (told : Answer) → IsAnswerOver history query told → tells (entries_of history) query told
+pub answer_told : (history : List HistoryEntry) (query : Query) (told : Answer) → IsAnswerOver history query told → tells empty (entries_of history) query told
 answer_told history query told over = subst (λ (all : List HistoryEntry). IsAnswerOver all query told) (sym (back history)) over
 
 changes_one : (pass : ℕ) (batch : Batch) → changes_of pass ((pass, batch) ∷ []) ≡ batch ∷ []

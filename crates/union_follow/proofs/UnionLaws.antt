@@ -1,6 +1,7 @@
 -- Libraries that are loaded one after the other make the union of their files, in their order.
 use Rattle.std.proofs.Common.{◌≡◌, ◌≢◌, ℕ, suc, ◌+◌, ◌<◌, ◌≤◌, ◌==◌, ◌||◌, Bool, true, false, cond, List, [], ◌∷◌, ◌++◌, length, refl, sym, ap, subst, ◌∙◌, arith, add-one, append_assoc, append-nil, eq-eqb}
 use Rattle.std.specs.Prelude.{map, filter}
+use Rattle.std.specs.FinMap.{empty}
 use Rattle.std.specs.List.{AllByRecursion, flat_map, list_any}
 use Rattle.std.proofs.lemmas.List.{map-append}
 use Rattle.std.proofs.lemmas.List.Elements.{filter-append}
@@ -199,17 +200,17 @@ entries_below k [] below = tt
 entries_below k (e ∷ history) below = (below.0, entries_below k history below.1)
 
 -- what libraries come to that were loaded one after the other
-pub followed : (contents : Contents) (files : List LibraryFile) (loaded : Loaded) (none after : Reports) → none.text.items ≡ [] → none.refused ≡ false
-    → AreTurnedFrom contents 0 files [] loaded.catalogue none after → AreDistinct (codes_of (deliveries [] contents files))
+pub followed : (contents : Contents) (files : List LibraryFile) (loaded : Loaded) (none after : Reports) → loaded.catalogue.names ≡ empty → none.text.items ≡ [] → none.refused ≡ false
+    → AreTurnedFrom contents 0 files [] loaded.catalogue.history none after → AreDistinct (codes_of (deliveries [] contents files))
     → loaded.reports.items ≡ after.text.items → loaded.refused ≡ after.refused → HasFollowed (deliveries [] contents files) loaded
-followed contents files loaded none after blank calm turned distinct reports refused =
-    let all : Goes contents 0 files [] loaded.catalogue none after = goes contents 0 files [] loaded.catalogue none after tt turned in
+followed contents files loaded none after unnamed blank calm turned distinct reports refused =
+    let all : Goes contents 0 files [] loaded.catalogue.history none after = goes contents 0 files [] loaded.catalogue.history none after tt turned in
     let same : map (delivery_of contents) all.courses ≡ deliveries [] contents files
     = delivered-files [] contents all.courses all.free ∙ ap (deliveries [] contents) all.files_are in
     record {
-      united = subst (λ ds. HasUnited ds loaded) same
-          (united contents all.courses loaded all.numbers all.ended
-          (entries_below (length all.courses) loaded.catalogue (subst (AllByRecursion (λ (e : HistoryEntry). e.pass < length all.courses)) (sym all.now_is)
+      united = subst (λ ds. HasUnited empty ds loaded) same
+          (united empty contents all.courses loaded unnamed all.numbers all.ended
+          (entries_below (length all.courses) loaded.catalogue.history (subst (AllByRecursion (λ (e : HistoryEntry). e.pass < length all.courses)) (sym all.now_is)
           (each_weaker (λ (e : HistoryEntry). e.pass < 0 + length all.courses) (λ e. e.pass < length all.courses) all.more (λ e low. omega (arith, low)) all.most)))
           (subst (λ ds. AreDistinct (codes_of ds)) (sym same) distinct)
           all.reported.whole

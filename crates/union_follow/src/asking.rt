@@ -1,5 +1,6 @@
 //! The asking of questions through a viewer.
 ghost use Rattle.std.specs.Prelude.{◌≡◌, [], length, OnOk};
+ghost use Rattle.std.specs.FinMap.{empty};
 ghost use mathlib.Core.List.{IsPrefix};
 ghost use Rattle.load_sessions.specs.Askers.{Replied};
 ghost use Rattle.load_sessions.specs.Entries.{entries_of};
@@ -22,7 +23,7 @@ pub fn view_all(
     requires none { replies.old.items ≡ [] }
     ensures book { viewer.new.book ≡ viewer.old.book }
     ensures seen { IsPrefix viewer.old.seen viewer.new.seen }
-    ensures replied { Replied (entries_of viewer.new.seen) (length viewer.old.learnt)
+    ensures replied { Replied empty (entries_of viewer.new.seen) (length viewer.old.learnt)
         questions.now replies.new.items }
     ensures all { OnOk result (length replies.new.items ≡ length questions.now) }
 {

@@ -3,6 +3,7 @@
 //! The files are opened in the order of the command, before any of them is read. Then one thread loads them, and publishes each turn,
 //! while another asks. The publisher and its viewer are closed on every way out.
 ghost use Rattle.std.specs.Prelude.{◌≡◌, ◌<◌, ◌≤◌, [], IfErr, IfOk, OnOk, false, length};
+ghost use Rattle.std.specs.FinMap.{empty};
 ghost use mathlib.Core.List.{IsPrefix};
 ghost use Rattle.load_sessions.specs.Askers.{Replied};
 ghost use Rattle.load_sessions.specs.Entries.{entries_of};
@@ -51,7 +52,7 @@ fn ask_beside<R: Wait>(_rt: &R, alloc: Global, asking: &mut Asking) -> Result<()
     requires none { asking.old.replies.items ≡ [] }
     ensures questions { asking.new.questions ≡ asking.old.questions }
     ensures book { asking.new.viewer.book ≡ asking.old.viewer.book }
-    ensures replied { Replied (entries_of asking.new.viewer.seen) 0
+    ensures replied { Replied empty (entries_of asking.new.viewer.seen) 0
         asking.old.questions.items asking.new.replies.items }
     ensures all { OnOk result (length asking.new.replies.items ≡ length asking.old.questions.items) }
 {
@@ -72,10 +73,10 @@ struct Running<S: Drop> {
 /// Loads the opened files.
 fn load_all<R: Wait, S: Source>(rt: &R, alloc: Global, running: &mut Running<S>) -> Result<(), Halt>
     requires few { length running.old.opened.items ≤ 64 }
-    requires shown { IsShown running.old.load.catalogue running.old.load.publisher }
-    requires empty { running.old.load.catalogue ≡ [] }
+    requires shown { IsShown running.old.load.catalogue.history running.old.load.publisher }
+    requires empty { running.old.load.catalogue.history ≡ [] }
     ensures { Runs S.name S.left S.faults running.old.opened.items running.new.opened.items
-        running.old.load.catalogue running.new.load.catalogue
+        running.old.load.catalogue.history running.new.load.catalogue.history
         running.old.load.publisher running.new.load.publisher
         running.old.load.reports running.new.load.reports result }
 {
@@ -90,16 +91,16 @@ fn load_beside<R: Threads + Wait + Sync, S: Source + Send>(
     asking: &mut Asking,
 ) -> (Result<(), Halt>, Result<(), Memory>)
     requires few { length running.old.opened.items ≤ 64 }
-    requires shown { IsShown running.old.load.catalogue running.old.load.publisher }
-    requires empty { running.old.load.catalogue ≡ [] }
+    requires shown { IsShown running.old.load.catalogue.history running.old.load.publisher }
+    requires empty { running.old.load.catalogue.history ≡ [] }
     requires none { asking.old.replies.items ≡ [] }
     ensures runs { Runs S.name S.left S.faults running.old.opened.items running.new.opened.items
-        running.old.load.catalogue running.new.load.catalogue
+        running.old.load.catalogue.history running.new.load.catalogue.history
         running.old.load.publisher running.new.load.publisher
         running.old.load.reports running.new.load.reports result.0 }
     ensures viewer { asking.new.viewer.book ≡ asking.old.viewer.book }
     ensures questions { asking.new.questions ≡ asking.old.questions }
-    ensures replied { Replied (entries_of asking.new.viewer.seen) 0
+    ensures replied { Replied empty (entries_of asking.new.viewer.seen) 0
         asking.old.questions.items asking.new.replies.items }
     ensures all { OnOk result.1 (length asking.new.replies.items ≡ length asking.old.questions.items) }
 {
@@ -128,20 +129,20 @@ fn gather<R: Threads + Wait + Sync, F: Shelf>(
         (states_of F.Src.name F.Src.left F.Src.faults running.old.opened.items) }
     requires libraries { libraries_meaning libraries.now
         ≡ files_of (states_of F.Src.name F.Src.left F.Src.faults running.old.opened.items) }
-    requires shown { IsShown running.old.load.catalogue running.old.load.publisher }
-    requires empty { running.old.load.catalogue ≡ [] }
+    requires shown { IsShown running.old.load.catalogue.history running.old.load.publisher }
+    requires empty { running.old.load.catalogue.history ≡ [] }
     requires none { asking.old.replies.items ≡ [] }
     ensures book { running.new.load.publisher.book ≡ running.old.load.publisher.book }
     ensures viewer { asking.new.viewer.book ≡ asking.old.viewer.book }
-    ensures shown { OnOk result (IsShown running.new.load.catalogue running.new.load.publisher) }
+    ensures shown { OnOk result (IsShown running.new.load.catalogue.history running.new.load.publisher) }
     ensures gathers { Gathers result (libraries_meaning libraries.now)
         (shelf_flow F.files F.faults shelf.old shelf.new)
         (λ done contents. AreTurnedFrom contents 0 (libraries_meaning libraries.now)
-        [] running.new.load.catalogue running.old.load.reports running.new.load.reports) }
+        [] running.new.load.catalogue.history running.old.load.reports running.new.load.reports) }
     ensures names { F.opened shelf.new ≡ F.opened shelf.old }
     ensures status { IfErr result (λ status. is_open_fault status ≡ false) }
     ensures questions { asking.new.questions ≡ asking.old.questions }
-    ensures replied { Replied (entries_of asking.new.viewer.seen) 0
+    ensures replied { Replied empty (entries_of asking.new.viewer.seen) 0
         asking.old.questions.items asking.new.replies.items }
     ensures all { OnOk result (length asking.new.replies.items ≡ length asking.old.questions.items) }
 {
@@ -168,7 +169,7 @@ fn ask_late(
     requires { viewer.old.book ≡ load.now.publisher.book }
     ensures book { viewer.new.book ≡ viewer.old.book }
     ensures seen { IsPrefix viewer.old.seen viewer.new.seen }
-    ensures replied { IfOk result (λ replies. Replied (entries_of viewer.new.seen)
+    ensures replied { IfOk result (λ replies. Replied empty (entries_of viewer.new.seen)
         (length load.now.publisher.published) questions.now replies.items) }
     ensures all { IfOk result (λ replies. length replies.items ≡ length questions.now) }
 {
@@ -255,10 +256,10 @@ pub fn follow_and_ask<R: Threads + Wait + Sync, F: Shelf>(
         watched.loaded) }
     ensures in_order { IfErr result (λ status. OpensInOrder status (libraries_meaning libraries.now)
         (F.opened shelf.old) (F.opened shelf.new)) }
-    ensures beside { IfOk result (λ watched. AreReplies watched.loaded.catalogue 0
+    ensures beside { IfOk result (λ watched. AreReplies empty watched.loaded.catalogue.history 0
         questions.beside.items watched.beside.items) }
-    ensures late { IfOk result (λ watched. AreReplies watched.loaded.catalogue
-        (length watched.loaded.catalogue) questions.late.items watched.late.items) }
+    ensures late { IfOk result (λ watched. AreReplies empty watched.loaded.catalogue.history
+        (length watched.loaded.catalogue.history) questions.late.items watched.late.items) }
 {
     let Questions { beside, late } = questions;
     let Ok(catalogue) = Catalogue::empty(alloc) else {

@@ -37,21 +37,21 @@ pub fn load_rest<R: Wait, S: Source>(
     load: &mut Load,
 ) -> Result<(), Halt>
     requires few { place + length opened.old.items < 4294967296 }
-    requires shown { IsShown load.old.catalogue load.old.publisher }
-    requires below { IsBelow place load.old.catalogue }
+    requires shown { IsShown load.old.catalogue.history load.old.publisher }
+    requires below { IsBelow place load.old.catalogue.history }
     ensures room { deque_capacity opened.new ≡ deque_capacity opened.old }
     ensures long { deque_len opened.new ≡ deque_len opened.old }
     ensures same { files_of (states_of S.name S.left S.faults opened.new.items)
         ≡ files_of (states_of S.name S.left S.faults opened.old.items) }
     ensures book { load.new.publisher.book ≡ load.old.publisher.book }
-    ensures shown { OnOk result (IsShown load.new.catalogue load.new.publisher) }
+    ensures shown { OnOk result (IsShown load.new.catalogue.history load.new.publisher) }
     ensures halts { (told : Option (List ℕ → List ℕ))
         → AreUnread told (states_of S.name S.left S.faults opened.old.items)
         → HaltsIn result place told (states_of S.name S.left S.faults opened.old.items)
         (states_of S.name S.left S.faults opened.new.items)
         (λ contents. AreTurnedFrom contents place
         (files_of (states_of S.name S.left S.faults opened.old.items))
-        load.old.catalogue load.new.catalogue load.old.reports load.new.reports) }
+        load.old.catalogue.history load.new.catalogue.history load.old.reports load.new.reports) }
 {
     let Some(mut file) = opened.pop_front() else {
         return Ok(());

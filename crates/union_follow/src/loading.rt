@@ -32,17 +32,17 @@ fn load_batches<R: Wait, S: Source>(
     source: &mut S,
 ) -> Result<OutcomeCounts, Stop>
     requires reader { reader.old ≡ begun [] reader.old.library LARGEST_SOURCE }
-    requires shown { IsShown load.old.catalogue load.old.publisher }
-    requires new { changes_of pass (entries_of load.old.catalogue) ≡ [] }
+    requires shown { IsShown load.old.catalogue.history load.old.publisher }
+    requires new { changes_of pass (entries_of load.old.catalogue.history) ≡ [] }
     ensures name { S.name source.new ≡ S.name source.old }
     ensures book { load.new.publisher.book ≡ load.old.publisher.book }
     ensures reports { load.new.reports ≡ load.old.reports }
-    ensures turned { OnOk result (HasTurned pass load.old.catalogue load.new.catalogue) }
-    ensures shown { OnOk result (IsShown load.new.catalogue load.new.publisher) }
+    ensures turned { OnOk result (HasTurned pass load.old.catalogue.history load.new.catalogue.history) }
+    ensures shown { OnOk result (IsShown load.new.catalogue.history load.new.publisher) }
     ensures reads { Reads LARGEST_SOURCE result
         (record { told = S.left source.old; before = S.faults source.old; after = S.faults source.new })
         (λ counts bytes. AreTurned pass reader.old.library (frames bytes)
-        load.old.catalogue load.new.catalogue reader.new counts) }
+        load.old.catalogue.history load.new.catalogue.history reader.new counts) }
 {
     let mut counts = OutcomeCounts::new();
     while let Some(batch) = reader.next(alloc, source)? {
@@ -76,13 +76,13 @@ pub fn load_file<R: Wait, S: Source>(
     load: &mut Load,
     pass: u32,
 ) -> Result<(), Stop>
-    requires shown { IsShown load.old.catalogue load.old.publisher }
-    requires new { changes_of pass (entries_of load.old.catalogue) ≡ [] }
+    requires shown { IsShown load.old.catalogue.history load.old.publisher }
+    requires new { changes_of pass (entries_of load.old.catalogue.history) ≡ [] }
     ensures library { file.new.library ≡ file.old.library }
     ensures name { S.name file.new.source ≡ S.name file.old.source }
     ensures book { load.new.publisher.book ≡ load.old.publisher.book }
-    ensures turned { OnOk result (HasTurned pass load.old.catalogue load.new.catalogue) }
-    ensures shown { OnOk result (IsShown load.new.catalogue load.new.publisher) }
+    ensures turned { OnOk result (HasTurned pass load.old.catalogue.history load.new.catalogue.history) }
+    ensures shown { OnOk result (IsShown load.new.catalogue.history load.new.publisher) }
     ensures reads { Reads LARGEST_SOURCE result
         (record {
           told = S.left file.old.source;
@@ -90,7 +90,7 @@ pub fn load_file<R: Wait, S: Source>(
           after = S.faults file.new.source;
         })
         (λ done bytes. IsTurned pass file.old.library (frames bytes)
-        load.old.catalogue load.new.catalogue load.old.reports load.new.reports) }
+        load.old.catalogue.history load.new.catalogue.history load.old.reports load.new.reports) }
 {
     let mut reader = BatchReader::open(alloc, &Preference::none(), &file.library, LARGEST_SOURCE)?;
     let counts = load_batches(rt, alloc, &mut reader, load, pass, &mut file.source)?;

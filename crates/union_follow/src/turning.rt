@@ -1,5 +1,6 @@
 //! One turn: a batch is applied to the catalogue of the load, and published.
 ghost use Rattle.std.specs.Prelude.{◌≡◌, ◌<◌, ◌++◌, ◌∷◌, [], IfOk, OnOk};
+ghost use Rattle.std.specs.FinMap.{empty};
 ghost use Rattle.catalogue_core.specs.Histories.{current, outcomes};
 ghost use Rattle.union_follow.specs.Turning.{IsShown};
 
@@ -17,11 +18,12 @@ use union_base::copied::Copied;
 use union_base::memory::Memory;
 use union_sessions::reports::Reports;
 
-/// A load: its catalogue, the publisher that shows its history, and the reports of the libraries that are loaded.
+/// A load: its catalogue, which has no names, the publisher that shows its history, and the reports of the libraries that are loaded.
 pub struct Load {
     pub catalogue: Catalogue,
     pub publisher: Publisher,
     pub reports: Reports,
+    pub ghost unnamed: { catalogue.names ≡ empty },
 }
 
 /// Applies a batch under that number, with the match tests counted in a ledger of their own. Answers what came of its operations.
@@ -37,10 +39,11 @@ fn apply_by<L: Ledger>(
     requires name { blank.name ≡ L.name }
     requires parts { blank.parts ≡ L.parts }
     requires some { 0 < L.parts }
-    ensures appended { OnOk result (catalogue.new
-        ≡ catalogue.old ++ record { pass = pass; batch = batch } ∷ []) }
+    ensures names { catalogue.new.names ≡ catalogue.old.names }
+    ensures appended { OnOk result (catalogue.new.history
+        ≡ catalogue.old.history ++ record { pass = pass; batch = batch } ∷ []) }
     ensures outcomes { IfOk result (λ found.
-        found.items ≡ outcomes batch.library (current catalogue.old) batch.ops) }
+        found.items ≡ outcomes batch.library (current catalogue.old.history) batch.ops) }
 {
     let mut steps: Steps<L> = Steps::open(blank);
     catalogue.apply(alloc, pass, batch, &mut steps)
@@ -56,14 +59,14 @@ pub fn publish_batch<R: Wait>(
     pass: u32,
     batch: Batch,
 ) -> Result<Vec<Outcome>, Memory>
-    requires shown { IsShown load.old.catalogue load.old.publisher }
+    requires shown { IsShown load.old.catalogue.history load.old.publisher }
     ensures book { load.new.publisher.book ≡ load.old.publisher.book }
     ensures reports { load.new.reports ≡ load.old.reports }
-    ensures appended { OnOk result (load.new.catalogue
-        ≡ load.old.catalogue ++ record { pass = pass; batch = batch } ∷ []) }
+    ensures appended { OnOk result (load.new.catalogue.history
+        ≡ load.old.catalogue.history ++ record { pass = pass; batch = batch } ∷ []) }
     ensures outcomes { IfOk result (λ found.
-        found.items ≡ outcomes batch.library (current load.old.catalogue) batch.ops) }
-    ensures shown { OnOk result (IsShown load.new.catalogue load.new.publisher) }
+        found.items ≡ outcomes batch.library (current load.old.catalogue.history) batch.ops) }
+    ensures shown { OnOk result (IsShown load.new.catalogue.history load.new.publisher) }
 {
     let copy = batch.copied(alloc)?;
     let found = apply_by::<Brand>(alloc, &mut load.catalogue, pass, batch, Blank::new(1))?;

@@ -4,6 +4,7 @@ use Rattle.std.specs.Prelude.{map, filter, nat_lt, Option, Some, None, slice_get
 use Rattle.std.specs.List.{list_all, list_any, flat_map, AllZip, AllByRecursion}
 use Rattle.std.proofs.lemmas.Bool.Decides.{nat_tests}
 use Rattle.std.proofs.lemmas.Option.{same_Some}
+use Rattle.authority_names.specs.Leads.{Table}
 use Rattle.catalogue_editions.specs.declared.batch.Batch.{Batch}
 use Rattle.catalogue_core.specs.declared.history_entry.HistoryEntry.{HistoryEntry}
 use Rattle.catalogue_lock.specs.Ended.{Ended}
@@ -182,15 +183,15 @@ pub each_place : {A : Type 0} (P : A → Type 0) (xs : List A) → ((n : ℕ) (x
 each_place P [] holds = tt
 each_place P (x ∷ xs) holds = (holds 0 x refl, each_place P xs (λ n y at. holds (suc n) y at))
 
-pub united : (contents : Contents) (courses : List Course) (loaded : Loaded) → AreNumbered 0 courses
-    → AllByRecursion (EndedOk (entries_of loaded.catalogue)) (map ended_of courses)
-    → AllByRecursion (λ (e : ℕ × Batch). e.0 < length courses) (entries_of loaded.catalogue)
+pub united : (names : Table) (contents : Contents) (courses : List Course) (loaded : Loaded) → loaded.catalogue.names ≡ names → AreNumbered 0 courses
+    → AllByRecursion (EndedOk (entries_of loaded.catalogue.history)) (map ended_of courses)
+    → AllByRecursion (λ (e : ℕ × Batch). e.0 < length courses) (entries_of loaded.catalogue.history)
     → AreDistinct (codes_of (map (delivery_of contents) courses)) → AllByRecursion (IsWhole contents) courses
     → loaded.reports.items ≡ flat_map (course_text contents) courses
     → loaded.refused ≡ list_any has_refused (map (delivery_of contents) courses)
-    → HasUnited (map (delivery_of contents) courses) loaded
-united contents courses loaded numbers ended low distinct whole reports refused =
-    let entries = entries_of loaded.catalogue in
+    → HasUnited names (map (delivery_of contents) courses) loaded
+united names contents courses loaded names_are numbers ended low distinct whole reports refused =
+    let entries = entries_of loaded.catalogue.history in
     let codes = map (λ (c : Course). c.library) courses in
     let apart : AreDistinct codes = subst AreDistinct (codes-same contents courses) distinct in
     let ends : AllByRecursion (λ c. EndedOk entries (ended_of c)) courses =
@@ -210,17 +211,18 @@ united contents courses loaded numbers ended low distinct whole reports refused 
     found-apart c.library c.number c.seen (subst (λ m. AllByRecursion (IsApart c.library m) c.seen) (sym is) (apart_entries courses n c c.seen apart at seen))
     ∙ ap (found_in []) end.own_seen) in
     record {
+      names_are = names_are;
       refused = refused;
       union = record {
         streams = streams_of contents courses whole;
         delivered = streams-delivered contents courses whole;
-        interleaving = subst (λ streams. IsInterleaving streams loaded.catalogue) (sym (streams-batches contents courses whole)) (record {
-          numbers = subst (λ k. list_all (λ entry. nat_lt entry.pass k) loaded.catalogue ≡ true) (sym (same_length (λ (c : Course). c.own) courses))
-              (numbers-below (length courses) loaded.catalogue low);
+        interleaving = subst (λ streams. IsInterleaving streams loaded.catalogue.history) (sym (streams-batches contents courses whole)) (record {
+          numbers = subst (λ k. list_all (λ entry. nat_lt entry.pass k) loaded.catalogue.history ≡ true) (sym (same_length (λ (c : Course). c.own) courses))
+              (numbers-below (length courses) loaded.catalogue.history low);
           each = λ n batches at.
               let c = course_at courses n batches at in
               let end : EndedOk entries (ended_of c.0) = each-at (λ c. EndedOk entries (ended_of c)) courses n c.0 ends c.1 in
-              under-entries n loaded.catalogue
+              under-entries n loaded.catalogue.history
               ∙ (ap (λ m. changes_of m entries) (sym (place_is courses n c.0 numbers c.1)) ∙ (end.own ∙ c.2));
         });
         reports = reports ∙ streams-reports contents courses whole brought;

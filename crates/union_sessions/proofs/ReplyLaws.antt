@@ -5,6 +5,7 @@ use Rattle.std.specs.List.{AllByRecursion}
 use Rattle.std.proofs.lemmas.Bool.Decides.{nat_tests}
 use Rattle.std.proofs.lemmas.List.{take-append-le, map-append}
 use Rattle.std.proofs.lemmas.List.Elements.{All-from_recursion, recursion_from_All}
+use Rattle.authority_names.specs.Leads.{Table}
 use Rattle.catalogue_editions.specs.declared.batch.Batch.{Batch}
 use Rattle.catalogue_core.specs.declared.history_entry.HistoryEntry.{HistoryEntry}
 use Rattle.catalogue_lock.specs.Ended.{Ended}
@@ -24,28 +25,28 @@ Entries = List (ℕ × Batch)
 
 -- ---- replies over a longer history
 
-pub replied_over : (seen history : Entries) (low known : ℕ) (questions : List Query) (replies : List (ℕ × Answer)) → IsPrefix seen history → low ≤ known
-    → Replied seen known questions replies → Replied history low questions replies
-replied_over seen history low known [] [] follows least replied = tt
-replied_over seen history low known [] (reply ∷ replies) follows least replied = absurd replied
-replied_over seen history low known (question ∷ questions) [] follows least replied = tt
-replied_over seen history low known (question ∷ questions) (reply ∷ replies) follows least replied =
+pub replied_over : (names : Table) (seen history : Entries) (low known : ℕ) (questions : List Query) (replies : List (ℕ × Answer)) → IsPrefix seen history → low ≤ known
+    → Replied names seen known questions replies → Replied names history low questions replies
+replied_over names seen history low known [] [] follows least replied = tt
+replied_over names seen history low known [] (reply ∷ replies) follows least replied = absurd replied
+replied_over names seen history low known (question ∷ questions) [] follows least replied = tt
+replied_over names seen history low known (question ∷ questions) (reply ∷ replies) follows least replied =
     let within : reply.0 ≤ length seen = replied.1 in
     let whole : take reply.0 seen ≡ take reply.0 history = sym (take-append-le reply.0 seen follows.0 within) ∙ ap (take reply.0) follows.1 in (
       omega (arith, replied.0),
       omega (arith, within, ap length follows.1, length_both seen follows.0),
-      subst (λ entries. tells entries question reply.1) whole replied.2,
-      replied_over seen history reply.0 reply.0 questions replies follows (omega arith) replied.3,
+      subst (λ entries. tells names entries question reply.1) whole replied.2,
+      replied_over names seen history reply.0 reply.0 questions replies follows (omega arith) replied.3,
     )
   where
     length_both : (xs ys : Entries) → length (xs ++ ys) ≡ length xs + length ys
     length_both [] ys = omega arith
     length_both (x ∷ xs) ys = omega (arith, length_both xs ys)
 
-pub asked_over : (history : List HistoryEntry) (low known : ℕ) (questions : List Query) (replies : List (ℕ × Answer)) (left : Ended Batch)
-    → EndedOk (entries_of history) left → low ≤ known → HasAsked known questions replies left → AreReplies history low questions replies
-asked_over history low known questions replies left ended least asked = record {
-  replied = replied_over left.seen (entries_of history) low known questions replies ended.seen least asked.replied;
+pub asked_over : (names : Table) (history : List HistoryEntry) (low known : ℕ) (questions : List Query) (replies : List (ℕ × Answer)) (left : Ended Batch)
+    → EndedOk (entries_of history) left → low ≤ known → HasAsked names known questions replies left → AreReplies names history low questions replies
+asked_over names history low known questions replies left ended least asked = record {
+  replied = replied_over names left.seen (entries_of history) low known questions replies ended.seen least asked.replied;
   all = asked.all;
 }
 

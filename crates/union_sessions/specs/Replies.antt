@@ -1,5 +1,6 @@
 -- What was asked beside a load and after it.
 use Rattle.std.specs.Prelude.{◌≡◌, ℕ, List, [], length}
+use Rattle.authority_names.specs.Leads.{Table}
 use Rattle.catalogue_editions.specs.declared.batch.Batch.{Batch}
 use Rattle.catalogue_core.specs.declared.history_entry.HistoryEntry.{HistoryEntry}
 use Rattle.catalogue_lock.specs.Ended.{Ended}
@@ -10,18 +11,18 @@ use Rattle.load_sessions.specs.Askers.{Replied}
 use Rattle.load_sessions.specs.Entries.{entries_of}
 use Rattle.load_sessions.specs.declared.asker.Asker.{Asker}
 
--- a reply to each question: each is over the first entries of the history, so many as it says, at least so many as were known
+-- a reply to each question, by these names: each is over the first entries of the history, so many as it says, at least so many as were known
 -- before, and at least those of the reply before it
-pub record AreReplies (history : List HistoryEntry) (known : ℕ) (questions : List Query) (replies : List (ℕ × Answer)) : Type 0 where
-  pub replied : Replied (entries_of history) known questions replies
+pub record AreReplies (names : Table) (history : List HistoryEntry) (known : ℕ) (questions : List Query) (replies : List (ℕ × Answer)) : Type 0 where
+  pub replied : Replied names (entries_of history) known questions replies
   pub all : length replies ≡ length questions
 
 -- what the pass of an asker leaves at the desk
 abbrev pub left_by : Asker → Ended Batch
 left_by asker = record { number = (view asker.pass).number; own = (view asker.pass).own; seen = (view asker.pass).seen }
 
--- a pass that left that has made no turn, and had a reply to each question over what it has seen
-pub record HasAsked (known : ℕ) (questions : List Query) (replies : List (ℕ × Answer)) (left : Ended Batch) : Type 0 where
+-- a pass that left that has made no turn, and had a reply to each question, by these names, over what it has seen
+pub record HasAsked (names : Table) (known : ℕ) (questions : List Query) (replies : List (ℕ × Answer)) (left : Ended Batch) : Type 0 where
   pub idle : left.own ≡ []
-  pub replied : Replied left.seen known questions replies
+  pub replied : Replied names left.seen known questions replies
   pub all : length replies ≡ length questions

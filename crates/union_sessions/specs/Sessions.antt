@@ -3,6 +3,7 @@ use Rattle.std.specs.Prelude.{◌≡◌, ◌<◌, ◌≤◌, ℕ, suc, ⊤, Bool
 use Rattle.std.specs.Cmp.Lexicographic.{pointwise}
 use Rattle.std.specs.List.{list_any, find, flat_map, AllByRecursion}
 use Rattle.atomic_table.specs.Seated.{TableId}
+use Rattle.authority_names.specs.Leads.{Table}
 use Rattle.catalogue_editions.specs.declared.batch.Batch.{Batch}
 use Rattle.catalogue_lock.specs.Ended.{Ended}
 use Rattle.catalogue_lock.specs.Tokens.{view}
@@ -106,8 +107,9 @@ pub record RaisesFailed (courses : List Course) (before after : List ℕ → ℕ
 abbrev pub NoneFailed : List Course → Type 0
 NoneFailed courses = list_any (λ course. course.failed) courses ≡ false
 
--- these passes more were ended at a root, which knows all turns that they have seen
-pub record HasEnded (more : List (Ended Batch)) (before now : View (Unit {0}) Batch) : Type 0 where
+-- these passes more were ended at a root, which knows all turns that they have seen, and whose names stay
+pub record HasEnded (more : List (Ended Batch)) (before now : View Table Batch) : Type 0 where
+  pub setting : now.setting ≡ before.setting
   pub made : now.made ≡ before.made
   pub ended : now.ended ≡ before.ended ++ more
   pub floor : before.floor ≤ now.floor

@@ -31,11 +31,13 @@ pub fn start_asker(
     ensures desk { IsRootOf root.new desk.now }
     ensures made { (root_of root.new).made ≡ (root_of root.old).made + 1 }
     ensures ended { (root_of root.new).ended ≡ (root_of root.old).ended }
+    ensures setting { (root_of root.new).setting ≡ (root_of root.old).setting }
     ensures floor { (root_of root.new).floor ≡ (root_of root.old).floor }
     ensures asker { IsAsker desk.now.board.shared.table_id result }
     ensures questions { result.questions ≡ questions }
     ensures own { (view result.pass).own ≡ [] }
     ensures known { (view result.pass).floor ≡ (root_of root.old).floor }
+    ensures names { (view result.pass).setting ≡ (root_of root.old).setting }
 {
     let pass = desk.make_pass(root);
     Asker::new(alloc, pass, questions)
@@ -86,8 +88,9 @@ pub fn ask_late<R: Wait>(
     requires few { (root_of root.old).made < 4294967295 }
     ensures desk { IsRootOf root.new desk.now }
     ensures made { (root_of root.new).made ≡ (root_of root.old).made + 1 }
+    ensures setting { (root_of root.new).setting ≡ (root_of root.old).setting }
     ensures asked { IfOk result (λ replies. (left : Ended Batch) × ((root_of root.new).ended ≡ (root_of root.old).ended ++ left ∷ [])
-        × HasAsked (root_of root.old).floor questions.items replies.items left) }
+        × HasAsked (root_of root.old).setting (root_of root.old).floor questions.items replies.items left) }
 {
     let mut asker = start_asker(alloc, desk, root, questions);
     ask_all(rt, alloc, desk, &mut asker);

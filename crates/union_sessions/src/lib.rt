@@ -15,4 +15,5 @@ pub mod reports;
 pub mod session_ends;
 pub mod session_starts;
 pub mod sessions;
+pub mod start;
 pub mod watched;

@@ -34,6 +34,7 @@ fn session_of<S: Source>(
     ensures desk { IsRootOf root.new desk.now }
     ensures made { (root_of root.new).made ≡ (root_of root.old).made + 1 }
     ensures ended { (root_of root.new).ended ≡ (root_of root.old).ended }
+    ensures setting { (root_of root.new).setting ≡ (root_of root.old).setting }
     ensures ready { IsReadyAs desk.now.board.shared.table_id prefer.now (root_of root.old).made result }
     ensures state { session_state S.name S.left S.faults result ≡ state_of S.name S.left S.faults file }
 {
@@ -67,6 +68,7 @@ fn add_session<S: Source>(
     ensures one { length sessions.new.items ≡ length sessions.old.items + 1 }
     ensures room { vec_capacity sessions.old ≤ vec_capacity sessions.new }
     ensures ended { (root_of root.new).ended ≡ (root_of root.old).ended }
+    ensures setting { (root_of root.new).setting ≡ (root_of root.old).setting }
     ensures ready { AreReady desk.now.board.shared.table_id prefer.now 0 sessions.new.items }
     ensures states { session_states S.name S.left S.faults sessions.new.items
         ≡ session_states S.name S.left S.faults sessions.old.items ++ state_of S.name S.left S.faults file ∷ [] }
@@ -94,6 +96,7 @@ fn add_sessions<S: Source>(
     ensures desk { IsRootOf root.new desk.now }
     ensures numbers { (root_of root.new).made ≡ length sessions.new.items }
     ensures ended { (root_of root.new).ended ≡ (root_of root.old).ended }
+    ensures setting { (root_of root.new).setting ≡ (root_of root.old).setting }
     ensures ready { AreReady desk.now.board.shared.table_id prefer.now 0 sessions.new.items }
     ensures states { session_states S.name S.left S.faults sessions.new.items
         ≡ session_states S.name S.left S.faults sessions.old.items ++ states_of S.name S.left S.faults opened.old.items }
@@ -122,6 +125,7 @@ pub fn start_sessions<F: Shelf>(
     ensures made { IfOk result (λ sessions. (root_of root.new).made ≡ length sessions.items) }
     ensures few { IfOk result (λ sessions. length sessions.items ≤ 64) }
     ensures ended { (root_of root.new).ended ≡ [] }
+    ensures setting { (root_of root.new).setting ≡ (root_of root.old).setting }
     ensures ready { IfOk result (λ sessions. AreReady desk.now.board.shared.table_id loading.now.prefer 0 sessions.items) }
     ensures opened { IfOk result (λ sessions. files_of (session_states F.Src.name F.Src.left F.Src.faults sessions.items)
         ≡ libraries_meaning loading.now.libraries) }

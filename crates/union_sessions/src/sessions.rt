@@ -7,6 +7,7 @@
 //! given back to its shelf. Memory grows with what is loaded.
 ghost use Rattle.std.specs.Prelude.{◌≡◌, ◌<◌, ◌≤◌, ◌+◌, ◌==◌, ◌&&◌, [], IfOk, IfErr, All, length, not};
 ghost use Rattle.std.specs.List.{AllByRecursion};
+ghost use Rattle.catalogue_core.specs.Catalogues.{by_names};
 ghost use Rattle.catalogue_lock.specs.Rule.{EndedOk};
 ghost use Rattle.catalogue_lock.specs.Tokens.{root_of, view, IsPassOf, IsRootOf};
 ghost use Rattle.union_words.specs.Meanings.{libraries_meaning};
@@ -21,7 +22,9 @@ use crate::asking::{ask_late, end_asker, start_asker};
 use crate::reports::Reports;
 use crate::session_ends::end_all;
 use crate::session_starts::start_sessions;
+use crate::start::Start;
 use crate::watched::Watched;
+use authority_names::name_table::NameTable;
 use catalogue_lock::desk::Desk;
 use catalogue_lock::root::Root;
 use catalogue_query::query::Query;
@@ -49,24 +52,29 @@ fn are_some(questions: &Questions) -> bool
     !(questions.beside.is_empty() && questions.late.is_empty())
 }
 
-/// An empty catalogue, which keeps its works where questions will be asked.
-fn served(alloc: Global, is_asked: bool) -> Result<Served, Memory>
-    ensures { IfOk result (λ served. served.catalogue ≡ []) }
+/// A catalogue without history, by these names, which keeps its works where questions will be asked.
+fn served(alloc: Global, names: NameTable, is_asked: bool) -> Result<Served, Memory>
+    ensures { IfOk result (λ served. served.catalogue ≡ by_names names) }
 {
     if is_asked {
-        Served::keeping_works(alloc)
+        Served::keeping_works(alloc, names)
     } else {
-        Served::empty(alloc)
+        Served::open(alloc, names)
     }
 }
 
-/// A desk over an empty catalogue, with its root.
-fn open_desk(alloc: Global, is_asked: bool) -> Result<(Desk<Served>, Root<Served>), Memory>
+/// A desk over a catalogue without history, by these names, with its root.
+fn open_desk(
+    alloc: Global,
+    names: NameTable,
+    is_asked: bool,
+) -> Result<(Desk<Served>, Root<Served>), Memory>
     ensures desk { IfOk result (λ opened. IsRootOf opened.1 opened.0) }
     ensures made { IfOk result (λ opened. (root_of opened.1).made ≡ 0) }
     ensures ended { IfOk result (λ opened. (root_of opened.1).ended ≡ []) }
+    ensures names { IfOk result (λ opened. (root_of opened.1).setting ≡ names) }
 {
-    Desk::open(alloc, served(alloc, is_asked)?)
+    Desk::open(alloc, served(alloc, names, is_asked)?)
 }
 
 /// Runs the sessions, by `workers` workers, and the asker beside them.
@@ -113,17 +121,18 @@ fn close_desk<R: Wait>(
     requires known { AllByRecursion (λ left. length left.seen ≤ (root_of opened.1).floor) (root_of opened.1).ended }
     requires asker { IsPassOf asker.pass opened.0 }
     requires idle { (view asker.pass).own ≡ [] }
-    requires asked { asker.end ≡ End.Done → HasAsked 0 asker.questions.items asker.replies.items (left_by asker) }
+    requires asked { asker.end ≡ End.Done → HasAsked (root_of opened.1).setting 0 asker.questions.items asker.replies.items (left_by asker) }
+    ensures names { IfOk result (λ watched. watched.loaded.catalogue.names ≡ (root_of opened.1).setting) }
     ensures reports { IfOk result (λ watched. watched.loaded.reports ≡ reports.text) }
     ensures refused { IfOk result (λ watched. watched.loaded.refused ≡ reports.refused) }
-    ensures ended { IfOk result (λ watched. AllByRecursion (EndedOk (entries_of watched.loaded.catalogue))
+    ensures ended { IfOk result (λ watched. AllByRecursion (EndedOk (entries_of watched.loaded.catalogue.history))
         (root_of opened.1).ended) }
     ensures numbers { IfOk result (λ watched. AllByRecursion (λ entry. entry.0 + 1 < (root_of opened.1).made)
-        (entries_of watched.loaded.catalogue)) }
-    ensures beside { IfOk result (λ watched. AreReplies watched.loaded.catalogue 0
+        (entries_of watched.loaded.catalogue.history)) }
+    ensures beside { IfOk result (λ watched. AreReplies (root_of opened.1).setting watched.loaded.catalogue.history 0
         asker.questions.items watched.beside.items) }
-    ensures late { IfOk result (λ watched. AreReplies watched.loaded.catalogue (length watched.loaded.catalogue)
-        late.items watched.late.items) }
+    ensures late { IfOk result (λ watched. AreReplies (root_of opened.1).setting watched.loaded.catalogue.history
+        (length watched.loaded.catalogue.history) late.items watched.late.items) }
 {
     let (desk, mut root) = opened;
     let beside = end_asker(&desk, &mut root, asker)?;
@@ -140,7 +149,8 @@ fn close_desk<R: Wait>(
     })
 }
 
-/// Opens the files of the libraries, loads them by a session each, by the preference and with the workers of `loading`, and asks.
+/// Opens the files of the libraries, loads them by a session each, by the preference and with the workers of `loading`, into a
+/// catalogue by the names of `start`, and asks its questions.
 ///
 /// The questions `beside` are asked in their order beside the sessions, or after them with one worker; those in `late` when all
 /// sessions have ended. There is a reply to each: the replies `beside` are over prefixes of the catalogue's history that never
@@ -157,22 +167,23 @@ pub fn load_and_ask<R: Threads + Wait + Sync, F: Shelf, G: Gate>(
     rt: &R,
     alloc: Global,
     loading: &Loading<'_>,
-    questions: Questions,
+    start: Start,
     shelf: &mut F,
     gate: &G,
 ) -> Result<Watched, Status>
     ensures gathers { Gathers result (libraries_meaning loading.now.libraries)
         (record { files = F.files shelf.old; before = F.faults shelf.old; after = F.faults shelf.new })
-        (λ watched contents. HasUnited
+        (λ watched contents. HasUnited start.names
         (deliveries loading.now.prefer contents (libraries_meaning loading.now.libraries)) watched.loaded) }
     ensures in_order { IfErr result (λ status. OpensInOrder status (libraries_meaning loading.now.libraries)
         (F.opened shelf.old) (F.opened shelf.new)) }
-    ensures beside { IfOk result (λ watched. AreReplies watched.loaded.catalogue 0
-        questions.beside.items watched.beside.items) }
-    ensures late { IfOk result (λ watched. AreReplies watched.loaded.catalogue (length watched.loaded.catalogue)
-        questions.late.items watched.late.items) }
+    ensures beside { IfOk result (λ watched. AreReplies start.names watched.loaded.catalogue.history 0
+        start.questions.beside.items watched.beside.items) }
+    ensures late { IfOk result (λ watched. AreReplies start.names watched.loaded.catalogue.history
+        (length watched.loaded.catalogue.history) start.questions.late.items watched.late.items) }
 {
-    let Ok((desk, mut root)) = open_desk(alloc, are_some(&questions)) else {
+    let Start { names, questions } = start;
+    let Ok((desk, mut root)) = open_desk(alloc, names, are_some(&questions)) else {
         return Err(Status::Memory);
     };
     let Questions { beside, late } = questions;
@@ -202,7 +213,7 @@ pub fn load_and_ask<R: Threads + Wait + Sync, F: Shelf, G: Gate>(
     }
 }
 
-/// Opens the files of the libraries, and loads them by a session each: `load_and_ask` with no question.
+/// Opens the files of the libraries, and loads them by a session each, by these names: `load_and_ask` with no question.
 ///
 /// # Errors
 ///
@@ -211,12 +222,13 @@ pub fn load_by_sessions<R: Threads + Wait + Sync, F: Shelf, G: Gate>(
     rt: &R,
     alloc: Global,
     loading: &Loading<'_>,
+    names: NameTable,
     shelf: &mut F,
     gate: &G,
 ) -> Result<Loaded, Status>
     ensures gathers { Gathers result (libraries_meaning loading.now.libraries)
         (record { files = F.files shelf.old; before = F.faults shelf.old; after = F.faults shelf.new })
-        (λ loaded contents. HasUnited
+        (λ loaded contents. HasUnited names
         (deliveries loading.now.prefer contents (libraries_meaning loading.now.libraries)) loaded) }
     ensures in_order { IfErr result (λ status. OpensInOrder status (libraries_meaning loading.now.libraries)
         (F.opened shelf.old) (F.opened shelf.new)) }
@@ -225,6 +237,10 @@ pub fn load_by_sessions<R: Threads + Wait + Sync, F: Shelf, G: Gate>(
         beside: Vec::new(alloc),
         late: Vec::new(alloc),
     };
-    let watched = load_and_ask(rt, alloc, loading, none, shelf, gate)?;
+    let start = Start {
+        names,
+        questions: none,
+    };
+    let watched = load_and_ask(rt, alloc, loading, start, shelf, gate)?;
     Ok(watched.loaded)
 }

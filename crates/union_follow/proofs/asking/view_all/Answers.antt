@@ -1,4 +1,5 @@
 use Rattle.std.proofs.Common.{◌≡◌, ◌≤◌, ◌∷◌, [], length, drop, suc, ◌+◌, ◌<◌, refl, sym, ap, subst, ◌∙◌, arith, append-nil, length-append, drop-cons, add-one}
+use Rattle.std.specs.FinMap.{empty}
 use Rattle.std.proofs.lemmas.List.{length-map}
 use Rattle.load_sessions.specs.Askers.{Replied}
 use Rattle.load_sessions.specs.Entries.{entries_of}
@@ -15,7 +16,7 @@ loop-question-init c =
       book = refl;
       seen = ([], append-nil viewer.seen);
       bound = known;
-      leads = Leads-none known c.args.questions.now c.args.replies.now.items (entries_of viewer.seen) c.requires.none;
+      leads = Leads-none empty known c.args.questions.now c.args.replies.now.items (entries_of viewer.seen) c.requires.none;
       above = λ next seen learnt. prefix_length viewer.learnt next learnt;
       count = ap length c.requires.none;
     }
@@ -39,9 +40,9 @@ loop-question-preserved c =
       book = says.book ∙ before.book;
       seen = prefix_trans c.args.viewer.now.seen cur.seen new.seen before.seen says.seen;
       bound = length new.seen;
-      leads = subst (λ told. Leads known questions told (length new.seen) (entries_of new.seen) (drop (place + 1) questions)) (sym c.in_ok-push.ensures.items)
-          (Leads-more known questions c.loop-question.replies.items before.bound (length new.seen) (entries_of cur.seen) (entries_of new.seen) question (drop (place + 1) questions) reply
-          (subst (Leads known questions c.loop-question.replies.items before.bound (entries_of cur.seen)) first before.leads)
+      leads = subst (λ told. Leads empty known questions told (length new.seen) (entries_of new.seen) (drop (place + 1) questions)) (sym c.in_ok-push.ensures.items)
+          (Leads-more empty known questions c.loop-question.replies.items before.bound (length new.seen) (entries_of cur.seen) (entries_of new.seen) question (drop (place + 1) questions) reply
+          (subst (Leads empty known questions c.loop-question.replies.items before.bound (entries_of cur.seen)) first before.leads)
           (entries_prefix cur.seen new.seen says.seen)
           (subst (λ n. before.bound ≤ n) (sym says.count) (before.above new.seen says.seen says.told))
           (says.count ∙ sym (length-map new.seen _)) (sym says.count) (answer_told new.seen question reply.1 says.answer));
@@ -52,7 +53,7 @@ loop-question-preserved c =
 pub returns-in_err-reply-clause-replied : goal.returns-in_err-reply-clause-replied
 returns-in_err-reply-clause-replied c =
     let before = c.loop-question.invariant in
-    Leads-ends (length c.args.viewer.now.learnt) c.args.questions.now c.loop-question.replies.items before.bound (entries_of c.loop-question.viewer.seen)
+    Leads-ends empty (length c.args.viewer.now.learnt) c.args.questions.now c.loop-question.replies.items before.bound (entries_of c.loop-question.viewer.seen)
     (entries_of c.view.new.self.seen) (drop c.loop-question.question-index c.args.questions.now) before.leads
     (entries_prefix c.loop-question.viewer.seen c.view.new.self.seen c.in_err-reply.ensures.seen)
 
@@ -60,8 +61,8 @@ pub returns-in_err-push-clause-replied : goal.returns-in_err-push-clause-replied
 returns-in_err-push-clause-replied c =
     let before = c.loop-question.invariant in
     let known = length c.args.viewer.now.learnt in
-    subst (Replied (entries_of c.view.new.self.seen) known c.args.questions.now) (sym c.in_err-push.ensures.items)
-    (Leads-ends known c.args.questions.now c.loop-question.replies.items before.bound (entries_of c.loop-question.viewer.seen)
+    subst (Replied empty (entries_of c.view.new.self.seen) known c.args.questions.now) (sym c.in_err-push.ensures.items)
+    (Leads-ends empty known c.args.questions.now c.loop-question.replies.items before.bound (entries_of c.loop-question.viewer.seen)
     (entries_of c.view.new.self.seen) (drop c.loop-question.question-index c.args.questions.now) before.leads
     (entries_prefix c.loop-question.viewer.seen c.view.new.self.seen c.in_ok-reply.ensures.seen))
 
@@ -69,7 +70,7 @@ pub returns-clause-replied : goal.returns-clause-replied
 returns-clause-replied c =
     let before = c.loop-question.invariant in
     let seen = entries_of c.loop-question.viewer.seen in
-    Leads-ends (length c.args.viewer.now.learnt) c.args.questions.now c.loop-question.replies.items before.bound seen seen
+    Leads-ends empty (length c.args.viewer.now.learnt) c.args.questions.now c.loop-question.replies.items before.bound seen seen
     (drop c.loop-question.question-index c.args.questions.now) before.leads (IsPrefix-same seen)
 
 pub returns-in_err-reply-clause-seen : goal.returns-in_err-reply-clause-seen

@@ -1,4 +1,5 @@
 use Rattle.std.proofs.Common.{◌≡◌, ◌≤◌, ℕ, List, length, drop}
+use Rattle.std.specs.FinMap.{empty}
 use mathlib.Core.List.{IsPrefix}
 use Rattle.catalogue_core.specs.declared.history_entry.HistoryEntry.{HistoryEntry}
 use Rattle.load_sessions.specs.Entries.{entries_of}
@@ -11,7 +12,7 @@ invariant-loop-question l = record {
   book : l.viewer.book ≡ l.initial.viewer.book;
   seen : IsPrefix l.initial.viewer.seen l.viewer.seen;
   bound : ℕ;
-  leads : Leads (length l.initial.viewer.learnt) l.questions l.replies.items bound (entries_of l.viewer.seen) (drop l.question-index l.questions);
+  leads : Leads empty (length l.initial.viewer.learnt) l.questions l.replies.items bound (entries_of l.viewer.seen) (drop l.question-index l.questions);
   above : (next : List HistoryEntry) → IsPrefix l.viewer.seen next → IsPrefix l.viewer.learnt next → bound ≤ length next;
   count : length l.replies.items ≡ l.question-index;
 }

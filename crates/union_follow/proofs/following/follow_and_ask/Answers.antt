@@ -1,8 +1,10 @@
 use Rattle.std.proofs.Common.{◌≡◌, ◌≤◌, ◌&&◌, [], ap, length, sym, subst, true, vec_items, ◌∙◌, arith}
+use Rattle.std.specs.FinMap.{empty}
 use Rattle.std.specs.Prelude.{IfSome, nat_le}
 use Rattle.std.specs.List.{list_all}
 use Rattle.std.proofs.lemmas.Option.{IfSome_then}
 use mathlib.Core.List.{IsPrefix}
+use Rattle.catalogue_core.specs.Catalogues.{CatalogueValue}
 use Rattle.snapshot_desk.proofs.Prefixes.{prefix_trans}
 use Rattle.union_base.specs.Both.{both_true}
 use Rattle.union_files.proofs.DistinctLaws.{distinct_deliveries}
@@ -33,34 +35,35 @@ returns-in-Ok-ask_late-clause-gathers g c =
       subst (λ files. IfSome files (λ contents. AreWithin contents libraries × HasFollowed (deliveries [] contents libraries) loaded)) c.in_ok-opened.ensures.files
           (IfSome_then (g.F.Shelf.files c.open_rest.new.shelf) gathers.1 (λ contents read. (
             read.0,
-            followed contents libraries loaded none after c.none.ensures.text c.none.ensures.refused
-                (subst (λ history. AreTurnedFrom contents 0 libraries [] history none after) (sym c.finish.ensures.catalogue) read.1)
+            followed contents libraries loaded none after
+                (ap (λ (catalogue : CatalogueValue). catalogue.names) c.finish.ensures.catalogue ∙ c.gather-gathered.new.running.load.unnamed) c.none.ensures.text c.none.ensures.refused
+                (subst (λ (catalogue : CatalogueValue). AreTurnedFrom contents 0 libraries [] catalogue.history none after) (sym c.finish.ensures.catalogue) read.1)
                 (distinct_deliveries words [] contents distinct) (ap vec_items c.finish.ensures.reports) c.finish.ensures.refused,
           ))),
     )
 
 pub returns-in-Ok-ask_late-clause-beside : goal.returns-in-Ok-ask_late-clause-beside
 returns-in-Ok-ask_late-clause-beside g c =
-    let history = c.finish.result.loaded.catalogue in
+    let history = c.finish.result.loaded.catalogue.history in
     let published = c.gather-gathered.new.running.load.publisher.published in
     let first = c.gather-gathered.new.asking.viewer.seen in
     let last = c.ask_late.new.viewer.seen in
     let questions = c.args.questions.beside.items in
     let replies = c.gather-gathered.new.asking.replies in
-    let shown : published ≡ history = c.in-Ok-gathered.ensures.shown.published ∙ sym c.finish.ensures.catalogue in
+    let shown : published ≡ history = c.in-Ok-gathered.ensures.shown.published ∙ sym (ap (λ (catalogue : CatalogueValue). catalogue.history) c.finish.ensures.catalogue) in
     let follows : IsPrefix first history = prefix_trans first last history c.in-Ok-ask_late.ensures.seen (subst (IsPrefix last) shown c.finish.ensures.prefix) in
-    subst (λ all. AreReplies history 0 questions all) (sym (ap vec_items c.finish.ensures.beside))
+    subst (λ all. AreReplies empty history 0 questions all) (sym (ap vec_items c.finish.ensures.beside))
     (replies_over first history 0 0 questions replies.items follows (omega arith) c.in-Ok-gathered.ensures.replied c.in-Ok-gathered.ensures.all)
 
 pub returns-in-Ok-ask_late-clause-late : goal.returns-in-Ok-ask_late-clause-late
 returns-in-Ok-ask_late-clause-late g c =
-    let history = c.finish.result.loaded.catalogue in
+    let history = c.finish.result.loaded.catalogue.history in
     let published = c.gather-gathered.new.running.load.publisher.published in
     let last = c.ask_late.new.viewer.seen in
     let asked = c.as_slice.result.now in
-    let shown : published ≡ history = c.in-Ok-gathered.ensures.shown.published ∙ sym c.finish.ensures.catalogue in
+    let shown : published ≡ history = c.in-Ok-gathered.ensures.shown.published ∙ sym (ap (λ (catalogue : CatalogueValue). catalogue.history) c.finish.ensures.catalogue) in
     let least : length history ≤ length published = omega (arith, ap length shown) in
-    subst (λ questions. AreReplies history (length history) questions c.finish.result.late.items) c.as_slice.ensures.value
-    (subst (λ all. AreReplies history (length history) asked all) (sym (ap vec_items c.finish.ensures.late))
+    subst (λ questions. AreReplies empty history (length history) questions c.finish.result.late.items) c.as_slice.ensures.value
+    (subst (λ all. AreReplies empty history (length history) asked all) (sym (ap vec_items c.finish.ensures.late))
     (replies_over last history (length history) (length published) asked c.in-Ok-ask_late.late.items (subst (IsPrefix last) shown c.finish.ensures.prefix)
     least c.in-Ok-ask_late.ensures.replied c.in-Ok-ask_late.ensures.all))

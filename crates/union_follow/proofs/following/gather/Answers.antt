@@ -26,9 +26,9 @@ status_of-requires g c =
     let after = c.load_beside-loaded.new.running.load in
     let halt = c.in-Err.halt in
     let halts = subst (λ result. HaltsIn result 0 files before now
-    (λ contents. AreTurnedFrom contents 0 (files_of before) load.catalogue after.catalogue load.reports after.reports))
+    (λ contents. AreTurnedFrom contents 0 (files_of before) load.catalogue.history after.catalogue.history load.reports after.reports))
     c.in-Err.is (c.load_beside-loaded.ensures.runs.halts files (fresh_unread files (g.F.Shelf.opened c.args.shelf.now) before c.requires.fresh)) in
-    let at = halts_at (λ contents. AreTurnedFrom contents 0 (files_of before) load.catalogue after.catalogue load.reports after.reports)
+    let at = halts_at (λ contents. AreTurnedFrom contents 0 (files_of before) load.catalogue.history after.catalogue.history load.reports after.reports)
     halt files before now libraries (g.F.Shelf.faults c.args.shelf.now) (g.F.Shelf.faults c.return_all.new.shelf)
     halts c.load_beside-loaded.ensures.runs.same c.requires.libraries c.return_all.ensures.calm c.return_all.ensures.failed in
     slice_get_within libraries halt.place at.0 at.1
@@ -46,9 +46,9 @@ returns-in-Err-clause-gathers g c =
     let old = g.F.Shelf.faults c.args.shelf.now in
     let new = g.F.Shelf.faults c.return_all.new.shelf in
     let halts = subst (λ result. HaltsIn result 0 files before now
-    (λ contents. AreTurnedFrom contents 0 (files_of before) load.catalogue after.catalogue load.reports after.reports))
+    (λ contents. AreTurnedFrom contents 0 (files_of before) load.catalogue.history after.catalogue.history load.reports after.reports))
     c.in-Err.is (c.load_beside-loaded.ensures.runs.halts files (fresh_unread files (g.F.Shelf.opened c.args.shelf.now) before c.requires.fresh)) in
-    let at = halts_at (λ contents. AreTurnedFrom contents 0 (files_of before) load.catalogue after.catalogue load.reports after.reports)
+    let at = halts_at (λ contents. AreTurnedFrom contents 0 (files_of before) load.catalogue.history after.catalogue.history load.reports after.reports)
     halt files before now libraries old new
     halts c.load_beside-loaded.ensures.runs.same c.requires.libraries c.return_all.ensures.calm c.return_all.ensures.failed in
     c.status_of.ensures.stops at.0 (flow files old new) at.1 at.2
@@ -62,10 +62,10 @@ returns-in-Ok-asked-clause-gathers g c =
     let load = c.args.running.now.load in
     let after = c.load_beside-loaded.new.running.load in
     let halts = subst (λ result. HaltsIn result 0 files before now
-    (λ contents. AreTurnedFrom contents 0 (files_of before) load.catalogue after.catalogue load.reports after.reports))
+    (λ contents. AreTurnedFrom contents 0 (files_of before) load.catalogue.history after.catalogue.history load.reports after.reports))
     c.in-Ok.is (c.load_beside-loaded.ensures.runs.halts files (fresh_unread files (g.F.Shelf.opened c.args.shelf.now) before c.requires.fresh)) in (
       c.return_all.ensures.calm halts.0,
-      gathers_all files before now (libraries_meaning c.args.libraries.now) load.catalogue after.catalogue load.reports after.reports
+      gathers_all files before now (libraries_meaning c.args.libraries.now) load.catalogue.history after.catalogue.history load.reports after.reports
           c.requires.libraries c.requires.empty halts,
     )
 
@@ -78,6 +78,6 @@ returns-in-Err-asked-clause-gathers g c =
     let load = c.args.running.now.load in
     let after = c.load_beside-loaded.new.running.load in
     let halts = subst (λ result. HaltsIn result 0 files before now
-    (λ contents. AreTurnedFrom contents 0 (files_of before) load.catalogue after.catalogue load.reports after.reports))
+    (λ contents. AreTurnedFrom contents 0 (files_of before) load.catalogue.history after.catalogue.history load.reports after.reports))
     c.in-Ok.is (c.load_beside-loaded.ensures.runs.halts files (fresh_unread files (g.F.Shelf.opened c.args.shelf.now) before c.requires.fresh)) in
     c.return_all.ensures.calm halts.0

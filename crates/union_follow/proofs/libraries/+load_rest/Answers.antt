@@ -7,7 +7,7 @@ use Rattle.union_follow.specs.Turning.{AreTurnedFrom, AreUnread, HaltsIn}
 use Rattle.union_follow.proofs.libraries.+load_rest.Goals as goal
 
 pub load_file-requires-clause-new : goal.load_file-requires-clause-new
-load_file-requires-clause-new g t c = below_none c.args.place c.args.load.now.catalogue c.requires.below
+load_file-requires-clause-new g t c = below_none c.args.place c.args.load.now.catalogue.history c.requires.below
 
 pub returns-in-Ok-clause-halts : goal.returns-in-Ok-clause-halts
 returns-in-Ok-clause-halts g t c = λ told.
@@ -15,8 +15,8 @@ returns-in-Ok-clause-halts g t c = λ told.
     let states = states_of g.S.Source.name g.S.Source.left g.S.Source.faults in
     let ended = c.load_rest-ended.result in
     let place = c.args.place in
-    let history = c.args.load.now.catalogue in
-    let after = c.load_rest-ended.new.load.catalogue in
+    let history = c.args.load.now.catalogue.history in
+    let after = c.load_rest-ended.new.load.catalogue.history in
     let old = c.args.load.now.reports in
     let texts = c.load_rest-ended.new.load.reports in
     let file = c.in-Some.file in
@@ -26,7 +26,7 @@ returns-in-Ok-clause-halts g t c = λ told.
     (subst (λ items. AreUnread told (states (file ∷ rest)) → HaltsIn ended place told (states (file ∷ rest)) (states items)
     (λ contents. AreTurnedFrom contents place (files_of (states (file ∷ rest))) history after old texts)) (sym c.push_front_reserved.ensures.items)
     (λ unread. halts_read ended place told (state file) (state c.load_file.new.file) (states rest) (states c.load_rest-ended.new.opened.items)
-    history c.load_file.new.load.catalogue after old c.load_file.new.load.reports texts
+    history c.load_file.new.load.catalogue.history after old c.load_file.new.load.reports texts
     unread c.in-Ok.ensures.reads (c.load_rest-ended.ensures.halts told)))
 
 pub returns-in-Err-clause-halts : goal.returns-in-Err-clause-halts
@@ -37,8 +37,8 @@ returns-in-Err-clause-halts g t c = λ told.
     let place = c.args.place in
     let file = c.in-Some.file in
     let rest = c.pop_front.new.self.items in
-    let history = c.args.load.now.catalogue in
-    let after = c.load_file.new.load.catalogue in
+    let history = c.args.load.now.catalogue.history in
+    let after = c.load_file.new.load.catalogue.history in
     let old = c.args.load.now.reports in
     let texts = c.load_file.new.load.reports in
     subst (λ items. AreUnread told (states items) → HaltsIn {T = Unit {0}} (Err (record { place = place; stop = stop })) place told (states items)

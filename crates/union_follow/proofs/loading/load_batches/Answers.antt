@@ -17,7 +17,7 @@ pub loop-batch-init : goal.loop-batch-init
 loop-batch-init g c =
     let library = c.args.reader.now.library in
     let left = g.S.Source.left c.args.source.now in
-    let entries = entries_of c.args.load.now.catalogue in
+    let entries = entries_of c.args.load.now.catalogue.history in
     record {
       name = refl;
       faults = refl;
@@ -28,7 +28,7 @@ loop-batch-init g c =
       shown = c.requires.shown;
       batches = [];
       hands = subst (λ reader. Hands library LARGEST_SOURCE left reader left []) (sym c.requires.reader) (hands_none library LARGEST_SOURCE left);
-      applied = sym (append-nil c.args.load.now.catalogue);
+      applied = sym (append-nil c.args.load.now.catalogue.history);
       found = subst (λ found. AreCounted found c.new-counts.result) (sym (found-none c.args.pass entries [] c.requires.new refl)) c.new-counts.ensures.none;
       few = omega (arith, c.new-counts.ensures.total, ap (λ reader. most_ahead reader.stream) c.requires.reader);
     }
@@ -42,14 +42,14 @@ loop-batch-preserved g c =
     let then = g.S.Source.left c.next.new.source in
     let batch = c.in-Some.batch in
     let pass = c.args.pass in
-    let history = c.loop-batch.load.catalogue in
+    let history = c.loop-batch.load.catalogue.history in
     let answers : Answers (Ok (Some batch)) c.loop-batch.reader now c.next.new.self then
     = subst (λ next. Answers (Ok next) c.loop-batch.reader now c.next.new.self then) c.in-Some.is c.in_ok-batch.ensures.answers in
     let fewer : most_ahead c.next.new.self.stream < most_ahead c.loop-batch.reader.stream
     = subst (λ next. OnSome next (most_ahead c.next.new.self.stream < most_ahead c.loop-batch.reader.stream)) c.in-Some.is c.in_ok-batch.ensures.fewer in
     let items : c.as_slice.result.now ≡ outcomes batch.library (current history) batch.ops
     = c.as_slice.ensures.value ∙ c.in_ok-found.ensures.outcomes in
-    let all : found_under (entries_of history) pass ++ c.as_slice.result.now ≡ found_under (entries_of c.publish_batch.new.load.catalogue) pass
+    let all : found_under (entries_of history) pass ++ c.as_slice.result.now ≡ found_under (entries_of c.publish_batch.new.load.catalogue.history) pass
     = ap (λ items. found_under (entries_of history) pass ++ items) items
     ∙ (sym (found_one_more history pass batch) ∙ ap (λ h. found_under (entries_of h) pass) (sym c.in_ok-found.ensures.appended)) in
     record {
@@ -63,7 +63,7 @@ loop-batch-preserved g c =
       batches = before.batches ++ batch ∷ [];
       hands = hands_more library LARGEST_SOURCE told now then c.loop-batch.reader c.next.new.self before.batches batch before.free before.library before.hands answers;
       applied = c.in_ok-found.ensures.appended ∙ ap (λ h. h ++ record { pass = pass; batch = batch } ∷ []) before.applied
-          ∙ turns_as_more c.args.load.now.catalogue pass before.batches batch;
+          ∙ turns_as_more c.args.load.now.catalogue.history pass before.batches batch;
       found = subst (λ found. AreCounted found c.count.new.self) all (c.count.ensures.more (found_under (entries_of history) pass) before.found);
       few = omega (arith, c.count.ensures.total, ap length items, few_outcomes batch (current history), fewer, before.few);
     }

@@ -18,11 +18,11 @@ invariant-loop-batch g l = record {
   library : l.reader.library ≡ l.initial.reader.library;
   book : l.load.publisher.book ≡ l.initial.load.publisher.book;
   reports : l.load.reports ≡ l.initial.load.reports;
-  shown : IsShown l.load.catalogue l.load.publisher;
+  shown : IsShown l.load.catalogue.history l.load.publisher;
   batches : List Batch;
   hands : Hands l.initial.reader.library LARGEST_SOURCE (g.S.Source.left l.initial.source) l.reader (g.S.Source.left l.source) batches;
-  applied : l.load.catalogue ≡ l.initial.load.catalogue ++ turns_as l.pass batches;
-  found : AreCounted (found_under (entries_of l.load.catalogue) l.pass) l.counts;
+  applied : l.load.catalogue.history ≡ l.initial.load.catalogue.history ++ turns_as l.pass batches;
+  found : AreCounted (found_under (entries_of l.load.catalogue.history) l.pass) l.counts;
   few : counted l.counts + 256 * most_ahead l.reader.stream ≤ 256 * (LARGEST_SOURCE + 1);
 }
 

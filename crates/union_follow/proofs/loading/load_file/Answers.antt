@@ -19,7 +19,7 @@ returns-in-Ok-clause-reads g c =
       on_told (g.S.Source.left c.args.file.now.source)
           (λ bytes read. (
             read.0,
-            (let found = found_under (entries_of c.load_batches.new.load.catalogue) c.args.pass in
+            (let found = found_under (entries_of c.load_batches.new.load.catalogue.history) c.args.pass in
                 let counted = subst (AreCounted found) (sym c.report_of-report.ensures.counts) read.1.counted in
                 let frames_are = c.report_of-report.ensures.frames ∙ read.1.frames in
                 let refused_are = c.report_of-report.ensures.refused ∙ read.1.refused in

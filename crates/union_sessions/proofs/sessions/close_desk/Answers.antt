@@ -13,7 +13,8 @@ use Rattle.union_sessions.proofs.sessions.close_desk.Goals as goal
 
 pub returns : goal.returns
 returns g c =
-    let history = c.close-catalogue.result.catalogue in
+    let history = c.close-catalogue.result.catalogue.history in
+    let names = (root_of c.args.opened.1).setting in
     let entries = entries_of history in
     let first = root_of c.args.opened.1 in
     let between = root_of c.end_asker.new.root in
@@ -34,12 +35,14 @@ returns g c =
     c.requires.idle asked.2.idle in
     let long : length history ≤ between.floor = subst (λ n. n ≤ between.floor) (length-map history _) closed.whole in
     record {
+      names = c.close-catalogue.ensures.setting ∙ (c.ask_late.ensures.setting ∙ c.end_asker.ensures.root.setting);
       reports = refl;
       refused = refl;
       ended = closed.ended;
       numbers = closed.numbers;
-      beside = asked_over history 0 0 c.args.asker.questions.items c.in_ok-beside.beside.items beside closed.beside_ended (omega arith)
-          (subst (λ replies. HasAsked 0 c.args.asker.questions.items replies beside) (sym (ap vec_items c.in_ok-beside.ensures.replies.1))
+      beside = asked_over names history 0 0 c.args.asker.questions.items c.in_ok-beside.beside.items beside closed.beside_ended (omega arith)
+          (subst (λ replies. HasAsked names 0 c.args.asker.questions.items replies beside) (sym (ap vec_items c.in_ok-beside.ensures.replies.1))
           (c.requires.asked c.in_ok-beside.ensures.replies.0));
-      late = asked_over history (length history) between.floor c.args.late.items c.in_ok-late.late.items late closed.late_ended long asked.2;
+      late = asked_over names history (length history) between.floor c.args.late.items c.in_ok-late.late.items late closed.late_ended long
+          (subst (λ names. HasAsked names between.floor c.args.late.items c.in_ok-late.late.items late) c.end_asker.ensures.root.setting asked.2);
     }

@@ -15,6 +15,7 @@ use Rattle.union_sessions.proofs.ReplyLaws.{each_weaker, numbered_below, replied
 use Rattle.union_sessions.proofs.SessionLaws.{HaveEnded, have_run, ready_all}
 use Rattle.union_files.specs.Deliveries.{codes_of, AreDistinct, has_refused}
 use Rattle.union_files.specs.Inputs.{AreWithin, deliveries}
+use Rattle.union_sessions.specs.Replies.{AreReplies}
 use Rattle.union_sessions.specs.Sessions.{AreReported, course_text, courses_of, delivery_of, ended_of, file_of_course}
 use Rattle.union_files.specs.Unions.{HasUnited}
 use Rattle.union_words.specs.Meanings.{libraries_meaning}
@@ -57,8 +58,10 @@ close_desk-requires-clause-asked g c =
     let replies = c.run_all.new.asker.replies.items in
     λ done. record {
       idle = asks.knows.own ∙ c.start_asker-asker.ensures.own;
-      replied = subst (λ questions. Replied seen 0 questions replies) (sym asks.questions)
-          (replied_over seen seen 0 (view before.pass).floor before.questions.items replies ([], append-nil seen) (omega arith) asks.replied);
+      replied = subst (λ names. Replied names seen 0 c.run_all.new.asker.questions.items replies)
+          (c.start_asker-asker.ensures.names ∙ sym (c.in_ok-end_all.ensures.root.setting ∙ c.start_asker-asker.ensures.setting))
+          (subst (λ questions. Replied (view before.pass).setting seen 0 questions replies) (sym asks.questions)
+          (replied_over (view before.pass).setting seen seen 0 (view before.pass).floor before.questions.items replies ([], append-nil seen) (omega arith) asks.replied));
       all = asks.all done ∙ sym (ap length asks.questions);
     }
 
@@ -73,7 +76,10 @@ returns-in-Ok-close_desk-clause-gathers g c =
     let words = c.args.loading.now.libraries.words.now in
     let libraries = libraries_meaning c.args.loading.now.libraries in
     let loaded = c.in-Ok-close_desk.watched.loaded in
-    let entries = entries_of loaded.catalogue in
+    let entries = entries_of loaded.catalogue.history in
+    let names = c.args.start.names in
+    let named : (root_of c.end_all.new.root).setting ≡ names
+    = c.in_ok-end_all.ensures.root.setting ∙ (c.start_asker-asker.ensures.setting ∙ (c.in_ok-sessions.ensures.setting ∙ c.in-Ok.ensures.names)) in
     let reports = c.end_all.new.reports in
     let closed = c.in-Ok-close_desk.ensures in
     let made : (root_of c.end_all.new.root).made ≡ length courses + 1 =
@@ -88,16 +94,33 @@ returns-in-Ok-close_desk-clause-gathers g c =
     (both_true (nat_le 1 (length words) && nat_le (length words) most_libraries) (list_all is_library_word words && have_distinct_codes words) c.args.loading.now.libraries.words_are_libraries).1).1 in (
       same_more (g.F.Shelf.faults c.args.shelf.now) (g.F.Shelf.faults c.start_sessions.new.shelf) (g.F.Shelf.faults c.end_all.new.shelf)
           c.in_ok-sessions.ensures.calm c.in_ok-end_all.ensures.gathers.0,
-      subst (λ files. IfSome files (λ contents. AreWithin contents libraries × HasUnited (deliveries prefer contents libraries) loaded)) c.in_ok-sessions.ensures.files
+      subst (λ files. IfSome files (λ contents. AreWithin contents libraries × HasUnited names (deliveries prefer contents libraries) loaded)) c.in_ok-sessions.ensures.files
           (IfSome_then (g.F.Shelf.files c.start_sessions.new.shelf) c.in_ok-end_all.ensures.gathers.1 (λ contents read. (
             read.0,
             let all : map (delivery_of contents) courses ≡ deliveries prefer contents libraries
                 = delivered-files prefer contents courses have.prefers ∙ ap (deliveries prefer contents) same in
-                subst (λ all. HasUnited all loaded) all
-                (united contents courses loaded have.numbers ended below
+                subst (λ all. HasUnited names all loaded) all
+                (united names contents courses loaded (closed.names ∙ named) have.numbers ended below
                 (subst (λ all. AreDistinct (codes_of all)) (sym all) (distinct_deliveries words prefer contents distinct)) read.1.whole
                 (ap vec_items closed.reports ∙ (read.1.text ∙ ap (λ text. text ++ flat_map (course_text contents) courses) c.none-reports.ensures.text))
                 (closed.refused ∙ (read.1.refused
                 ∙ ap (λ refused. refused || list_any has_refused (map (delivery_of contents) courses)) c.none-reports.ensures.refused))),
           ))),
     )
+
+pub returns-in-Ok-close_desk-clause-beside : goal.returns-in-Ok-close_desk-clause-beside
+returns-in-Ok-close_desk-clause-beside g c =
+    let watched = c.in-Ok-close_desk.watched in
+    let named : (root_of c.end_all.new.root).setting ≡ c.args.start.names
+    = c.in_ok-end_all.ensures.root.setting ∙ (c.start_asker-asker.ensures.setting ∙ (c.in_ok-sessions.ensures.setting ∙ c.in-Ok.ensures.names)) in
+    subst (λ names. AreReplies names watched.loaded.catalogue.history 0 c.args.start.questions.beside.items watched.beside.items) named
+    (subst (λ questions. AreReplies (root_of c.end_all.new.root).setting watched.loaded.catalogue.history 0 questions watched.beside.items)
+    (c.run_all.ensures.asker.questions ∙ ap vec_items c.start_asker-asker.ensures.questions) c.in-Ok-close_desk.ensures.beside)
+
+pub returns-in-Ok-close_desk-clause-late : goal.returns-in-Ok-close_desk-clause-late
+returns-in-Ok-close_desk-clause-late g c =
+    let watched = c.in-Ok-close_desk.watched in
+    let history = watched.loaded.catalogue.history in
+    let named : (root_of c.end_all.new.root).setting ≡ c.args.start.names
+    = c.in_ok-end_all.ensures.root.setting ∙ (c.start_asker-asker.ensures.setting ∙ (c.in_ok-sessions.ensures.setting ∙ c.in-Ok.ensures.names)) in
+    subst (λ names. AreReplies names history (length history) c.args.start.questions.late.items watched.late.items) named c.in-Ok-close_desk.ensures.late
