@@ -1,7 +1,8 @@
 -- What a run does, by the form of its words.
-use Rattle.std.specs.Prelude.{◌≡◌, ◌≢◌, ℕ, ◌⊎◌, ◌<◌, ◌≤◌, false, IsTrue, List, [], ◌∷◌, ◌++◌, length, Some, IfSome}
+use Rattle.std.specs.Prelude.{◌≡◌, ◌≢◌, ℕ, ◌⊎◌, ◌<◌, ◌≤◌, ◌||◌, false, IsTrue, List, [], ◌∷◌, ◌++◌, length, map, Some, IfSome}
 use Rattle.std.specs.List.{list_any}
 use Rattle.std.specs.Io.KnownBytes.{Appends, Keeps}
+use Rattle.authority_names.specs.Leads.{Table}
 use Rattle.catalogue_core.specs.Histories.{AreEditionsOf}
 use Rattle.catalogue_editions.specs.declared.edition.Edition.{Edition}
 use Rattle.catalogue_export.specs.Editions.{export_text}
@@ -13,11 +14,14 @@ use Rattle.library_batches.specs.Reading.{most_bytes}
 use Rattle.library_batches.specs.Refused.{refused}
 use Rattle.library_batches.specs.declared.refused.RefusedFrame.{RefusedFrame}
 use Rattle.union_reports.specs.Reports.{check_text, left_lines}
-use Rattle.union_files.specs.Deliveries.{Delivery, Stream, reports_of, has_refused}
-use Rattle.union_files.specs.Inputs.{inputs_of, FailsEarliest, AreWithin, IsTooLongAt, deliveries}
+use Rattle.names_file.specs.Named.{Named, IsNamedBy, names_inputs}
+use Rattle.union_files.specs.Deliveries.{Delivery, Stream, delivered, batches_of, reports_of, has_refused}
+use Rattle.union_files.specs.Inputs.{deliveries}
+use Rattle.union_files.specs.Runs.{IsRunOver}
 use Rattle.union_files.specs.Unions.{IsUnion}
 use Rattle.union_files.specs.declared.loaded.Loaded.{Loaded}
-use Rattle.union_words.specs.Flows.{ShelfFlow, IsCalm, FailsAt, NoneFails, Inflow, HasFailed, Outflow, HasFailedAt, IsNoted, IsCutOff}
+use Rattle.union_watch.specs.Runs.{Order}
+use Rattle.union_words.specs.Flows.{ShelfFlow, Inflow, HasFailed, Outflow, HasFailedAt, IsNoted, IsCutOff}
 use Rattle.union_words.specs.Statuses.{is_done, is_early, is_input_fault, end_by}
 use Rattle.union_words.specs.Texts.{early_text}
 use Rattle.union_words.specs.Words.{Loading}
@@ -35,10 +39,6 @@ use Rattle.union_commands.specs.declared.shown.Shown.TheVariants.{Export, Works}
 abbrev pub end_with : List RefusedFrame → Status
 end_with [] = Done
 end_with (frame ∷ rest) = DoneWithRefusals
-
--- how a run over these deliveries ends that is done
-abbrev pub end_of_all : List Delivery → Status
-end_of_all all = end_by (list_any has_refused all)
 
 -- how a check of a stream ends that is done
 abbrev pub end_of : List ℕ → Status
@@ -67,10 +67,10 @@ pub record IsCheck (library : List ℕ) (file : Inflow) (out : Outflow) (status 
   pub complete : (bytes : List ℕ) → file.told ≡ Some bytes → length bytes ≤ most_bytes → ¬ HasFailed file → ¬ HasFailedAt out
       → (status ≡ end_of bytes) ⊎ (status ≡ Memory)
 
--- what is shown of the editions of a catalogue on the output, and what is noted of them after the reports
+-- what is shown on the output of the editions of a catalogue by some names, and what is noted of them after the reports
 pub record Showing : Type 0 where
-  pub shown : List Edition → List ℕ
-  pub noted : List Edition → List ℕ
+  pub shown : Table → List Edition → List ℕ
+  pub noted : Table → List Edition → List ℕ
 
 -- the export, and lines on what was left out of it
 abbrev pub exported : Showing
@@ -87,58 +87,43 @@ exported_as Json = exported_in_json
 
 -- the list of the works
 abbrev pub listed : Showing
-listed = record { shown = works_text_of; noted = λ editions. [] }
+listed = record { shown = works_text_of; noted = λ names editions. [] }
 
 -- what each command shows
 abbrev pub showing_of : Shown → Showing
 showing_of (Export form) = exported_as form
 showing_of Works = listed
 
--- all was written: what is shown of the union of these deliveries, their reports, and what is noted
-abbrev pub IsShown : Showing → List Delivery → Outflow → Outflow → Type 0
-IsShown showing all out notes =
-    (streams : List Stream) × (editions : List Edition) × IsUnion all streams editions
-    × Appends out.old out.new (showing.shown editions) × Appends notes.old notes.new (reports_of streams ++ showing.noted editions)
-
--- a write of one of the two texts failed
-abbrev pub IsShownInPart : Showing → List Delivery → Outflow → Outflow → Type 0
-IsShownInPart showing all out notes =
-    (streams : List Stream) × (editions : List Edition) × IsUnion all streams editions
-    × IsCutOff out notes (showing.shown editions) (reports_of streams ++ showing.noted editions)
-
--- a prefix of what is shown was written
-abbrev pub IsBegun : Showing → List Delivery → Outflow → Type 0
-IsBegun showing all out =
-    (streams : List Stream) × (editions : List Edition) × IsUnion all streams editions × AppendsFront out.old out.new (showing.shown editions)
-
 -- what the files of a load deliver
 abbrev pub deliveries_of : (List ℕ → List ℕ) → Loading → List Delivery
 deliveries_of contents loading = deliveries loading.prefer contents loading.libraries
 
--- what is shown of the union of the libraries' files, and their reports
-pub record IsUnionRun (showing : Showing) (loading : Loading) (shelf : ShelfFlow) (out notes : Outflow) (status : Status) : Type 0 where
-  -- what failed, where something did
-  pub open_fault : (i : Input) → status ≡ OpenFault i → FailsAt (inputs_of loading.libraries) shelf i
-  pub read_fault : (i : Input) → status ≡ ReadFault i → FailsEarliest (inputs_of loading.libraries) shelf i
-  pub calm : is_input_fault status ≡ false → IsCalm shelf
-  pub write_fault : status ≡ WriteFault → (HasFailedAt out × Keeps notes.old notes.new) ⊎ HasFailedAt notes
-  pub other : status ≢ Usage
-  -- which file is too long
-  pub too_long : (i : Input) → status ≡ TooLong i → IfSome shelf.files (λ contents. IsTooLongAt contents loading.libraries i)
-  -- all of both texts; none of the first; or a prefix of one, where the second is begun only when the first is written whole
-  pub done : IsTrue (is_done status) → IfSome shelf.files (λ contents. AreWithin contents loading.libraries
-      × (status ≡ end_of_all (deliveries_of contents loading)) × IsShown showing (deliveries_of contents loading) out notes)
-  pub untouched : IsTrue (is_early status) → status ≢ Memory → Keeps out.old out.new
-  pub memory : status ≡ Memory → Keeps out.old out.new
-      ⊎ IfSome shelf.files (λ contents. AreWithin contents loading.libraries × IsBegun showing (deliveries_of contents loading) out)
-  pub part : status ≡ WriteFault → IfSome shelf.files (λ contents. AreWithin contents loading.libraries
-      × IsShownInPart showing (deliveries_of contents loading) out notes)
-  -- where nothing fails it is so, or memory ran out
-  pub too_long_where : (contents : List ℕ → List ℕ) (i : Input) → shelf.files ≡ Some contents → IsTooLongAt contents loading.libraries i
-      → NoneFails (inputs_of loading.libraries) shelf → (status ≡ TooLong i) ⊎ (status ≡ Memory)
-  pub complete : (contents : List ℕ → List ℕ) → shelf.files ≡ Some contents → AreWithin contents loading.libraries
-      → NoneFails (inputs_of loading.libraries) shelf → ¬ HasFailedAt out → ¬ HasFailedAt notes
-      → (status ≡ end_of_all (deliveries_of contents loading)) ⊎ (status ≡ Memory)
+-- what a run shows of the union of the libraries' files, by the names of its file of names; what it notes: what is told of that file,
+-- the libraries' reports, and what is noted of the editions; and how it ends where both are written
+pub record IsUnionOf (showing : Showing) (loading : Loading) (contents : List ℕ → List ℕ) (shown noted : List ℕ) (end : Status) : Type 0 where
+  pub names : Named
+  pub named : IsNamedBy contents loading.names names
+  pub streams : List Stream
+  pub editions : List Edition
+  pub union : IsUnion (deliveries_of contents loading) streams editions
+  pub shown_is : shown ≡ showing.shown names.table editions
+  pub noted_is : noted ≡ names.report ++ (reports_of streams ++ showing.noted names.table editions)
+  pub end_is : end ≡ end_by (names.refused || list_any has_refused (deliveries_of contents loading))
+
+-- the run: it reads the file of names, where there is one, before those of the libraries
+abbrev pub IsUnionRun : Showing → Loading → ShelfFlow → Outflow → Outflow → Status → Type 0
+IsUnionRun showing loading shelf out notes status =
+    IsRunOver (names_inputs loading.names) loading.libraries (IsUnionOf showing loading) shelf out notes status
+
+-- the deliveries were loaded by turns in such an order, into a catalogue by these names, and their reports stand after what is told of
+-- the names
+pub record HasTurned (AreTurns : Order) (names : Named) (all : List Delivery) (loaded : Loaded) : Type 0 where
+  pub names_are : loaded.catalogue.names ≡ names.table
+  pub refused : loaded.refused ≡ (names.refused || list_any has_refused all)
+  pub streams : List Stream
+  pub delivered : map delivered streams ≡ all
+  pub turns : AreTurns (map batches_of streams) loaded.catalogue.history
+  pub reports : loaded.reports.items ≡ names.report ++ reports_of streams
 
 -- a text of the program's own
 pub record IsTold (text : List ℕ) (out : Outflow) (status : Status) : Type 0 where
@@ -164,5 +149,6 @@ pub record Written (shown noted : List ℕ) (end : Status) (out notes : Outflow)
 -- what is shown of a loaded catalogue, and its reports
 abbrev pub Shows : Showing → Loaded → Outflow → Outflow → Status → Type 0
 Shows showing loaded out notes status =
-    (editions : List Edition) × AreEditionsOf loaded.catalogue editions
-    × Written (showing.shown editions) (loaded.reports.items ++ showing.noted editions) (end_by loaded.refused) out notes status
+    (editions : List Edition) × AreEditionsOf loaded.catalogue.history editions
+    × Written (showing.shown loaded.catalogue.names editions) (loaded.reports.items ++ showing.noted loaded.catalogue.names editions)
+    (end_by loaded.refused) out notes status

@@ -52,7 +52,7 @@ pub fn write_answered<O: Sink, N: Sink>(
     out: &mut O,
     notes: &mut N,
 ) -> Status
-    ensures { Written (watch_text answered.entry.loaded.catalogue (told_of (map line_meaning answered.entry.lines.items) (answered.entry.beside.items ++ answered.entry.late.items)))
+    ensures { Written (watch_text answered.entry.loaded.catalogue.history (told_of (map line_meaning answered.entry.lines.items) (answered.entry.beside.items ++ answered.entry.late.items)))
         answered.entry.loaded.reports.items (end_by (answered.entry.loaded.refused || answered.entry.refused))
         (record { old = O.written out.old; new = O.written out.new; before = O.faults out.old; after = O.faults out.new })
         (record { old = N.written notes.old; new = N.written notes.new; before = N.faults notes.old; after = N.faults notes.new })

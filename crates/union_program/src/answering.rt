@@ -1,25 +1,30 @@
 //! The loading of libraries' files, and the answers to the questions of a file beside it.
-ghost use Rattle.std.specs.Prelude.{◌≡◌, ◌++◌, [], map, length, IfOk};
+ghost use Rattle.std.specs.Prelude.{◌≡◌, ◌++◌, ◌||◌, [], map, length, IfOk, IfErr};
+ghost use Rattle.std.specs.FinMap.{empty};
+ghost use Rattle.names_file.specs.Named.{named_by};
 ghost use Rattle.union_words.specs.Flows.{shelf_flow};
 ghost use Rattle.union_words.specs.Meanings.{libraries_meaning, loading_meaning};
 ghost use Rattle.union_files.specs.Inputs.{Gathers, deliveries};
-ghost use Rattle.union_files.specs.Unions.{HasUnited};
+ghost use Rattle.union_files.specs.Interleavings.{IsInterleaving};
 ghost use Rattle.union_follow.specs.Following.{HasFollowed};
 ghost use Rattle.union_watch.specs.AskLines.{line_meaning, asked_lines, lines_in, questions_in, has_refused_line};
 ghost use Rattle.union_watch.specs.Lateness.{beside, late, AreTimely};
 ghost use Rattle.union_watch.specs.Told.{AreTold, numbers_of, told_of};
-ghost use Rattle.union_commands.specs.Runs.{deliveries_of};
+ghost use Rattle.union_commands.specs.Runs.{deliveries_of, HasTurned};
 
 use crate::host::Host;
 use load_sessions::questions::Questions;
+use names_file::names_read::NamesRead;
 use std::alloc::{AllocError, Global};
 use std::sync::Wait;
 use std::thread::Threads;
 use union_base::memory::Memory;
+use union_files::loaded::Loaded;
 use union_follow::following::follow_and_ask;
 use union_io::gate::Gate;
 use union_io::shelf::Shelf;
-use union_sessions::sessions::load_and_ask;
+use union_sessions::sessions::{load_and_ask, load_by_sessions};
+use union_sessions::start::Start;
 use union_sessions::watched::Watched;
 use union_watch::answered::Answered;
 use union_watch::ask_file::AskFile;
@@ -83,7 +88,69 @@ fn answered(watched: Watched, lines: Vec<AskLine<'_>>, refused: bool) -> Answere
     }
 }
 
-/// Reads the lines of a file of questions, loads the files of the libraries, and asks beside the load and after it.
+/// What was loaded, with what is told of the file of names before the reports. Returns `Memory` if allocation fails.
+fn behind_names(loaded: Loaded, report: Vec<u8>, refused: bool) -> Result<Loaded, Status>
+    ensures catalogue { IfOk result (λ all. all.catalogue ≡ loaded.catalogue) }
+    ensures reports { IfOk result (λ all. all.reports.items ≡ report.items ++ loaded.reports.items) }
+    ensures refused { IfOk result (λ all. all.refused ≡ (refused || loaded.refused)) }
+    ensures memory { IfErr result (λ status. status ≡ Status.Memory) }
+{
+    match loaded.behind(report, refused) {
+        Ok(all) => Ok(all),
+        Err(AllocError) => Err(Status::Memory),
+    }
+}
+
+/// The same of what was loaded and asked.
+fn watched_behind(watched: Watched, report: Vec<u8>, refused: bool) -> Result<Watched, Status>
+    ensures catalogue { IfOk result (λ all. all.loaded.catalogue ≡ watched.loaded.catalogue) }
+    ensures reports { IfOk result (λ all. all.loaded.reports.items ≡ report.items ++ watched.loaded.reports.items) }
+    ensures refused { IfOk result (λ all. all.loaded.refused ≡ (refused || watched.loaded.refused)) }
+    ensures beside { IfOk result (λ all. all.beside ≡ watched.beside) }
+    ensures late { IfOk result (λ all. all.late ≡ watched.late) }
+    ensures memory { IfErr result (λ status. status ≡ Status.Memory) }
+{
+    let Watched {
+        loaded,
+        beside,
+        late,
+    } = watched;
+    match behind_names(loaded, report, refused) {
+        Ok(loaded) => Ok(Watched {
+            loaded,
+            beside,
+            late,
+        }),
+        Err(status) => Err(status),
+    }
+}
+
+/// Loads the files of the libraries by these names.
+///
+/// # Errors
+///
+/// As those of `load_by_sessions`: the first file that could not be opened, or read to its end, or is too long; or `Memory`.
+pub fn load_by_names<R: Threads + Wait + Sync, F: Shelf, G: Gate>(
+    host: &Host<'_, R, G>,
+    loading: &Loading<'_>,
+    names: NamesRead,
+    shelf: &mut F,
+) -> Result<Loaded, Status>
+    ensures { Gathers result (libraries_meaning loading.now.libraries) (shelf_flow F.files F.faults shelf.old shelf.new)
+        (λ loaded contents. HasTurned IsInterleaving (named_by names) (deliveries_of contents (loading_meaning loading.now)) loaded) }
+{
+    let NamesRead {
+        table,
+        report,
+        refused,
+    } = names;
+    match load_by_sessions(host.rt, host.alloc, loading, table, shelf, host.gate) {
+        Ok(loaded) => behind_names(loaded, report, refused),
+        Err(status) => Err(status),
+    }
+}
+
+/// Reads the lines of a file of questions, loads the files of the libraries by these names, and asks beside the load and after it.
 ///
 /// # Errors
 ///
@@ -92,14 +159,16 @@ pub fn load_and_answer<'a, R: Threads + Wait + Sync, F: Shelf, G: Gate>(
     host: &Host<'_, R, G>,
     text: &'a [u8],
     loading: &Loading<'_>,
+    names: NamesRead,
     shelf: &mut F,
 ) -> Result<Answered<'a>, Status>
     ensures gathers { Gathers result (libraries_meaning loading.now.libraries) (shelf_flow F.files F.faults shelf.old shelf.new)
-        (λ answered contents. HasUnited (deliveries_of contents (loading_meaning loading.now)) answered.loaded) }
+        (λ answered contents. HasTurned IsInterleaving (named_by names) (deliveries_of contents (loading_meaning loading.now))
+        answered.loaded) }
     ensures lines { IfOk result (λ answered. map line_meaning answered.lines.items ≡ lines_in text.now) }
-    ensures told { IfOk result (λ answered. AreTold answered.loaded.catalogue (asked_lines text.now)
+    ensures told { IfOk result (λ answered. AreTold names.table answered.loaded.catalogue.history (asked_lines text.now)
         (told_of (lines_in text.now) (answered.beside.items ++ answered.late.items))) }
-    ensures timely { IfOk result (λ answered. AreTimely loading.now.workers.number (length answered.loaded.catalogue)
+    ensures timely { IfOk result (λ answered. AreTimely loading.now.workers.number (length answered.loaded.catalogue.history)
         (numbers_of (told_of (lines_in text.now) (answered.beside.items ++ answered.late.items)))) }
     ensures refused { IfOk result (λ answered. answered.refused ≡ has_refused_line text.now) }
 {
@@ -111,8 +180,20 @@ pub fn load_and_answer<'a, R: Threads + Wait + Sync, F: Shelf, G: Gate>(
         questions,
         refused,
     } = asked;
-    match load_and_ask(host.rt, host.alloc, loading, questions, shelf, host.gate) {
-        Ok(watched) => Ok(answered(watched, lines, refused)),
+    let NamesRead {
+        table,
+        report,
+        refused: is_refused,
+    } = names;
+    let start = Start {
+        names: table,
+        questions,
+    };
+    match load_and_ask(host.rt, host.alloc, loading, start, shelf, host.gate) {
+        Ok(watched) => match watched_behind(watched, report, is_refused) {
+            Ok(watched) => Ok(answered(watched, lines, refused)),
+            Err(status) => Err(status),
+        },
         Err(status) => Err(status),
     }
 }
@@ -134,9 +215,9 @@ pub fn follow_and_answer<'a, R: Threads + Wait + Sync, F: Shelf, G>(
         (λ answered contents. HasFollowed (deliveries [] contents (libraries_meaning libraries.now))
         answered.loaded) }
     ensures lines { IfOk result (λ answered. map line_meaning answered.lines.items ≡ lines_in text.now) }
-    ensures told { IfOk result (λ answered. AreTold answered.loaded.catalogue (asked_lines text.now)
+    ensures told { IfOk result (λ answered. AreTold empty answered.loaded.catalogue.history (asked_lines text.now)
         (told_of (lines_in text.now) (answered.beside.items ++ answered.late.items))) }
-    ensures timely { IfOk result (λ answered. AreTimely 2 (length answered.loaded.catalogue)
+    ensures timely { IfOk result (λ answered. AreTimely 2 (length answered.loaded.catalogue.history)
         (numbers_of (told_of (lines_in text.now) (answered.beside.items ++ answered.late.items)))) }
     ensures refused { IfOk result (λ answered. answered.refused ≡ has_refused_line text.now) }
 {

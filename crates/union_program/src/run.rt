@@ -18,9 +18,10 @@ ghost use Rattle.union_program.specs.Follow.{IsFollowRun};
 ghost use Rattle.union_commands.specs.Runs.{exported_as, listed, showing_of, IsCheck, IsUnionRun, IsTold};
 ghost use Rattle.union_json.specs.Runs.{IsToJsonRun, IsFromJsonRun};
 
-use crate::answering::{follow_and_answer, load_and_answer};
+use crate::answering::{follow_and_answer, load_and_answer, load_by_names};
 use crate::host::Host;
 use crate::json::{from_json_file, to_json_file};
+use names_file::shelved::names_of;
 use std::alloc::Global;
 use std::sync::Wait;
 use std::thread::Threads;
@@ -36,7 +37,6 @@ use union_io::gate::Gate;
 use union_io::shelf::Shelf;
 use union_io::sink::{Sink, put_all};
 use union_script::run::script_run;
-use union_sessions::sessions::load_by_sessions;
 use union_trial::trial::trial_run;
 use union_words::job::Job;
 use union_words::libraries::Libraries;
@@ -175,7 +175,7 @@ fn run_trial<R: Threads + Sync, O: Sink>(
     trial_run(rt, alloc, trial.seed(), trial.count(), workers, out)
 }
 
-/// Fills a catalogue with the files of libraries, and shows it.
+/// Fills a catalogue with the files of libraries, by the names of the file of names, and shows it.
 fn run_union<R: Threads + Wait + Sync, F: Shelf, O: Sink, N: Sink, G: Gate>(
     host: &Host<'_, R, G>,
     shown: Shown,
@@ -189,13 +189,16 @@ fn run_union<R: Threads + Wait + Sync, F: Shelf, O: Sink, N: Sink, G: Gate>(
     ensures noted { IsTrue (is_early result)
         → IsNoted (outflow N.written N.faults notes.old notes.new) (early_text result) }
 {
-    match load_by_sessions(host.rt, host.alloc, loading, shelf, host.gate) {
-        Ok(loaded) => write_shown(host.alloc, shown, loaded, out, notes),
+    match names_of(host.alloc, loading.names, shelf) {
+        Ok(names) => match load_by_names(host, loading, names, shelf) {
+            Ok(loaded) => write_shown(host.alloc, shown, loaded, out, notes),
+            Err(status) => end(notes, status),
+        },
         Err(status) => end(notes, status),
     }
 }
 
-/// Loads the files of libraries, and shows their turns and the answers to the questions of a file.
+/// Loads the files of libraries, by the names of the file of names, and shows their turns and the answers to the questions of a file.
 fn run_watch<R: Threads + Wait + Sync, F: Shelf, O: Sink, N: Sink, G: Gate>(
     host: &Host<'_, R, G>,
     asks: &[u8],
@@ -210,8 +213,11 @@ fn run_watch<R: Threads + Wait + Sync, F: Shelf, O: Sink, N: Sink, G: Gate>(
         → IsNoted (outflow N.written N.faults notes.old notes.new) (early_text result) }
 {
     match read_asks(host.alloc, asks, shelf) {
-        Ok(text) => match load_and_answer(host, text.as_slice(), loading, shelf) {
-            Ok(answered) => write_answered(host.alloc, answered, out, notes),
+        Ok(text) => match names_of(host.alloc, loading.names, shelf) {
+            Ok(names) => match load_and_answer(host, text.as_slice(), loading, names, shelf) {
+                Ok(answered) => write_answered(host.alloc, answered, out, notes),
+                Err(status) => end(notes, status),
+            },
             Err(status) => end(notes, status),
         },
         Err(status) => end(notes, status),
@@ -258,8 +264,9 @@ fn run_follow<R: Threads + Wait + Sync, F: Shelf, O: Sink, N: Sink, G>(
 ///
 /// A run that ends early, for another cause than a failed write, has one line on `notes` that says why. After `export`, `works`
 /// and the file of questions of `watch` the option `--workers=N` says how many workers load the libraries, each by a session of
-/// its own, and `--prefer=LIB,..` which libraries' records are preferred; `gate` is told before and after each turn of a
-/// session. Waits for the workers.
+/// its own, `--prefer=LIB,..` which libraries' records are preferred, and `--names=PATH` by which names works are made: that file is
+/// read before any library's file is opened, and what is told of it stands on `notes` before the reports. `gate` is told before and
+/// after each turn of a session. Waits for the workers.
 pub fn union_run<R: Threads + Wait + Sync, F: Shelf, O: Sink, N: Sink, G: Gate>(
     rt: &R,
     alloc: Global,

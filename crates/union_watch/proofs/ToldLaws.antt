@@ -6,6 +6,7 @@ use Rattle.std.proofs.Math.Seq.{drop-append_seam}
 use Rattle.std.proofs.lemmas.List.{length-map, length-drop, length-take, map-append}
 use Rattle.std.proofs.lemmas.Grind.{flat_map-append}
 use Rattle.union_watch.specs.declared.ask_line.AskLine.{AskLine as LineInPlace}
+use Rattle.authority_names.specs.Leads.{Table}
 use Rattle.catalogue_editions.specs.declared.batch.Batch.{Batch}
 use Rattle.catalogue_core.specs.declared.history_entry.HistoryEntry.{HistoryEntry}
 use Rattle.catalogue_export.specs.Writing.{IsWrittenTo, HasMoved}
@@ -27,80 +28,80 @@ first-entries zero history = refl
 first-entries (suc n) [] = refl
 first-entries (suc n) (entry ∷ history) = ap (λ (h : List HistoryEntry). entry ∷ h) (first-entries n history)
 
-answer-is : (history : List HistoryEntry) (query : Query) (reply : ℕ × Answer) → tells (take reply.0 (entries_of history)) query reply.1
-    → IsAnswer query (take reply.0 history) (ended_lines reply.1.lines)
-answer-is history query reply says =
-    subst (λ front. IsAnswer query front (ended_lines reply.1.lines)) (first-entries reply.0 history)
+answer-is : (names : Table) (history : List HistoryEntry) (query : Query) (reply : ℕ × Answer) → tells names (take reply.0 (entries_of history)) query reply.1
+    → IsAnswer names query (take reply.0 history) (ended_lines reply.1.lines)
+answer-is names history query reply says =
+    subst (λ front. IsAnswer names query front (ended_lines reply.1.lines)) (first-entries reply.0 history)
     (record { editions = says.0; resolved = says.1; answer = ap ended_lines says.2 })
 
 abbrev numbers : List (ℕ × Answer) → List ℕ
 numbers replies = map (λ (reply : ℕ × Answer). reply.0) replies
 
 -- what is told by the replies to the questions of lines
-record Tells (history : List HistoryEntry) (lines : List (List ℕ)) (told : List Told) (replies : List (ℕ × Answer)) : Type 0 where
-  told_is : AreTold history lines told
+record Tells (names : Table) (history : List HistoryEntry) (lines : List (List ℕ)) (told : List Told) (replies : List (ℕ × Answer)) : Type 0 where
+  told_is : AreTold names history lines told
   numbers_are : numbers_of told ≡ numbers replies
 
-abbrev TellsAll : List HistoryEntry → List (List ℕ) → Type 0
-TellsAll history lines = (known : ℕ) (replies : List (ℕ × Answer)) → Replied (entries_of history) known (flat_map question_of lines) replies
-    → length replies ≡ length (flat_map question_of lines) → Tells history lines (told_of (map read_line lines) replies) replies
+abbrev TellsAll : Table → List HistoryEntry → List (List ℕ) → Type 0
+TellsAll names history lines = (known : ℕ) (replies : List (ℕ × Answer)) → Replied names (entries_of history) known (flat_map question_of lines) replies
+    → length replies ≡ length (flat_map question_of lines) → Tells names history lines (told_of (map read_line lines) replies) replies
 
-tells-more : (history : List HistoryEntry) (line : List ℕ) (lines : List (List ℕ)) (found : Result Query QueryRefusal) → query_of line ≡ found
-    → TellsAll history lines → (known : ℕ) (replies : List (ℕ × Answer))
-    → Replied (entries_of history) known (given found ++ flat_map question_of lines) replies
+tells-more : (names : Table) (history : List HistoryEntry) (line : List ℕ) (lines : List (List ℕ)) (found : Result Query QueryRefusal) → query_of line ≡ found
+    → TellsAll names history lines → (known : ℕ) (replies : List (ℕ × Answer))
+    → Replied names (entries_of history) known (given found ++ flat_map question_of lines) replies
     → length replies ≡ length (given found ++ flat_map question_of lines)
-    → Tells history (line ∷ lines) (told_of (with_line line found ∷ map read_line lines) replies) replies
-tells-more history line lines (Ok query) is behind known [] replied long = absurd (omega (arith, long))
-tells-more history line lines (Ok query) is behind known (reply ∷ replies) replied long =
+    → Tells names history (line ∷ lines) (told_of (with_line line found ∷ map read_line lines) replies) replies
+tells-more names history line lines (Ok query) is behind known [] replied long = absurd (omega (arith, long))
+tells-more names history line lines (Ok query) is behind known (reply ∷ replies) replied long =
     let rest = behind reply.0 replies replied.3 (omega (arith, long)) in record {
-      told_is = (subst (λ found. IsToldOf history line found (Reply reply.0 line (ended_lines reply.1.lines))) (sym is) (refl, answer-is history query reply replied.2), rest.told_is);
+      told_is = (subst (λ found. IsToldOf names history line found (Reply reply.0 line (ended_lines reply.1.lines))) (sym is) (refl, answer-is names history query reply replied.2), rest.told_is);
       numbers_are = ap (λ (ns : List ℕ). reply.0 ∷ ns) rest.numbers_are;
     }
-tells-more history line lines (Err refusal) is behind known replies replied long =
+tells-more names history line lines (Err refusal) is behind known replies replied long =
     let rest = behind known replies replied long in record {
-      told_is = (subst (λ found. IsToldOf history line found (Refused refusal)) (sym is) refl, rest.told_is);
+      told_is = (subst (λ found. IsToldOf names history line found (Refused refusal)) (sym is) refl, rest.told_is);
       numbers_are = rest.numbers_are;
     }
 
-tells-all : (history : List HistoryEntry) (lines : List (List ℕ)) → TellsAll history lines
-tells-all history [] known [] replied long = record { told_is = tt; numbers_are = refl }
-tells-all history [] known (reply ∷ replies) replied long = absurd replied
-tells-all history (line ∷ lines) known replies replied long =
-    tells-more history line lines (query_of line) refl (tells-all history lines) known replies replied long
+tells-all : (names : Table) (history : List HistoryEntry) (lines : List (List ℕ)) → TellsAll names history lines
+tells-all names history [] known [] replied long = record { told_is = tt; numbers_are = refl }
+tells-all names history [] known (reply ∷ replies) replied long = absurd replied
+tells-all names history (line ∷ lines) known replies replied long =
+    tells-more names history line lines (query_of line) refl (tells-all names history lines) known replies replied long
 
 -- the numbers of replies never fall
-never-fall : (history : List (ℕ × Batch)) (known : ℕ) (questions : List Query) (replies : List (ℕ × Answer))
-    → Replied history known questions replies → NeverFall known (length history) (numbers replies)
-never-fall history known questions [] replied = tt
-never-fall history known [] (reply ∷ replies) replied = absurd replied
-never-fall history known (question ∷ questions) (reply ∷ replies) replied =
-    (replied.0, replied.1, never-fall history reply.0 questions replies replied.3)
+never-fall : (names : Table) (history : List (ℕ × Batch)) (known : ℕ) (questions : List Query) (replies : List (ℕ × Answer))
+    → Replied names history known questions replies → NeverFall known (length history) (numbers replies)
+never-fall names history known questions [] replied = tt
+never-fall names history known [] (reply ∷ replies) replied = absurd replied
+never-fall names history known (question ∷ questions) (reply ∷ replies) replied =
+    (replied.0, replied.1, never-fall names history reply.0 questions replies replied.3)
 
 -- those to late questions are that of all turns
-all-late : (history : List (ℕ × Batch)) (known : ℕ) (questions : List Query) (replies : List (ℕ × Answer)) → length history ≤ known
-    → Replied history known questions replies → AllByRecursion (λ number. number ≡ length history) (numbers replies)
-all-late history known questions [] past replied = tt
-all-late history known [] (reply ∷ replies) past replied = absurd replied
-all-late history known (question ∷ questions) (reply ∷ replies) past replied =
-    (omega (arith, replied.0, replied.1), all-late history reply.0 questions replies (omega (arith, replied.0)) replied.3)
+all-late : (names : Table) (history : List (ℕ × Batch)) (known : ℕ) (questions : List Query) (replies : List (ℕ × Answer)) → length history ≤ known
+    → Replied names history known questions replies → AllByRecursion (λ number. number ≡ length history) (numbers replies)
+all-late names history known questions [] past replied = tt
+all-late names history known [] (reply ∷ replies) past replied = absurd replied
+all-late names history known (question ∷ questions) (reply ∷ replies) past replied =
+    (omega (arith, replied.0, replied.1), all-late names history reply.0 questions replies (omega (arith, replied.0)) replied.3)
 
 -- replies that know more know also less
-replied-lower : (history : List (ℕ × Batch)) (low known : ℕ) (questions : List Query) (replies : List (ℕ × Answer)) → low ≤ known
-    → Replied history known questions replies → Replied history low questions replies
-replied-lower history low known questions [] under replied = tt
-replied-lower history low known [] (reply ∷ replies) under replied = absurd replied
-replied-lower history low known (question ∷ questions) (reply ∷ replies) under replied =
+replied-lower : (names : Table) (history : List (ℕ × Batch)) (low known : ℕ) (questions : List Query) (replies : List (ℕ × Answer)) → low ≤ known
+    → Replied names history known questions replies → Replied names history low questions replies
+replied-lower names history low known questions [] under replied = tt
+replied-lower names history low known [] (reply ∷ replies) under replied = absurd replied
+replied-lower names history low known (question ∷ questions) (reply ∷ replies) under replied =
     (omega (arith, replied.0), replied.1, replied.2, replied.3)
 
 -- late replies after others
-replied-behind : (history : List (ℕ × Batch)) (known : ℕ) (first later : List Query) (replies more : List (ℕ × Answer)) → known ≤ length history
-    → Replied history known first replies → length replies ≡ length first → Replied history (length history) later more
-    → Replied history known (first ++ later) (replies ++ more)
-replied-behind history known [] later [] more within replied long behind = replied-lower history known (length history) later more within behind
-replied-behind history known [] later (reply ∷ replies) more within replied long behind = absurd replied
-replied-behind history known (question ∷ first) later [] more within replied long behind = absurd (omega (arith, long))
-replied-behind history known (question ∷ first) later (reply ∷ replies) more within replied long behind =
-    (replied.0, replied.1, replied.2, replied-behind history reply.0 first later replies more replied.1 replied.3 (omega (arith, long)) behind)
+replied-behind : (names : Table) (history : List (ℕ × Batch)) (known : ℕ) (first later : List Query) (replies more : List (ℕ × Answer)) → known ≤ length history
+    → Replied names history known first replies → length replies ≡ length first → Replied names history (length history) later more
+    → Replied names history known (first ++ later) (replies ++ more)
+replied-behind names history known [] later [] more within replied long behind = replied-lower names history known (length history) later more within behind
+replied-behind names history known [] later (reply ∷ replies) more within replied long behind = absurd replied
+replied-behind names history known (question ∷ first) later [] more within replied long behind = absurd (omega (arith, long))
+replied-behind names history known (question ∷ first) later (reply ∷ replies) more within replied long behind =
+    (replied.0, replied.1, replied.2, replied-behind names history reply.0 first later replies more replied.1 replied.3 (omega (arith, long)) behind)
 
 -- what is beside, and after it what is late, is all
 pub beside-late : {X : Type 0} (workers : ℕ) (all : List X) → beside workers all ++ late workers all ≡ all
@@ -121,30 +122,30 @@ late-are false all first later front long =
 
 -- the replies to the questions of a file, which were divided by the number of workers: what is told of its lines, and over how
 -- many turns
-pub told-watched : (workers : ℕ) (asks : List ℕ) (history : List HistoryEntry) (first later : List (ℕ × Answer))
-    → Replied (entries_of history) 0 (beside workers (questions_in asks)) first → length first ≡ length (beside workers (questions_in asks))
-    → Replied (entries_of history) (length history) (late workers (questions_in asks)) later → length later ≡ length (late workers (questions_in asks))
-    → AreTold history (asked_lines asks) (told_of (lines_in asks) (first ++ later))
+pub told-watched : (names : Table) (workers : ℕ) (asks : List ℕ) (history : List HistoryEntry) (first later : List (ℕ × Answer))
+    → Replied names (entries_of history) 0 (beside workers (questions_in asks)) first → length first ≡ length (beside workers (questions_in asks))
+    → Replied names (entries_of history) (length history) (late workers (questions_in asks)) later → length later ≡ length (late workers (questions_in asks))
+    → AreTold names history (asked_lines asks) (told_of (lines_in asks) (first ++ later))
     × AreTimely workers (length history) (numbers_of (told_of (lines_in asks) (first ++ later)))
-told-watched workers asks history first later beside_is beside_long late_is late_long =
+told-watched names workers asks history first later beside_is beside_long late_is late_long =
     let entries = entries_of history in
     let questions = questions_in asks in
     let turns : length entries ≡ length history = length-map history (λ (entry : HistoryEntry). (entry.pass, entry.batch)) in
-    let late_all : Replied entries (length entries) (late workers questions) later
-    = subst (λ n. Replied entries n (late workers questions) later) (sym turns) late_is in
-    let both : Replied entries 0 questions (first ++ later)
-    = subst (λ qs. Replied entries 0 qs (first ++ later)) (beside-late workers questions)
-    (replied-behind entries 0 (beside workers questions) (late workers questions) first later (omega arith) beside_is beside_long late_all) in
+    let late_all : Replied names entries (length entries) (late workers questions) later
+    = subst (λ n. Replied names entries n (late workers questions) later) (sym turns) late_is in
+    let both : Replied names entries 0 questions (first ++ later)
+    = subst (λ qs. Replied names entries 0 qs (first ++ later)) (beside-late workers questions)
+    (replied-behind names entries 0 (beside workers questions) (late workers questions) first later (omega arith) beside_is beside_long late_all) in
     let long : length (first ++ later) ≡ length questions
     = length-append first later ∙ (ap (λ n. n + length later) beside_long ∙ (ap (λ n. length (beside workers questions) + n) late_long
     ∙ (sym (length-append (beside workers questions) (late workers questions)) ∙ ap length (beside-late workers questions)))) in
-    let tells = tells-all history (asked_lines asks) 0 (first ++ later) both long in
+    let tells = tells-all names history (asked_lines asks) 0 (first ++ later) both long in
     let those : numbers (first ++ later) ≡ numbers first ++ numbers later = map-append (λ (reply : ℕ × Answer). reply.0) first later in (
       tells.told_is,
       record {
         never_fall =
             subst (NeverFall 0 (length history)) (sym tells.numbers_are)
-            (subst (λ n. NeverFall 0 n (numbers (first ++ later))) turns (never-fall entries 0 questions (first ++ later) both));
+            (subst (λ n. NeverFall 0 n (numbers (first ++ later))) turns (never-fall names entries 0 questions (first ++ later) both));
         late =
             let last : late workers (numbers (first ++ later)) ≡ numbers later
             = ap (late workers) those
@@ -153,7 +154,7 @@ told-watched workers asks history first later beside_is beside_long late_is late
             subst (λ ns. AllByRecursion (λ number. number ≡ length history) (late workers ns)) (sym tells.numbers_are)
             (subst (AllByRecursion (λ number. number ≡ length history)) (sym last)
             (subst (λ n. AllByRecursion (λ number. number ≡ n) (numbers later)) turns
-            (all-late entries (length entries) (late workers questions) later (omega arith) late_all)));
+            (all-late names entries (length entries) (late workers questions) later (omega arith) late_all)));
       },
     )
 

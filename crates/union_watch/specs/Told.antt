@@ -1,6 +1,7 @@
 -- What is told of the lines of a file of questions.
 use Rattle.std.specs.Prelude.{◌≡◌, ℕ, ◌==◌, ◌||◌, nat_lt, if◌then◌else◌, List, [], ◌∷◌, ◌++◌, map, take, drop, codes, Result, Ok, Err}
 use Rattle.std.specs.List.{flat_map, AllZip}
+use Rattle.authority_names.specs.Leads.{Table}
 use Rattle.catalogue_core.specs.declared.history_entry.HistoryEntry.{HistoryEntry}
 use Rattle.catalogue_query.specs.Queries.{query_of}
 use Rattle.catalogue_query.specs.declared.answer.Answer.{Answer}
@@ -44,16 +45,17 @@ told_text (Refused refusal) = refusal_text refusal
 abbrev pub told_text_of : List Told → List ℕ
 told_text_of all = flat_map told_text all
 
--- it is what is told of a line that gives this query, or none for this reason, where the turns are those of the history
-abbrev pub IsToldOf : List HistoryEntry → List ℕ → Result Query QueryRefusal → Told → Type 0
-IsToldOf history line (Ok query) (Reply over shown answer) = (shown ≡ line) × IsAnswer query (take over history) answer
-IsToldOf history line (Ok query) (Refused refusal) = ⊥
-IsToldOf history line (Err refusal) (Reply over shown answer) = ⊥
-IsToldOf history line (Err refusal) (Refused other) = other ≡ refusal
+-- it is what is told of a line that gives this query, or none for this reason, by these names and where the turns are those of the
+-- history
+abbrev pub IsToldOf : Table → List HistoryEntry → List ℕ → Result Query QueryRefusal → Told → Type 0
+IsToldOf names history line (Ok query) (Reply over shown answer) = (shown ≡ line) × IsAnswer names query (take over history) answer
+IsToldOf names history line (Ok query) (Refused refusal) = ⊥
+IsToldOf names history line (Err refusal) (Reply over shown answer) = ⊥
+IsToldOf names history line (Err refusal) (Refused other) = other ≡ refusal
 
 -- the same of each of the lines, in their order
-abbrev pub AreTold : List HistoryEntry → List (List ℕ) → List Told → Type 0
-AreTold history lines told = AllZip (λ line. IsToldOf history line (query_of line)) lines told
+abbrev pub AreTold : Table → List HistoryEntry → List (List ℕ) → List Told → Type 0
+AreTold names history lines told = AllZip (λ line. IsToldOf names history line (query_of line)) lines told
 
 -- the number of turns of a reply
 abbrev pub number_of : Told → List ℕ

@@ -36,7 +36,7 @@ fn write_turns<O: Sink>(
     pending: &mut Vec<u8>,
     out: &mut O,
 ) -> Result<(), ExportFail>
-    ensures { HasMoved (pending.old.items ++ turns_text catalogue.now) pending.new.items
+    ensures { HasMoved (pending.old.items ++ turns_text catalogue.now.history) pending.new.items
         (record { old = O.written out.old; new = O.written out.new; before = O.faults out.old; after = O.faults out.new }) result }
 {
     for turn in 0..catalogue.turns() {
@@ -110,7 +110,7 @@ pub fn write_watch<O: Sink>(
     late: Vec<(u64, Answer)>,
     out: &mut O,
 ) -> Result<(), ExportFail>
-    ensures { HasWritten (watch_text catalogue.now (told_of (map line_meaning lines.now) (beside.items ++ late.items)))
+    ensures { HasWritten (watch_text catalogue.now.history (told_of (map line_meaning lines.now) (beside.items ++ late.items)))
         (record { old = O.written out.old; new = O.written out.new; before = O.faults out.old; after = O.faults out.new }) result }
 {
     let replies = joined(beside, late)?;

@@ -19,7 +19,7 @@ pub returns-in-Err : goal.returns-in-Err
 returns-in-Err g c =
     let before = c.loop-turn.invariant in
     let turn = c.loop-turn.turn in
-    let history = c.args.catalogue.now in
+    let history = c.args.catalogue.now.history in
     let entry = c.entry.result.now in
     moved-stops (g.O.Sink.written c.args.out.now) (g.O.Sink.written c.loop-turn.out) (g.O.Sink.written c.write_turn.new.out)
     (g.O.Sink.faults c.args.out.now) (g.O.Sink.faults c.loop-turn.out) (g.O.Sink.faults c.write_turn.new.out)
@@ -32,7 +32,7 @@ pub loop-turn-preserved : goal.loop-turn-preserved
 loop-turn-preserved g c =
     let before = c.loop-turn.invariant in
     let turn = c.loop-turn.turn in
-    let history = c.args.catalogue.now in
+    let history = c.args.catalogue.now.history in
     let entry = c.entry.result.now in
     record {
       text = before.text ++ turn_text (turn_of (turn + 1) entry);
@@ -47,7 +47,7 @@ pub returns : goal.returns
 returns g c =
     let before = c.loop-turn.invariant in
     let turn = c.loop-turn.turn in
-    let history = c.args.catalogue.now in
+    let history = c.args.catalogue.now.history in
     let past : length history ≤ turn = omega (arith, c.turns-turn-end.ensures.value, c.loop-turn-test.false) in
     let whole : c.args.pending.now.items ++ turns_text history ≡ before.text
     = before.whole ∙ ap (λ left. before.text ++ flat_map turn_text (turns_from (turn + 1) left)) (drop_all turn history past) ∙ append-nil before.text in

@@ -8,7 +8,7 @@ use Rattle.union_watch.proofs.writing.write_turns.Given as goal
 abbrev pub invariant-loop-turn : goal.invariant-loop-turn
 invariant-loop-turn g l = record {
   text : List ℕ;
-  whole : l.initial.pending.items ++ turns_text l.catalogue ≡ text ++ flat_map turn_text (turns_from (l.turn + 1) (drop l.turn l.catalogue));
+  whole : l.initial.pending.items ++ turns_text l.catalogue.history ≡ text ++ flat_map turn_text (turns_from (l.turn + 1) (drop l.turn l.catalogue.history));
   moved : IsWrittenTo text l.pending.items (g.O.Sink.written l.initial.out) (g.O.Sink.written l.out);
   calm : g.O.Sink.faults l.out ≡ g.O.Sink.faults l.initial.out;
 }
