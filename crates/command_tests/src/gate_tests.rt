@@ -3,6 +3,7 @@
 use crate::records::{ONE, OTHER};
 use crate::runs::{Files, calm, run, shelf_of};
 use crate::texts::words_between;
+use authority_names::name_table::NameTable;
 use std::alloc::Global;
 use std::hint::spin_loop;
 use std::sync::Wait;
@@ -190,7 +191,8 @@ fn sessions_of_turns<R: Threads + Wait + Sync, G: Gate>(
     let Some(loading) = loading_of(words.as_slice()) else {
         return Ok(sessions);
     };
-    if let Ok(loaded) = load_by_sessions(rt, alloc, &loading, &mut shelf, gate) {
+    let names = NameTable::empty(alloc);
+    if let Ok(loaded) = load_by_sessions(rt, alloc, &loading, names, &mut shelf, gate) {
         for turn in 0..loaded.catalogue.turns() {
             sessions.push(loaded.catalogue.entry(turn).pass)?;
         }

@@ -3,9 +3,9 @@
 //!
 //! What a proof cannot see is tested here by the public calls of each crate: the forms of words, worked files and their texts, each
 //! fault in turn, and sessions that are held by gates. The tests stand in a crate of their own since a crate with tests is
-//! proved twice, with them and without, and so are these libraries only once. There is a module for each of them, and three
-//! more for the program: `union_json_tests`, on MARC in JSON, `union_tests`, on several libraries at once, and `gate_tests`, on the
-//! order of their turns.
+//! proved twice, with them and without, and so are these libraries only once. There is a module for each of them, and four
+//! more for the program: `union_json_tests`, on MARC in JSON, `union_tests`, on several libraries at once, `union_names_tests`, on
+//! a file of names, and `gate_tests`, on the order of their turns.
 #![tactic(auto)]
 
 #[cfg(test)]
@@ -18,6 +18,8 @@ mod runs;
 mod texts;
 #[cfg(test)]
 mod union_json_tests;
+#[cfg(test)]
+mod union_names_tests;
 #[cfg(test)]
 mod union_program_tests;
 #[cfg(test)]

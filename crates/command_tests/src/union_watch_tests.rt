@@ -1,6 +1,7 @@
 //! What no clause says: that the text is the one that was meant.
 use crate::records::{BRIDGE, ONE};
 use crate::texts::joined;
+use authority_names::name_table::NameTable;
 use catalogue_lock::machine::Machine;
 use catalogue_query::answer::Answer;
 use catalogue_query::query::Query;
@@ -69,7 +70,7 @@ fn sink(alloc: Global, limit: usize) -> Result<MemSink, Memory> {
 #[test]
 fn lines_of_all_kinds_are_told(rt: HostRuntime) -> Result<(), Fail> {
     let alloc = rt.alloc();
-    let mut served = Served::empty(alloc)?;
+    let mut served = Served::open(alloc, NameTable::empty(alloc))?;
     let bridge = joined(alloc, &BRIDGE)?;
     load(&rt, alloc, &mut served, 0, b"LIBA", bridge.as_slice())?;
     load(&rt, alloc, &mut served, 1, b"LIBB", ONE)?;
@@ -93,7 +94,7 @@ fn lines_of_all_kinds_are_told(rt: HostRuntime) -> Result<(), Fail> {
 #[test]
 fn replies_beside_stand_before_late_ones(rt: HostRuntime) -> Result<(), Fail> {
     let alloc = rt.alloc();
-    let mut served = Served::empty(alloc)?;
+    let mut served = Served::open(alloc, NameTable::empty(alloc))?;
     let file = AskFile::read(alloc, b"count\ncount")?;
     assert!(rt; !file.has_refusals());
     let questions = divide(alloc, 2, file.questions)?;

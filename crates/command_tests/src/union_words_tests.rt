@@ -32,7 +32,7 @@ fn tell_libraries(text: &mut Vec<u8>, libraries: &Libraries<'_>) -> Result<(), A
     Ok(())
 }
 
-/// A command and how it loads: its number of workers, the place of LIBB in its preference, and its libraries.
+/// A command and how it loads: its number of workers, the place of LIBB in its preference, and its file of names.
 fn tell_loading(
     text: &mut Vec<u8>,
     command: &[u8],
@@ -46,6 +46,10 @@ fn tell_loading(
             0 => b"".as_slice(),
             _ => b" LIBB later".as_slice(),
         })?;
+    }
+    if let Some(names) = loading.names {
+        text.extend_from_slice(b" names ")?;
+        text.extend_from_slice(names)?;
     }
     Ok(())
 }
@@ -126,7 +130,7 @@ fn asks(alloc: Global, line: &[u8], want: &[u8]) -> Result<bool, Fail> {
 }
 
 /// Lines of words, and what each asks for.
-const FORMS: [(&[u8], &[u8]); 27] = [
+const FORMS: [(&[u8], &[u8]); 31] = [
     (b"check LIBA=a", b"check LIBA a"),
     (b"tojson LIBA=a", b"to json LIBA a"),
     (b"tojson LIBA=a=b", b"to json LIBA a=b"),
@@ -163,6 +167,19 @@ const FORMS: [(&[u8], &[u8]); 27] = [
         b"watch 4 LIBB first q LIBA a",
     ),
     (b"export --prefer=LIBA LIBA=a", b"export 4 LIBA a"),
+    (b"export --names=n LIBA=a", b"export 4 names n LIBA a"),
+    (
+        b"export --workers=1 --prefer=LIBB --names=n=o --json LIBA=a",
+        b"export 1 LIBB first names n=o json LIBA a",
+    ),
+    (
+        b"works --names=--names= LIBA=a",
+        b"works 4 names --names= LIBA a",
+    ),
+    (
+        b"watch --ask=q --workers=1 --names=n LIBA=a",
+        b"watch 1 names n q LIBA a",
+    ),
     (b"follow --ask=q LIBA=a LIBB=b", b"follow q LIBA a LIBB b"),
     (b"script s.txt", b"script s.txt"),
     (b"trial 0 1 1", b"trial 1 least"),
@@ -172,7 +189,7 @@ const FORMS: [(&[u8], &[u8]); 27] = [
 ];
 
 /// Lines of words that are in no form.
-const NO_FORMS: [&[u8]; 40] = [
+const NO_FORMS: [&[u8]; 52] = [
     b"",
     b"export",
     b"export LIBA=a LIBA=b",
@@ -213,6 +230,18 @@ const NO_FORMS: [&[u8]; 40] = [
     b"follow --ask=q",
     b"follow --ask=q --workers=2 LIBA=a",
     b"follow --ask=q --prefer=LIBA LIBA=a",
+    b"export --names= LIBA=a",
+    b"export --names=\xFF LIBA=a",
+    b"export --names=n",
+    b"export --names=n --names=n LIBA=a",
+    b"export --names=n --workers=1 LIBA=a",
+    b"export --names=n --prefer=LIBA LIBA=a",
+    b"export --json --names=n LIBA=a",
+    b"export LIBA=a --names=n",
+    b"watch --names=n --ask=q LIBA=a",
+    b"check --names=n LIBA=a",
+    b"script --names=n s.txt",
+    b"follow --ask=q --names=n LIBA=a",
 ];
 
 /// Lines of words of MARC in JSON that are in no form.
@@ -512,6 +541,14 @@ fn statuses_have_numbers_and_lines(rt: HostRuntime) -> Result<(), Fail> {
             Status::TooLong(script),
             6,
             b"union: script is too long\n"
+        )?
+    );
+    assert!(rt;
+        ends(
+            alloc,
+            Status::OpenFault(Input::Names),
+            3,
+            b"union: cannot open names\n"
         )?
     );
     assert!(rt; ends(alloc, Status::Memory, 7, b"union: out of memory\n")?);

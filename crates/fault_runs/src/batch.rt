@@ -1,6 +1,7 @@
 //! A batch on a catalogue of four records, with the export before and after it.
 use crate::files::sink;
 use crate::records::{FOUR, MORE, joined};
+use authority_names::name_table::NameTable;
 use catalogue_export::export::export;
 use catalogue_export::works_text::works_text;
 use catalogue_lock::machine::Machine;
@@ -64,7 +65,7 @@ fn shown(alloc: Global, served: &Served) -> Result<Vec<u8>, Memory> {
 
 /// What a catalogue shows that loads all the records.
 fn shown_of_all<R: Threads + Sync>(rt: &R, alloc: Global) -> Result<Vec<u8>, Memory> {
-    let mut served = Served::empty(alloc)?;
+    let mut served = Served::open(alloc, NameTable::empty(alloc))?;
     if !load(rt, alloc, &mut served, &FOUR)? || !load(rt, alloc, &mut served, &MORE)? {
         return Err(Memory);
     }
@@ -74,7 +75,7 @@ fn shown_of_all<R: Threads + Sync>(rt: &R, alloc: Global) -> Result<Vec<u8>, Mem
 /// Loads the four records and then a batch, on a catalogue that keeps its works. A batch that is refused for memory is
 /// loaded again.
 pub fn apply_batch<R: Threads + Sync>(rt: &R, alloc: Global) -> Result<Applied, Memory> {
-    let mut served = Served::keeping_works(alloc)?;
+    let mut served = Served::keeping_works(alloc, NameTable::empty(alloc))?;
     if !load(rt, alloc, &mut served, &FOUR)? {
         return Err(Memory);
     }

@@ -3,6 +3,7 @@ use crate::files::{Ended, Files, NONE, run, shelf_of, sink, words_of};
 use crate::gates::{MeetingGate, Met, OrderGate};
 use crate::records::numbered;
 use crate::report::{add_ended, add_number};
+use authority_names::name_table::NameTable;
 use catalogue_core::catalogue::Catalogue;
 use catalogue_export::export::export;
 use field_merge::preference::Preference;
@@ -86,9 +87,11 @@ fn run_sessions_held<R: Threads + Wait + Sync, G: Met>(
     let loading = Loading {
         workers,
         prefer: Preference::none(),
+        names: None,
         libraries,
     };
-    match load_by_sessions(rt, alloc, &loading, &mut shelf, gate) {
+    let names = NameTable::empty(alloc);
+    match load_by_sessions(rt, alloc, &loading, names, &mut shelf, gate) {
         Ok(loaded) => Ok(Ended {
             number: 0,
             out: exported(alloc, &loaded.catalogue)?,
