@@ -1,6 +1,6 @@
 -- What a file of names is read into, and what is told of it.
-use Rattle.std.specs.Prelude.{◌≡◌, ℕ, suc, Bool, List, [], ◌∷◌, ◌++◌, length, map, count_by, Option, None, Some, is_none, not, All, codes}
-use Rattle.std.specs.List.{flat_map, list_any}
+use Rattle.std.specs.Prelude.{◌≡◌, ℕ, suc, Bool, List, [], ◌∷◌, ◌++◌, length, map, count_by, Option, None, Some, is_none, nat_lt, not, All, codes}
+use Rattle.std.specs.List.{flat_map}
 use Rattle.authority_names.specs.Leads.{Table, IsTableOf}
 use Rattle.authority_names.specs.Names.{Authority, IsSize, name_at}
 use Rattle.library_batches.specs.Streams.{Frame}
@@ -62,7 +62,7 @@ pub record IsNamesRead (all : List Judged) (found : NamesRead) : Type 0 where
   pub pairs : ℕ
   pub size : IsSize (name_at (taken_from all)) pairs
   pub told : found.report.items ≡ names_report all pairs
-  pub refused : found.refused ≡ list_any is_refused all
+  pub refused : found.refused ≡ nat_lt 0 (count_by is_refused all)
 
 -- a file of names of these frames was read so
 pub record IsNamesFile (frames : List Frame) (found : NamesRead) : Type 0 where

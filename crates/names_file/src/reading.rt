@@ -6,9 +6,10 @@ ghost use Rattle.union_script.specs.Readings.{Reads};
 ghost use Rattle.names_file.specs.Judging.{Judged};
 ghost use Rattle.names_file.specs.NamesFiles.{IsReading, IsNamesRead, IsNamesFile, AreRead};
 
+use crate::counting::add_counts;
 use crate::names_read::NamesRead;
 use crate::taking::take_frame;
-use crate::tally::{Tally, add_counts};
+use crate::tally::Tally;
 use authority_names::name_table::NameTable;
 use iso2709_frame::cut::Cut;
 use library_batches::stop::Stop;
@@ -56,17 +57,18 @@ impl Reading {
     fn finish(self) -> Result<NamesRead, AllocError>
         ensures { IfOk result (λ found. (all : List Judged) → IsReading all self.table self.tally → IsNamesRead all found) }
     {
-        let mut report = self.tally.lines;
-        add_counts(
-            &mut report,
-            self.tally.frames,
-            self.table.pairs(),
-            self.tally.refused,
-        )?;
+        let Reading { table, tally } = self;
+        let Tally {
+            frames,
+            refused,
+            lines,
+        } = tally;
+        let mut report = lines;
+        add_counts(&mut report, frames, table.pairs(), refused)?;
         Ok(NamesRead {
-            table: self.table,
+            table,
             report,
-            refused: self.tally.refused > 0,
+            refused: refused > 0,
         })
     }
 }

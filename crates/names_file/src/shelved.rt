@@ -56,7 +56,7 @@ pub fn names_of<F: Shelf>(
     shelf: &mut F,
 ) -> Result<NamesRead, Status>
     ensures files { F.files shelf.new ≡ F.files shelf.old }
-    ensures reads { ReadsNames (option_copied path) result
+    ensures reads { ReadsNames (option_copied path.entry) result
         (record { files = F.files shelf.old; before = F.faults shelf.old; after = F.faults shelf.new }) }
 {
     match path {

@@ -1,11 +1,5 @@
-//! The count of a file's frames.
-ghost use Rattle.std.specs.Prelude.{◌≡◌, ◌≤◌, ◌<◌, ◌+◌, ◌++◌, ◌∷◌, [], List, Some, None, length, count_by, OnOk, IfOk};
-ghost use Rattle.names_file.specs.Judging.{Judged};
-ghost use Rattle.names_file.specs.NamesFiles.{IsTally, counts_line, refused_line, lines_from};
-
-use crate::fault::NameFault;
-use std::alloc::{AllocError, Global};
-use union_reports::lines::add_counted;
+//! The count of a file's frames, so far.
+ghost use Rattle.std.specs.Prelude.{◌≤◌};
 
 /// How many frames there are, how many of them are refused, and the lines that tell of these.
 #[derive(Drop)]
@@ -13,70 +7,5 @@ pub(crate) struct Tally {
     pub(crate) frames: u64,
     pub(crate) refused: u64,
     pub(crate) lines: Vec<u8>,
-    ghost few: { refused ≤ frames },
-}
-
-impl Tally {
-    /// The count of no frames.
-    pub(crate) fn new(alloc: Global) -> Tally
-        ensures counted { IsTally [] result }
-        ensures frames { result.frames ≡ 0 }
-    {
-        Tally {
-            frames: 0,
-            refused: 0,
-            lines: Vec::new(alloc),
-        }
-    }
-
-    /// Counts a frame that is read. Takes no memory.
-    pub(crate) fn accept(&mut self)
-        requires { self.old.frames < u64.MAX }
-        ensures counted { (all : List Judged) (one : Judged) → IsTally all self.old → one.fault ≡ None
-            → IsTally (all ++ one ∷ []) self.new }
-        ensures frames { self.new.frames ≡ self.old.frames + 1 }
-    {
-        self.frames += 1;
-    }
-
-    /// Counts a frame that is refused, and adds `names refused FRAME NAME PLACE`.
-    pub(crate) fn refuse(&mut self, fault: NameFault) -> Result<(), AllocError>
-        requires { self.old.frames < u64.MAX }
-        ensures counted { OnOk result ((all : List Judged) (one : Judged) → IsTally all self.old → one.fault ≡ Some fault
-            → IsTally (all ++ one ∷ []) self.new) }
-        ensures frames { OnOk result (self.new.frames ≡ self.old.frames + 1) }
-    {
-        add_refused(&mut self.lines, self.frames + 1, fault)?;
-        self.frames += 1;
-        self.refused += 1;
-        Ok(())
-    }
-}
-
-/// Adds `names refused FRAME NAME PLACE`.
-fn add_refused(text: &mut Vec<u8>, frame: u64, fault: NameFault) -> Result<(), AllocError>
-    ensures { OnOk result (text.new.items ≡ text.old.items ++ refused_line frame fault) }
-{
-    text.extend_from_slice(b"names")?;
-    add_counted(text, b"refused", frame)?;
-    add_counted(text, fault.name(), u64::from(fault.place()))?;
-    text.push(b'\n')?;
-    Ok(())
-}
-
-/// Adds `names frames F pairs P refused N`.
-pub(crate) fn add_counts(
-    text: &mut Vec<u8>,
-    frames: u64,
-    pairs: u64,
-    refused: u64,
-) -> Result<(), AllocError>
-    ensures { OnOk result (text.new.items ≡ text.old.items ++ counts_line frames pairs refused) }
-{
-    text.extend_from_slice(b"names")?;
-    add_counted(text, b"frames", frames)?;
-    add_counted(text, b"pairs", pairs)?;
-    add_counted(text, b"refused", refused)?;
-    text.push(b'\n')?;
-    Ok(())
+    pub(crate) ghost few: { refused ≤ frames },
 }
