@@ -109,6 +109,10 @@ wrong_word() {
         wrong=$(wrong_preference "${1#--prefer=}")
         shift
       fi
+      if [[ -z $wrong && $command != follow && ${1-} == --names=* ]]; then
+        [ -n "${1#--names=}" ] || wrong="'--names=': a path must follow the '='"
+        shift
+      fi
       [ "$command" = export ] && [ "${1-}" = --json ] && shift
       [ -n "$wrong" ] || wrong=$(wrong_libraries 64 "$@")
       ;;
@@ -136,6 +140,7 @@ wrong_path() {
   for word in "${@:2}"; do
     case $word in
       --ask=*) why=$(wrong_file "${word#--ask=}") ;;
+      --names=*) why=$(wrong_file "${word#--names=}") ;;
       --*) continue ;;
       *=*) if [ "$1" = script ]; then why=$(wrong_file "$word"); else why=$(wrong_file "${word#*=}"); fi ;;
       *) why=$(wrong_file "$word") ;;

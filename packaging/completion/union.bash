@@ -21,11 +21,11 @@ _union() {
       ;;
     export | works)
       compopt -o nospace 2>/dev/null
-      mapfile -t COMPREPLY < <(compgen -W "--workers= --prefer=" -- "$word")
+      mapfile -t COMPREPLY < <(compgen -W "--workers= --prefer= --names=" -- "$word")
       ;;
     watch)
       compopt -o nospace 2>/dev/null
-      mapfile -t COMPREPLY < <(compgen -W "--ask= --workers= --prefer=" -- "$word")
+      mapfile -t COMPREPLY < <(compgen -W "--ask= --workers= --prefer= --names=" -- "$word")
       ;;
     follow)
       compopt -o nospace 2>/dev/null
