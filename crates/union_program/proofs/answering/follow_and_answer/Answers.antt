@@ -1,3 +1,4 @@
+use Rattle.std.specs.FinMap.{empty}
 use Rattle.union_program.proofs.AnsweredLaws.{told-answered}
 use Rattle.union_program.proofs.answering.follow_and_answer.Goals as goal
 
@@ -5,12 +6,12 @@ pub returns-in-Ok-follow_and_ask-clause-told : goal.returns-in-Ok-follow_and_ask
 returns-in-Ok-follow_and_ask-clause-told g c =
     let watched = c.in-Ok-follow_and_ask.watched in
     rw (c.answered.ensures.loaded, c.answered.ensures.beside, c.answered.ensures.late)
-    (told-answered 2 c.args.text.now watched.loaded.catalogue c.in-Ok.asked.questions.beside.items c.in-Ok.asked.questions.late.items
+    (told-answered empty 2 c.args.text.now watched.loaded.catalogue.history c.in-Ok.asked.questions.beside.items c.in-Ok.asked.questions.late.items
     watched.beside.items watched.late.items c.in-Ok.ensures.beside c.in-Ok.ensures.late c.in-Ok-follow_and_ask.ensures.beside c.in-Ok-follow_and_ask.ensures.late).0
 
 pub returns-in-Ok-follow_and_ask-clause-timely : goal.returns-in-Ok-follow_and_ask-clause-timely
 returns-in-Ok-follow_and_ask-clause-timely g c =
     let watched = c.in-Ok-follow_and_ask.watched in
     rw (c.answered.ensures.loaded, c.answered.ensures.beside, c.answered.ensures.late)
-    (told-answered 2 c.args.text.now watched.loaded.catalogue c.in-Ok.asked.questions.beside.items c.in-Ok.asked.questions.late.items
+    (told-answered empty 2 c.args.text.now watched.loaded.catalogue.history c.in-Ok.asked.questions.beside.items c.in-Ok.asked.questions.late.items
     watched.beside.items watched.late.items c.in-Ok.ensures.beside c.in-Ok.ensures.late c.in-Ok-follow_and_ask.ensures.beside c.in-Ok-follow_and_ask.ensures.late).1
