@@ -17,6 +17,7 @@ pub record Named : Type 0 where
   pub report : List ℕ
   pub refused : Bool
 
+-- what was read of a file of names, without how it is kept
 abbrev pub named_by : NamesRead → Named
 named_by found = record { table = found.table; report = found.report.items; refused = found.refused }
 
