@@ -94,12 +94,11 @@ pub within_all : (contents : Contents) (first : List InputFile) (libraries : Lis
     → AreWithin contents libraries → all.AreWithin contents (first ++ inputs_of libraries)
 within_all contents first libraries fits within = files_behind contents first libraries fits ∙ ap (option_map input_of) within
 
--- one file more that is not too long
-pub within_more : (contents : Contents) (first : List InputFile) (file : InputFile) → all.AreWithin contents first
-    → length (contents file.path) ≤ all.limit_of file.input → all.AreWithin contents (first ++ file ∷ [])
-within_more contents first file within fits =
-    behind_first contents first (file ∷ []) within
-    ∙ ap (λ over. cond over (Some file) None) (not_over (all.limit_of file.input) (length (contents file.path)) fits)
+-- one file before them that is not too long
+pub within_cons : (contents : Contents) (file : InputFile) (rest : List InputFile) → length (contents file.path) ≤ all.limit_of file.input
+    → all.AreWithin contents rest → all.AreWithin contents (file ∷ rest)
+within_cons contents file rest fits within =
+    ap (λ over. cond over (Some file) (all.first_overfull contents rest)) (not_over (all.limit_of file.input) (length (contents file.path)) fits) ∙ within
 
 named_so : (found : Option LibraryFile)
     → option_map named (option_map input_of found) ≡ option_map (λ (file : LibraryFile). Library file.library) found

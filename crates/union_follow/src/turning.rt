@@ -1,6 +1,7 @@
 //! One turn: a batch is applied to the catalogue of the load, and published.
 ghost use Rattle.std.specs.Prelude.{◌≡◌, ◌<◌, ◌++◌, ◌∷◌, [], IfOk, OnOk};
-ghost use Rattle.std.specs.FinMap.{empty};
+ghost use Rattle.std.specs.Coded.{Coded-set, coded_list, coded_option, coded_ℕ};
+ghost use Rattle.std.specs.FinMap.{code, empty};
 ghost use Rattle.catalogue_core.specs.Histories.{current, outcomes};
 ghost use Rattle.union_follow.specs.Turning.{IsShown};
 
@@ -23,7 +24,7 @@ pub struct Load {
     pub catalogue: Catalogue,
     pub publisher: Publisher,
     pub reports: Reports,
-    pub ghost unnamed: { catalogue.names ≡ empty },
+    pub ghost unnamed: { catalogue.names ≡ empty } by { Coded-set (code (coded_list coded_ℕ) (coded_option (coded_list coded_ℕ))) _ _ },
 }
 
 /// Applies a batch under that number, with the match tests counted in a ledger of their own. Answers what came of its operations.

@@ -1,6 +1,7 @@
 //! The catalogue that a script builds.
 ghost use Rattle.std.specs.Prelude.{◌≡◌};
-ghost use Rattle.std.specs.FinMap.{empty};
+ghost use Rattle.std.specs.Coded.{Coded-set, coded_list, coded_option, coded_ℕ};
+ghost use Rattle.std.specs.FinMap.{code, empty};
 
 use catalogue_core::catalogue::Catalogue;
 use merge_laws::steps::Steps;
@@ -13,5 +14,5 @@ pub struct Union<L: Ledger> {
     pub steps: Steps<L>,
     /// Whether the turns of later loads are told: from a line `notices` on they are.
     pub told: bool,
-    pub ghost unnamed: { catalogue.names ≡ empty },
+    pub ghost unnamed: { catalogue.names ≡ empty } by { Coded-set (code (coded_list coded_ℕ) (coded_option (coded_list coded_ℕ))) _ _ },
 }

@@ -1,16 +1,18 @@
-use Rattle.std.proofs.Common.{◌≡◌, ◌≤◌, ◌++◌, length, sym, subst}
+use Rattle.std.proofs.Common.{◌≡◌, ◌≤◌, ◌++◌, [], length, refl, sym, subst}
 use Rattle.std.specs.Prelude.{IfSome}
+use Rattle.names_file.specs.Named.{no_names}
 use Rattle.union_words.specs.Meanings.{libraries_meaning}
+use Rattle.union_script.specs.Inputs as all
 use Rattle.union_script.specs.declared.text_file.TheConstants.{LARGEST_TEXT}
-use Rattle.union_script.proofs.FileLaws.{flow}
+use Rattle.union_script.proofs.FileLaws.{flow, same_more}
 use Rattle.union_files.specs.Inputs.{AreWithin, StopsAt}
+use Rattle.union_files.proofs.RunLaws.{stopped_at_libraries, within_cons}
 use Rattle.union_follow.specs.Following.{HasFollowed}
 use Rattle.union_watch.specs.AskLines.{lines_in}
-use Rattle.union_watch.specs.Runs.{deliveries_of}
+use Rattle.union_watch.specs.Runs.{asks_file, first_files, deliveries_of, IsWatchOf}
 use Rattle.union_watch.specs.Told.{told_of}
-use Rattle.union_watch.proofs.RunLaws.{stopped_at_libraries}
 use Rattle.union_commands.proofs.RunLaws.{keeps_all, on_told}
-use Rattle.union_commands.proofs.WatchLaws.{asked_run}
+use Rattle.union_commands.proofs.WatchLaws.{asked_run, HasRead}
 use Rattle.union_program.specs.Follow.{AreInOrder, followed}
 use Rattle.union_program.proofs.FollowLaws.{followed-turned}
 use Rattle.union_program.proofs.run.run_follow.Goals as goal
@@ -23,15 +25,23 @@ returns-in-Ok-follow_and_answer-clause-run g c =
     let answered = c.in-Ok-follow_and_answer.answered in
     let loaded = answered.loaded in
     let replies = answered.beside.items ++ answered.late.items in
-    let read : IfSome files (λ contents. (length (contents c.args.asks.now) ≤ LARGEST_TEXT) × (text ≡ contents c.args.asks.now))
+    let before = g.F.Shelf.faults c.args.shelf.now in
+    let between = g.F.Shelf.faults c.read_asks.new.shelf in
+    let after = g.F.Shelf.faults c.follow_and_answer.new.shelf in
+    let texts : IfSome files (λ contents. (length (contents c.args.asks.now) ≤ LARGEST_TEXT) × (text ≡ contents c.args.asks.now))
     = subst (λ t. IfSome files (λ contents. (length (contents c.args.asks.now) ≤ LARGEST_TEXT) × (t ≡ contents c.args.asks.now)))
     (sym c.as_slice.ensures.value) c.in-Ok.ensures.reads.1 in
+    let first : IfSome files (HasRead watch text no_names)
+    = on_told files (λ contents asks. record {
+      within = within_cons contents (asks_file watch) [] asks.0 refl;
+      text_is = asks.1;
+      named = refl;
+    }) texts in
     let united : IfSome files (λ contents. AreWithin contents watch.libraries × HasFollowed (deliveries_of contents watch) loaded)
     = subst (λ fs. IfSome fs (λ contents. AreWithin contents watch.libraries × HasFollowed (deliveries_of contents watch) loaded))
     c.in-Ok.ensures.files c.in-Ok-follow_and_answer.ensures.gathers.1 in
-    asked_run AreInOrder watch text loaded (told_of (lines_in text) replies)
-    answered.refused c.write_answered.result files (g.F.Shelf.faults c.args.shelf.now) (g.F.Shelf.faults c.read_asks.new.shelf)
-    (g.F.Shelf.faults c.follow_and_answer.new.shelf) _ _ c.in-Ok.ensures.reads.0 read c.in-Ok-follow_and_answer.ensures.gathers.0
+    asked_run AreInOrder watch text no_names loaded (told_of (lines_in text) replies) answered.refused c.write_answered.result (flow files before after) _ _
+    (same_more before between after c.in-Ok.ensures.reads.0 c.in-Ok-follow_and_answer.ensures.gathers.0) first
     (on_told files (λ contents united. (united.0, followed-turned (deliveries_of contents watch) loaded united.1)) united)
     c.in-Ok-follow_and_answer.ensures.told c.in-Ok-follow_and_answer.ensures.timely c.in-Ok-follow_and_answer.ensures.refused
     (rw c.in-Ok-follow_and_answer.ensures.lines at c.write_answered.ensures)
@@ -43,10 +53,11 @@ returns-in-Ok-clause-run g c =
     let status = c.in-Err-follow_and_answer.status in
     let before = g.F.Shelf.faults c.read_asks.new.shelf in
     let after = g.F.Shelf.faults c.follow_and_answer.new.shelf in
-    let fits : IfSome files (λ contents. length (contents c.args.asks.now) ≤ LARGEST_TEXT)
-    = on_told {P = λ contents. (length (contents c.args.asks.now) ≤ LARGEST_TEXT) × (c.in-Ok.text.items ≡ contents c.args.asks.now)} files (λ contents read. read.0) c.in-Ok.ensures.reads.1 in
+    let first : IfSome files (λ contents. all.AreWithin contents (first_files watch))
+    = on_told {P = λ contents. (length (contents c.args.asks.now) ≤ LARGEST_TEXT) × (c.in-Ok.text.items ≡ contents c.args.asks.now)} files
+    (λ contents asks. within_cons contents (asks_file watch) [] asks.0 refl) c.in-Ok.ensures.reads.1 in
     let stops : StopsAt status watch.libraries (flow files before after)
     = subst (λ fs. StopsAt status watch.libraries (flow fs before after)) c.in-Ok.ensures.files c.in-Err-follow_and_answer.ensures.gathers in
     rw c.end.ensures.same
-    (stopped_at_libraries AreInOrder status watch files
-    (g.F.Shelf.faults c.args.shelf.now) before after _ _ c.in-Ok.ensures.reads.0 fits stops (keeps_all (g.O.Sink.written c.args.out.now)))
+    (stopped_at_libraries (IsWatchOf AreInOrder watch) status (first_files watch) watch.libraries files
+    (g.F.Shelf.faults c.args.shelf.now) before after _ _ c.in-Ok.ensures.reads.0 first stops (keeps_all (g.O.Sink.written c.args.out.now)))

@@ -1,21 +1,59 @@
+use Rattle.std.proofs.Common.{[], refl, subst}
+use Rattle.std.specs.Prelude.{IfSome}
+use Rattle.std.specs.Option.{option_copied}
+use Rattle.names_file.specs.Named.{named_by, names_inputs}
+use Rattle.names_file.proofs.NamesLaws.{names_read}
+use Rattle.union_script.proofs.FileLaws.{flow, same_more}
+use Rattle.union_script.proofs.TextLaws.{on_all}
 use Rattle.union_words.specs.Meanings.{loading_meaning}
-use Rattle.union_commands.specs.Runs.{showing_of}
-use Rattle.union_files.proofs.InputLaws.{flow}
-use Rattle.union_commands.proofs.RunLaws.{stopped_run, loaded_run, loaded_noted, keeps_all}
+use Rattle.union_files.specs.Inputs.{AreWithin, StopsAt}
+use Rattle.union_files.specs.Interleavings.{IsInterleaving}
+use Rattle.union_files.proofs.RunLaws.{stopped_at_libraries}
+use Rattle.union_commands.specs.Runs.{deliveries_of, showing_of, HasTurned, IsUnionOf}
+use Rattle.union_commands.proofs.RunLaws.{stopped_at_names, loaded_run, loaded_noted, keeps_all, on_told}
 use Rattle.union_program.proofs.run.run_union.Goals as goal
 
-pub returns-in-Err-clause-run : goal.returns-in-Err-clause-run
-returns-in-Err-clause-run g c =
-    rw c.end.ensures.same
-    (stopped_run (showing_of c.args.shown) c.in-Err.status (loading_meaning c.args.loading.now)
-    (flow (g.F.Shelf.files c.args.shelf.now) (g.F.Shelf.faults c.args.shelf.now) (g.F.Shelf.faults c.load_by_sessions.new.shelf)) _ _
-    c.in-Err.ensures.gathers (keeps_all (g.O.Sink.written c.args.out.now)))
+pub returns-in-Ok-load_by_names-clause-run : goal.returns-in-Ok-load_by_names-clause-run
+returns-in-Ok-load_by_names-clause-run g c =
+    let files = g.F.Shelf.files c.args.shelf.now in
+    let loading = loading_meaning c.args.loading.now in
+    let before = g.F.Shelf.faults c.args.shelf.now in
+    let between = g.F.Shelf.faults c.names_of.new.shelf in
+    let after = g.F.Shelf.faults c.load_by_names.new.shelf in
+    let names = named_by c.in-Ok.names in
+    let loaded = c.in-Ok-load_by_names.loaded in
+    let named = names_read (option_copied c.args.loading.now.names) c.in-Ok.names (flow files before between) c.in-Ok.ensures.reads in
+    loaded_run (showing_of c.args.shown) names loaded c.write_shown.result loading (flow files before after) _ _
+    (same_more before between after named.0 c.in-Ok-load_by_names.ensures.0) named.1
+    (subst (λ fs. IfSome fs (λ contents. AreWithin contents loading.libraries × HasTurned IsInterleaving names (deliveries_of contents loading) loaded))
+    c.in-Ok.ensures.files c.in-Ok-load_by_names.ensures.1)
+    c.write_shown.ensures
+
+pub returns-in-Ok-load_by_names-clause-noted : goal.returns-in-Ok-load_by_names-clause-noted
+returns-in-Ok-load_by_names-clause-noted g c =
+    λ early. loaded_noted (showing_of c.args.shown) c.in-Ok-load_by_names.loaded c.write_shown.result _ _ c.write_shown.ensures early
 
 pub returns-in-Ok-clause-run : goal.returns-in-Ok-clause-run
 returns-in-Ok-clause-run g c =
-    loaded_run (showing_of c.args.shown) c.in-Ok.loaded c.write_shown.result (loading_meaning c.args.loading.now)
-    (flow (g.F.Shelf.files c.args.shelf.now) (g.F.Shelf.faults c.args.shelf.now) (g.F.Shelf.faults c.load_by_sessions.new.shelf)) _ _
-    c.in-Ok.ensures.gathers.0 c.in-Ok.ensures.gathers.1 c.write_shown.ensures
+    let files = g.F.Shelf.files c.args.shelf.now in
+    let loading = loading_meaning c.args.loading.now in
+    let before = g.F.Shelf.faults c.args.shelf.now in
+    let between = g.F.Shelf.faults c.names_of.new.shelf in
+    let after = g.F.Shelf.faults c.load_by_names.new.shelf in
+    let status = c.in-Err-load_by_names.status in
+    let named = names_read (option_copied c.args.loading.now.names) c.in-Ok.names (flow files before between) c.in-Ok.ensures.reads in
+    rw c.end.ensures.same
+    (stopped_at_libraries (IsUnionOf (showing_of c.args.shown) loading) status (names_inputs loading.names) loading.libraries files before between after _ _
+    named.0 (on_told files (λ contents holds. holds.0) named.1)
+    (subst (λ fs. StopsAt status loading.libraries (flow fs between after)) c.in-Ok.ensures.files c.in-Err-load_by_names.ensures)
+    (keeps_all (g.O.Sink.written c.args.out.now)))
 
-pub returns-in-Ok-clause-noted : goal.returns-in-Ok-clause-noted
-returns-in-Ok-clause-noted g c = λ early. loaded_noted (showing_of c.args.shown) c.in-Ok.loaded c.write_shown.result _ _ c.write_shown.ensures early
+pub returns-in-Err-clause-run : goal.returns-in-Err-clause-run
+returns-in-Err-clause-run g c =
+    let files = g.F.Shelf.files c.args.shelf.now in
+    let loading = loading_meaning c.args.loading.now in
+    let before = g.F.Shelf.faults c.args.shelf.now in
+    let after = g.F.Shelf.faults c.names_of.new.shelf in
+    rw c.end-in-Err.ensures.same
+    (stopped_at_names (IsUnionOf (showing_of c.args.shown) loading) c.in-Err.status [] loading.names loading.libraries files before before after _ _
+    (λ name. refl) (on_all files (λ contents. refl)) c.in-Err.ensures.reads (keeps_all (g.O.Sink.written c.args.out.now)))
