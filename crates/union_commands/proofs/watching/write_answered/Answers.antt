@@ -10,7 +10,7 @@ pub returns-in-Ok : goal.returns-in-Ok
 returns-in-Ok g c =
     let answered = c.args.answered in
     let wrote = rw c.as_slice.ensures.value at c.in-Ok.ensures in
-    shown-whole (watch_text answered.loaded.catalogue (told_of (map line_meaning answered.lines.items) (answered.beside.items ++ answered.late.items)))
+    shown-whole (watch_text answered.loaded.catalogue.history (told_of (map line_meaning answered.lines.items) (answered.beside.items ++ answered.late.items)))
     answered.loaded.reports.items (end_by (answered.loaded.refused || answered.refused)) _ _ c.write_reports.result
     wrote.written
     (rw (c.with_refusal.ensures.reports, c.with_refusal.ensures.refused, append-nil) at c.write_reports.ensures)
@@ -19,6 +19,6 @@ pub returns-in-Err-WriteFault : goal.returns-in-Err-WriteFault
 returns-in-Err-WriteFault g c =
     let answered = c.args.answered in
     let wrote = rw c.as_slice.ensures.value at c.in-Err-WriteFault.ensures in
-    shown-failed (watch_text answered.loaded.catalogue (told_of (map line_meaning answered.lines.items) (answered.beside.items ++ answered.late.items)))
+    shown-failed (watch_text answered.loaded.catalogue.history (told_of (map line_meaning answered.lines.items) (answered.beside.items ++ answered.late.items)))
     answered.loaded.reports.items (end_by (answered.loaded.refused || answered.refused)) _ _
     wrote.written (wrote.failed (ap Err c.in-Err-WriteFault.field-0-is)) refl
