@@ -3,7 +3,7 @@ use Rattle.std.specs.Prelude.{ℕ, List, Option, Some, None}
 use Rattle.std.specs.Option.{option_map, ForSome}
 use Rattle.union_base.specs.declared.record_id.RecordId.{RecordId}
 use Rattle.work_clusters.specs.declared.change.WorkChange.{WorkChange}
-use Rattle.work_clusters.specs.Room.{WorkMap, HasRoom}
+use Rattle.work_clusters.specs.Room.{WorkMap, HasRoomForPairs}
 use Rattle.work_clusters.specs.Works.{changed}
 use Rattle.authority_names.specs.Leads.{Table}
 use Rattle.catalogue_core.specs.declared.grouping.NamedWorks.{NamedWorks}
@@ -34,7 +34,7 @@ kept_works kept = record { names = kept.names; works = list_in kept.works }
 
 -- there is room for the change, where there is one, in the works, where they are kept
 abbrev pub HasRoomFor : Option WorkMap → Option WorkChange → Type 0
-HasRoomFor works change = ForSome works (λ w. ForSome change (λ c. HasRoom w.room c.come))
+HasRoomFor works change = ForSome works (λ w. ForSome change (λ c. HasRoomForPairs w.room c.come))
 
 -- the works that are kept after a change
 abbrev pub regrouped : Option WorkList → Option WorkChange → Option WorkList

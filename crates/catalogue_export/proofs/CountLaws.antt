@@ -4,7 +4,7 @@ use Rattle.std.specs.Prelude.{if◌then◌else◌}
 use Rattle.std.specs.List.{list_all, list_any}
 use Rattle.std.proofs.lemmas.Bool.{and_parts, not-true}
 use Rattle.union_base.specs.declared.field.Field.{Field}
-use Rattle.catalogue_export.specs.TagOrder.{is_lower, put, in_tag_order}
+use Rattle.catalogue_export.specs.TagOrder.{is_lower, put_by_tag, in_tag_order}
 
 -- one where the test holds, else none
 abbrev pub one_if : Bool → ℕ
@@ -55,10 +55,10 @@ uncounted p (x ∷ xs) none = of (p x) (uncounted p xs) refl
         rw is (later less)
 
 -- as many in order of tags
-pub counted-put : (p : Field → Bool) (f : Field) (fields : List Field) → counted p (put f fields) ≡ one_if (p f) + counted p fields
+pub counted-put : (p : Field → Bool) (f : Field) (fields : List Field) → counted p (put_by_tag f fields) ≡ one_if (p f) + counted p fields
 counted-put p f [] = refl
 counted-put p f (g ∷ fields) =
-    elim (is_lower g f) as (λ r. counted p (if r then g ∷ put f fields else f ∷ g ∷ fields) ≡ one_if (p f) + (one_if (p g) + counted p fields)) [
+    elim (is_lower g f) as (λ r. counted p (if r then g ∷ put_by_tag f fields else f ∷ g ∷ fields) ≡ one_if (p f) + (one_if (p g) + counted p fields)) [
       | true ↦ ap (λ n. one_if (p g) + n) (counted-put p f fields) ∙ turned (one_if (p g)) (one_if (p f)) (counted p fields)
       | false ↦ refl
     ]

@@ -30,7 +30,7 @@ use Rattle.field_merge.specs.declared.content.Content.{Content}
 use Rattle.workset_keys.specs.WorkKeys.{own_name}
 use Rattle.catalogue_core.specs.Sound.{is_id, is_storable, is_sound}
 use Rattle.catalogue_export.specs.Fitting.{taken_by, fitting}
-use Rattle.catalogue_export.specs.TagOrder.{put, in_tag_order}
+use Rattle.catalogue_export.specs.TagOrder.{put_by_tag, in_tag_order}
 use Rattle.catalogue_export.specs.Exported.{begins_character, last_boundary, front_within, longest_key, control_field, number_field, slot_fields, key_field, parts, exported, edition_bytes}
 use Rattle.catalogue_export.specs.ExportedLaws.{ExportedIsWhole, ExportedBreaksNoRule, ExportedIsAccepted, ExportedIsNumberedTooLong}
 use Rattle.catalogue_export.proofs.CountLaws.{one_if, weighed, counted, counted-append, counted-none, counted-put, counted-in_tag_order}
@@ -396,7 +396,7 @@ module _ (c : Content) (id : RecordId) (ids : List RecordId) (key : List ℕ) (s
   behind_first : List Field
   behind_first = (control_field (codes "003") (codes "UNION") ++ (slot_fields c ++ key_field key)) ++ shown_others c key
 
-  fields-put : in_tag_order (fitting (parts c key)) ≡ put numbered_first (in_tag_order behind_first)
+  fields-put : in_tag_order (fitting (parts c key)) ≡ put_by_tag numbered_first (in_tag_order behind_first)
   unfolding behind_first numbered_first
   fields-put =
       ap in_tag_order (fitting-split c key front-room
@@ -408,9 +408,9 @@ module _ (c : Content) (id : RecordId) (ids : List RecordId) (key : List ℕ) (s
   unfolding numbered_first
   number-place s =
       let rest = in_tag_order behind_first in
-      let lie : AreEntriesOf s.bytes s.entries (put numbered_first rest) = subst (λ fields. AreEntriesOf s.bytes s.entries fields) fields-put s.fields in
-      let one : counted (is_under tag_001) (put numbered_first rest) ≡ 1 = sym (ap (counted (is_under tag_001)) fields-put) ∙ numbered in
-      let split : counted (is_under tag_001) (put numbered_first rest) ≡ 1 + counted (is_under tag_001) rest = counted-put (is_under tag_001) numbered_first rest in
+      let lie : AreEntriesOf s.bytes s.entries (put_by_tag numbered_first rest) = subst (λ fields. AreEntriesOf s.bytes s.entries fields) fields-put s.fields in
+      let one : counted (is_under tag_001) (put_by_tag numbered_first rest) ≡ 1 = sym (ap (counted (is_under tag_001)) fields-put) ∙ numbered in
+      let split : counted (is_under tag_001) (put_by_tag numbered_first rest) ≡ 1 + counted (is_under tag_001) rest = counted-put (is_under tag_001) numbered_first rest in
       place-put tag_001 s.bytes 1 s.entries numbered_first rest refl (none_left _ _ one split) lie
       ∙ (ap (λ n. n ∷ []) (next (lead numbered_first rest))
       ∙ (ap (λ n. suc n ∷ []) (lead-zeros numbered_first refl behind_first)

@@ -15,7 +15,7 @@ use Rattle.union_base.specs.declared.field.Field.{Field}
 use Rattle.marc_fields.specs.Spelling.{AreEntriesOf}
 use Rattle.marc_parts.specs.Parts.{has_tag, how_many}
 use Rattle.marc_rules.specs.RequiredFields.{is_same, places, tag_001}
-use Rattle.catalogue_export.specs.TagOrder.{is_lower, put, in_tag_order}
+use Rattle.catalogue_export.specs.TagOrder.{is_lower, put_by_tag, in_tag_order}
 use Rattle.catalogue_export.proofs.CountLaws.{one_if, counted, counted-put}
 use Rattle.catalogue_export.proofs.EntryLaws.{is_under, places-count}
 use Rattle.catalogue_export.proofs.StableLaws.{Floor, Rising, Floor-lower, Rising-in_order}
@@ -95,16 +95,16 @@ module _ (tag bytes : List ℕ) where
 
   -- the only field with its tag stands after those that are lower
   pub place-put : (i : ℕ) (entries : List Entry) (f : Field) (fields : List Field) → is_under tag f ≡ true → counted (is_under tag) fields ≡ 0
-      → AreEntriesOf bytes entries (put f fields) → places tag i entries ≡ (i + lead f fields) ∷ []
+      → AreEntriesOf bytes entries (put_by_tag f fields) → places tag i entries ≡ (i + lead f fields) ∷ []
   place-put i entries f [] is none are = this_entry i entries f [] are is refl ∙ ap (λ n. n ∷ []) (same i)
     where
       same : (n : ℕ) → n ≡ n + 0
       same n = omega arith
   place-put i entries f (g ∷ fields) is none are =
       let rest = zero_parts (is_under tag g) (counted (is_under tag) fields) none in
-      elim (is_lower g f) as (λ r. AreEntriesOf bytes entries (if r then g ∷ put f fields else f ∷ g ∷ fields)
+      elim (is_lower g f) as (λ r. AreEntriesOf bytes entries (if r then g ∷ put_by_tag f fields else f ∷ g ∷ fields)
       → places tag i entries ≡ (i + (if r then suc (lead f fields) else 0)) ∷ []) [
-        | true ↦ λ lie. later_entry i entries g (put f fields) ((i + suc (lead f fields)) ∷ []) lie rest.0
+        | true ↦ λ lie. later_entry i entries g (put_by_tag f fields) ((i + suc (lead f fields)) ∷ []) lie rest.0
             (λ es more. place-put (suc i) es f fields is rest.1 more ∙ ap (λ n. n ∷ []) (moved i (lead f fields)))
         | false ↦ λ lie. this_entry i entries f (g ∷ fields) lie is none ∙ ap (λ n. n ∷ []) (same i)
       ] are
@@ -149,11 +149,11 @@ module _ (f : Field) (tagged : f.tag ≡ tag_001) where
       next n = omega arith
 
   -- before 001 stand the fields 000
-  pub lead-zeros : (fields : List Field) → lead f (in_tag_order fields) ≡ how_many (codes "000") (put f (in_tag_order fields))
+  pub lead-zeros : (fields : List Field) → lead f (in_tag_order fields) ≡ how_many (codes "000") (put_by_tag f (in_tag_order fields))
   lead-zeros fields =
       let rising : Rising is_lower (in_tag_order fields) = subst (Rising is_lower) (sym (in_tag_order-is fields)) (Rising-in_order is_lower is_lower-order fields) in
       let other : is_under (codes "000") f ≡ false = ap (λ t. is_same t (codes "000")) tagged in
-      sym (how_many-counted (codes "000") (put f (in_tag_order fields))
+      sym (how_many-counted (codes "000") (put_by_tag f (in_tag_order fields))
       ∙ (counted-put (is_under (codes "000")) f (in_tag_order fields)
       ∙ (ap (λ b. one_if b + counted (is_under (codes "000")) (in_tag_order fields)) other
       ∙ (none_more (counted (is_under (codes "000")) (in_tag_order fields)) ∙ lead-count (in_tag_order fields) rising))))

@@ -6,26 +6,26 @@ use Rattle.std.specs.Cmp.Lexicographic.{nat_list_cmp_total}
 use Rattle.std.specs.List.{list_all, flat_map}
 use Rattle.std.proofs.lemmas.List.Sorted.{ranks_by}
 use Rattle.union_base.specs.declared.field.Field.{Field}
-use Rattle.catalogue_export.specs.TagOrder.{is_lower, put, in_tag_order}
+use Rattle.catalogue_export.specs.TagOrder.{is_lower, put_by_tag, in_tag_order}
 use Rattle.catalogue_export.proofs.StableLaws.{put_before, in_order}
 
 -- tags are in an order
 pub is_lower-order : IsStrictWeakOrder is_lower
 is_lower-order = ranks_by nat_list_cmp_total (λ f. f.tag)
 
-put-is : (f : Field) (fields : List Field) → put f fields ≡ put_before is_lower f fields
+put-is : (f : Field) (fields : List Field) → put_by_tag f fields ≡ put_before is_lower f fields
 put-is f [] = refl
 put-is f (g ∷ fields) = ap (λ rest. if is_lower g f then g ∷ rest else f ∷ g ∷ fields) (put-is f fields)
 
 pub in_tag_order-is : (fields : List Field) → in_tag_order fields ≡ in_order is_lower fields
 in_tag_order-is [] = refl
-in_tag_order-is (f ∷ fields) = ap (put f) (in_tag_order-is fields) ∙ put-is f (in_order is_lower fields)
+in_tag_order-is (f ∷ fields) = ap (put_by_tag f) (in_tag_order-is fields) ∙ put-is f (in_order is_lower fields)
 
 -- a test that all the fields pass in one order they pass in the other
-put-all : (p : Field → Bool) (f : Field) (fields : List Field) → list_all p (put f fields) ≡ (p f && list_all p fields)
+put-all : (p : Field → Bool) (f : Field) (fields : List Field) → list_all p (put_by_tag f fields) ≡ (p f && list_all p fields)
 put-all p f [] = refl
 put-all p f (g ∷ fields) =
-    elim (is_lower g f) as (λ r. list_all p (if r then g ∷ put f fields else f ∷ g ∷ fields) ≡ (p f && (p g && list_all p fields))) [
+    elim (is_lower g f) as (λ r. list_all p (if r then g ∷ put_by_tag f fields else f ∷ g ∷ fields) ≡ (p f && (p g && list_all p fields))) [
       | true ↦ ap (λ b. p g && b) (put-all p f fields) ∙ turned (p g) (p f) (list_all p fields)
       | false ↦ refl
     ]
@@ -41,10 +41,10 @@ in_tag_order-all p [] = refl
 in_tag_order-all p (f ∷ fields) = put-all p f (in_tag_order fields) ∙ ap (λ b. p f && b) (in_tag_order-all p fields)
 
 -- in either order they are as many, and spelled one after the other they have as many bytes
-put-size : (f : Field) (fields : List Field) → length (put f fields) ≡ suc (length fields)
+put-size : (f : Field) (fields : List Field) → length (put_by_tag f fields) ≡ suc (length fields)
 put-size f [] = refl
 put-size f (g ∷ fields) =
-    elim (is_lower g f) as (λ r. length (if r then g ∷ put f fields else f ∷ g ∷ fields) ≡ suc (suc (length fields))) [
+    elim (is_lower g f) as (λ r. length (if r then g ∷ put_by_tag f fields else f ∷ g ∷ fields) ≡ suc (suc (length fields))) [
       | true ↦ ap suc (put-size f fields)
       | false ↦ refl
     ]
@@ -54,11 +54,11 @@ in_tag_order-size [] = refl
 in_tag_order-size (f ∷ fields) = put-size f (in_tag_order fields) ∙ ap suc (in_tag_order-size fields)
 
 module _ (spell : Field → List ℕ) where
-  put-bytes : (f : Field) (fields : List Field) → length (flat_map spell (put f fields)) ≡ length (spell f) + length (flat_map spell fields)
+  put-bytes : (f : Field) (fields : List Field) → length (flat_map spell (put_by_tag f fields)) ≡ length (spell f) + length (flat_map spell fields)
   put-bytes f [] = length-append (spell f) []
   put-bytes f (g ∷ fields) =
-      elim (is_lower g f) as (λ r. length (flat_map spell (if r then g ∷ put f fields else f ∷ g ∷ fields)) ≡ length (spell f) + length (spell g ++ flat_map spell fields)) [
-        | true ↦ omega (arith, length-append (spell g) (flat_map spell (put f fields)), length-append (spell g) (flat_map spell fields), put-bytes f fields)
+      elim (is_lower g f) as (λ r. length (flat_map spell (if r then g ∷ put_by_tag f fields else f ∷ g ∷ fields)) ≡ length (spell f) + length (spell g ++ flat_map spell fields)) [
+        | true ↦ omega (arith, length-append (spell g) (flat_map spell (put_by_tag f fields)), length-append (spell g) (flat_map spell fields), put-bytes f fields)
         | false ↦ length-append (spell f) (spell g ++ flat_map spell fields)
       ]
 

@@ -9,11 +9,11 @@ abbrev pub is_lower : Field → Field → Bool
 is_lower f g = is_lt (slice_cmp nat_cmp f.tag g.tag)
 
 -- a field put before the first one whose tag is no less
-abbrev pub put : Field → List Field → List Field
-put f [] = f ∷ []
-put f (g ∷ fields) = (if is_lower g f then g ∷ put f fields else f ∷ g ∷ fields)
+abbrev pub put_by_tag : Field → List Field → List Field
+put_by_tag f [] = f ∷ []
+put_by_tag f (g ∷ fields) = (if is_lower g f then g ∷ put_by_tag f fields else f ∷ g ∷ fields)
 
 -- the fields in order of their tags, those of one tag in their order
 abbrev pub in_tag_order : List Field → List Field
 in_tag_order [] = []
-in_tag_order (f ∷ fields) = put f (in_tag_order fields)
+in_tag_order (f ∷ fields) = put_by_tag f (in_tag_order fields)

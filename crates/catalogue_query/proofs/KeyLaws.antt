@@ -16,7 +16,7 @@ use Rattle.catalogue_core.specs.IndexKeys.{has_key}
 use Rattle.catalogue_editions.specs.declared.edition.Edition.{Edition}
 use Rattle.catalogue_query.specs.Queries.{is_text}
 use Rattle.catalogue_query.specs.Lines.{edition_line}
-use Rattle.catalogue_query.specs.Answers.{stands_in, pair_stands_in, is_asked, told, told_of}
+use Rattle.catalogue_query.specs.Answers.{stands_in, pair_stands_in, is_asked, told, told_of_all}
 use Rattle.catalogue_query.specs.declared.query.Query.TheVariants.{Isbn, Issn, Control, Title}
 use Rattle.catalogue_query.proofs.WorkLaws.{same_text}
 
@@ -46,23 +46,23 @@ told-each says is (e ∷ some) =
 
 module _ (names : Table) (records : MapOf Edition) (all : List Edition) where
   -- the lines of the editions that have a key are what is told of those that the query asks for
-  pub told-isbn : (digits : List ℕ) → map (λ e. edition_line (least e)) (filter (has_key (key.Isbn digits)) all) ≡ told_of names (Isbn digits) records all
+  pub told-isbn : (digits : List ℕ) → map (λ e. edition_line (least e)) (filter (has_key (key.Isbn digits)) all) ≡ told_of_all names (Isbn digits) records all
   told-isbn digits =
       ap (map (λ e. edition_line (least e))) (filter_agree (has_key (key.Isbn digits)) (is_asked names (Isbn digits)) (λ e. text-stands digits e.features.isbns) all)
       ∙ told-each (told names (Isbn digits) records) (λ e. refl) (filter (is_asked names (Isbn digits)) all)
 
-  pub told-issn : (number : List ℕ) → map (λ e. edition_line (least e)) (filter (has_key (key.Issn number)) all) ≡ told_of names (Issn number) records all
+  pub told-issn : (number : List ℕ) → map (λ e. edition_line (least e)) (filter (has_key (key.Issn number)) all) ≡ told_of_all names (Issn number) records all
   told-issn number =
       ap (map (λ e. edition_line (least e))) (filter_agree (has_key (key.Issn number)) (is_asked names (Issn number)) (λ e. text-stands number e.features.issns) all)
       ∙ told-each (told names (Issn number) records) (λ e. refl) (filter (is_asked names (Issn number)) all)
 
-  pub told-control : (source number : List ℕ) → map (λ e. edition_line (least e)) (filter (has_key (key.Control (source, number))) all) ≡ told_of names (Control source number) records all
+  pub told-control : (source number : List ℕ) → map (λ e. edition_line (least e)) (filter (has_key (key.Control (source, number))) all) ≡ told_of_all names (Control source number) records all
   told-control source number =
       ap (map (λ e. edition_line (least e)))
       (filter_agree (has_key (key.Control (source, number))) (is_asked names (Control source number)) (λ e. pair-stands source number e.features.control) all)
       ∙ told-each (told names (Control source number) records) (λ e. refl) (filter (is_asked names (Control source number)) all)
 
-  pub told-title : (form : List ℕ) → map (λ e. edition_line (least e)) (filter (has_key (key.Title form)) all) ≡ told_of names (Title form) records all
+  pub told-title : (form : List ℕ) → map (λ e. edition_line (least e)) (filter (has_key (key.Title form)) all) ≡ told_of_all names (Title form) records all
   told-title form =
       ap (map (λ e. edition_line (least e))) (filter_agree (has_key (key.Title form)) (is_asked names (Title form)) (λ e. text-stands form e.features.titles) all)
       ∙ told-each (told names (Title form) records) (λ e. refl) (filter (is_asked names (Title form)) all)

@@ -19,7 +19,7 @@ use Rattle.catalogue_core.specs.Histories.{MapOf}
 use Rattle.catalogue_editions.specs.declared.edition.Edition.{Edition}
 use Rattle.catalogue_query.specs.Queries.{is_text}
 use Rattle.catalogue_query.specs.Lines.{edition_line}
-use Rattle.catalogue_query.specs.Answers.{is_asked, told, told_of, work_keys}
+use Rattle.catalogue_query.specs.Answers.{is_asked, told, told_of_all, work_keys}
 use Rattle.catalogue_query.specs.declared.query.Query.TheVariants.{Work}
 
 -- a key is a text where the two are equal, byte by byte
@@ -74,7 +74,7 @@ told-each names key records (e ∷ some) = ap (λ lines. edition_line (least e) 
 
 -- so their lines are what is told of the work
 pub told-work : (names : Table) (key : List ℕ) (records : MapOf Edition) (all : List Edition) → is_ascending edition_cmp all ≡ true
-    → map edition_line (ids_under (works_of (work_pairs names all)) key) ≡ told_of names (Work key) records all
+    → map edition_line (ids_under (works_of (work_pairs names all)) key) ≡ told_of_all names (Work key) records all
 told-work names key records all h = ap (map edition_line) (ids_under-works names key all h) ∙ told-each names key records (filter (is_asked names (Work key)) all)
 
 keys-pairs : (names : Table) (all : List Edition) → map (λ p. p.0) (work_pairs names all) ≡ map (work_key_by names) all

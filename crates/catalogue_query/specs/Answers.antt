@@ -62,8 +62,8 @@ told names (Holdings id) records e = holding_lines records e
 told names query records e = edition_line (least e) ∷ []
 
 -- what it is told of the editions that it asks for, in their order
-abbrev pub told_of : Table → Query → MapOf Edition → List Edition → List (List ℕ)
-told_of names query records all = flat_map (told names query records) (filter (is_asked names query) all)
+abbrev pub told_of_all : Table → Query → MapOf Edition → List Edition → List (List ℕ)
+told_of_all names query records all = flat_map (told names query records) (filter (is_asked names query) all)
 
 -- the keys of the works of some editions, each once
 abbrev pub work_keys : Table → List Edition → List (List ℕ)
@@ -72,7 +72,7 @@ work_keys names all = set_of texts_cmp (map (work_key_by names) all)
 -- the lines of an answer, which may be none: the counts, or what is told of the editions
 abbrev pub lines_of : Table → Query → MapOf Edition → List Edition → List (List ℕ)
 lines_of names Count records all = count_line (length all) (length (work_keys names all)) (length (values_of records)) ∷ []
-lines_of names query records all = told_of names query records all
+lines_of names query records all = told_of_all names query records all
 
 -- an answer has a line at least
 abbrev pub or_none : List (List ℕ) → List (List ℕ)

@@ -11,5 +11,5 @@ IsRefusal Word meaning = meaning ≡ Err Word
 IsRefusal Memory meaning = Unit {0}
 
 -- the answer is the query of the line, or the reason why it has none
-abbrev pub Answers : Result Query QueryRefusal → Result Query QueryRefusal → Type 0
-Answers result meaning = MatchResult result (λ query. meaning ≡ Ok query) (λ refusal. IsRefusal refusal meaning)
+abbrev pub IsReadAs : Result Query QueryRefusal → Result Query QueryRefusal → Type 0
+IsReadAs result meaning = MatchResult result (λ query. meaning ≡ Ok query) (λ refusal. IsRefusal refusal meaning)

@@ -9,7 +9,7 @@ ghost use Rattle.catalogue_core.specs.IndexKeys.{has_key};
 ghost use Rattle.catalogue_editions.specs.declared.edition.Edition.{Edition as EditionModel};
 ghost use Rattle.catalogue_query.specs.declared.query.Query.TheVariants.{Isbn, Issn, Control, Title, Work, Count};
 ghost use Rattle.catalogue_query.specs.Lines.{edition_line};
-ghost use Rattle.catalogue_query.specs.Answers.{has_contributor, told, told_of, lines_of, or_none, answer_lines};
+ghost use Rattle.catalogue_query.specs.Answers.{has_contributor, told, told_of_all, lines_of, or_none, answer_lines};
 
 use crate::answer::Answer;
 use crate::lines::{count_line, edition_line};
@@ -100,7 +100,7 @@ fn lines_of_isbn(
     digits: &[u8; 13],
 ) -> Result<Vec<Bytes>, Memory>
     ensures { IfOk result (λ lines. (all : List EditionModel) × AreEditionsOf catalogue.now.history all
-        × (lines.items ≡ told_of catalogue.now.names (Isbn digits.now) (current catalogue.now.history) all)) }
+        × (lines.items ≡ told_of_all catalogue.now.names (Isbn digits.now) (current catalogue.now.history) all)) }
 {
     lines_with_key(alloc, catalogue, &FeatureKey::Isbn(*digits))
 }
@@ -112,7 +112,7 @@ fn lines_of_issn(
     number: &[u8; 8],
 ) -> Result<Vec<Bytes>, Memory>
     ensures { IfOk result (λ lines. (all : List EditionModel) × AreEditionsOf catalogue.now.history all
-        × (lines.items ≡ told_of catalogue.now.names (Issn number.now) (current catalogue.now.history) all)) }
+        × (lines.items ≡ told_of_all catalogue.now.names (Issn number.now) (current catalogue.now.history) all)) }
 {
     lines_with_key(alloc, catalogue, &FeatureKey::Issn(*number))
 }
@@ -125,7 +125,7 @@ fn lines_of_control(
     number: &Bytes,
 ) -> Result<Vec<Bytes>, Memory>
     ensures { IfOk result (λ lines. (all : List EditionModel) × AreEditionsOf catalogue.now.history all
-        × (lines.items ≡ told_of catalogue.now.names (Control source.now number.now) (current catalogue.now.history) all)) }
+        × (lines.items ≡ told_of_all catalogue.now.names (Control source.now number.now) (current catalogue.now.history) all)) }
 {
     let pair = ControlPair::of(alloc, source.bytes(), number.bytes())?;
     lines_with_key(alloc, catalogue, &FeatureKey::Control(pair))
@@ -134,7 +134,7 @@ fn lines_of_control(
 /// What is told of the editions that have the title.
 fn lines_of_title(alloc: Global, catalogue: &Catalogue, form: &Bytes) -> Result<Vec<Bytes>, Memory>
     ensures { IfOk result (λ lines. (all : List EditionModel) × AreEditionsOf catalogue.now.history all
-        × (lines.items ≡ told_of catalogue.now.names (Title form.now) (current catalogue.now.history) all)) }
+        × (lines.items ≡ told_of_all catalogue.now.names (Title form.now) (current catalogue.now.history) all)) }
 {
     let key = FeatureKey::Title(form.copied(alloc)?);
     lines_with_key(alloc, catalogue, &key)
@@ -160,7 +160,7 @@ fn lines_with_key(
 /// What is told of the editions of the work.
 fn lines_of_work(alloc: Global, catalogue: &Catalogue, key: &Bytes) -> Result<Vec<Bytes>, Memory>
     ensures { IfOk result (λ lines. (all : List EditionModel) × AreEditionsOf catalogue.now.history all
-        × (lines.items ≡ told_of catalogue.now.names (Work key.now) (current catalogue.now.history) all)) }
+        × (lines.items ≡ told_of_all catalogue.now.names (Work key.now) (current catalogue.now.history) all)) }
 {
     let grouping = catalogue.works(alloc)?;
     edition_lines(alloc, grouping.works().editions_of(key))

@@ -1,7 +1,7 @@
 //! What a line asks.
 ghost use Rattle.std.specs.Prelude.{◌≡◌};
 ghost use Rattle.catalogue_query.specs.Queries.{query_of};
-ghost use Rattle.catalogue_query.specs.Refusals.{Answers};
+ghost use Rattle.catalogue_query.specs.Refusals.{IsReadAs};
 
 use crate::grammar::query_behind;
 use crate::word::{Word, cut_at_blank};
@@ -85,7 +85,7 @@ impl Query {
     /// Answers `Unknown` exactly where the first word is none of these, `Word` exactly where it is and the rest is not as
     /// the table says, and `Memory` where memory ran out.
     pub fn read(alloc: Global, line: &[u8]) -> Result<Query, QueryRefusal>
-        ensures { Answers result (query_of line.now) }
+        ensures { IsReadAs result (query_of line.now) }
     {
         let (word, rest) = cut_at_blank(line);
         let Some(word) = Word::read(word) else {

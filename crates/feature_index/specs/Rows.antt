@@ -18,6 +18,6 @@ spare_in (Few count spare places) = spare
 spare_in (Many spare list) = spare
 
 -- they do find room: in place, or in the list's memory
-abbrev pub HasRoom : Numbers → Type 0
-HasRoom (Few count spare places) = count + spare ≤ most_in_place
-HasRoom (Many spare list) = length list.items + spare ≤ vec_capacity list
+abbrev pub HasRoomInRow : Numbers → Type 0
+HasRoomInRow (Few count spare places) = count + spare ≤ most_in_place
+HasRoomInRow (Many spare list) = length list.items + spare ≤ vec_capacity list

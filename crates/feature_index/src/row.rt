@@ -39,13 +39,13 @@ const _: () = prove!(size_of::<Row>() == 32);
 
 impl Model for Row {
     ghost use Rattle.feature_index.specs.Postings.{Posting, Ascends};
-    ghost use Rattle.feature_index.specs.Rows.{numbers_in, spare_in, HasRoom};
+    ghost use Rattle.feature_index.specs.Rows.{numbers_in, spare_in, HasRoomInRow};
 
     ghost Value = { Posting };
 
     ghost view = { λ r. record { numbers = numbers_in r.numbers; spare = spare_in r.numbers } };
 
-    ghost invariant = { λ r. Ascends (numbers_in r.numbers) × HasRoom r.numbers };
+    ghost invariant = { λ r. Ascends (numbers_in r.numbers) × HasRoomInRow r.numbers };
 }
 
 impl Row {

@@ -18,7 +18,7 @@ use Rattle.field_merge.specs.Parts.{ArePartsOf}
 use Rattle.field_merge.proofs.Members.{member-find}
 use Rattle.field_merge.specs.declared.rank.Rank.{Rank}
 use Rattle.field_merge.specs.declared.slot.Slot.{Slot}
-use Rattle.field_merge.specs.declared.parts.Parts.{Parts}
+use Rattle.field_merge.specs.declared.parts.SlotFields.{SlotFields}
 
 module _ {X Y : Type 0} (p : X → Bool) (g : X → Y) where
   moved : (b : Bool) (x : X) → cond b (Some (g x)) None ≡ option_map g (cond b (Some x) None)
@@ -65,7 +65,7 @@ title-from_loadable r loadable =
     let one = (both_true _ (how_many (codes "245") r.fields == 1) described).1 in
     first-from_count (has_tag (codes "245")) r.fields (grind (arith, nat_tests, one))
 
-pub some-from_parts : (k : Rank) (r : Record) (parts : Parts) → IsTrue (is_loadable r) → ArePartsOf k r.fields parts → IsSome parts.f245
+pub some-from_parts : (k : Rank) (r : Record) (parts : SlotFields) → IsTrue (is_loadable r) → ArePartsOf k r.fields parts → IsSome parts.f245
 some-from_parts k r parts loadable are =
     let (x, e) = title-from_loadable r loadable in
     subst IsSome (sym (are.f245 ∙ ap (option_map (slot k)) e)) refl

@@ -5,10 +5,10 @@ use Rattle.union_base.specs.declared.field.Field.{Field}
 use Rattle.marc_parts.specs.Parts.{first_under}
 use Rattle.field_merge.specs.Contents.{is_main_entry, is_united, slot}
 use Rattle.field_merge.specs.declared.rank.Rank.{Rank}
-use Rattle.field_merge.specs.declared.parts.Parts.{Parts}
+use Rattle.field_merge.specs.declared.parts.SlotFields.{SlotFields}
 
 -- of the fields, the first one of each slot, and all united ones
-pub record ArePartsOf (rank : Rank) (fields : List Field) (parts : Parts) : Type 0 where
+pub record ArePartsOf (rank : Rank) (fields : List Field) (parts : SlotFields) : Type 0 where
   pub f005 : parts.f005 ≡ option_map (slot rank) (first_under (codes "005") fields)
   pub f010 : parts.f010 ≡ option_map (slot rank) (first_under (codes "010") fields)
   pub f040 : parts.f040 ≡ option_map (slot rank) (first_under (codes "040") fields)

@@ -16,7 +16,7 @@ use union_base::memory::Memory;
 
 /// Of the fields seen so far, the first one of each slot, and all united ones in their order.
 #[derive(Drop)]
-pub struct Parts {
+pub struct SlotFields {
     pub f005: Option<Slot>,
     pub f010: Option<Slot>,
     pub f040: Option<Slot>,
@@ -27,10 +27,10 @@ pub struct Parts {
 }
 
 /// The parts of the fields, in slots that share the rank. Returns `Memory` if allocation fails.
-pub fn parts_of(alloc: Global, rank: &Rank, fields: Vec<Field>) -> Result<Parts, Memory>
+pub fn parts_of(alloc: Global, rank: &Rank, fields: Vec<Field>) -> Result<SlotFields, Memory>
     ensures { IfOk result (λ parts. ArePartsOf rank.now fields.items parts) }
 {
-    let mut parts = Parts {
+    let mut parts = SlotFields {
         f005: None,
         f010: None,
         f040: None,
@@ -45,7 +45,7 @@ pub fn parts_of(alloc: Global, rank: &Rank, fields: Vec<Field>) -> Result<Parts,
     Ok(parts)
 }
 
-impl Parts {
+impl SlotFields {
     /// One field more was seen. Returns `Memory` if allocation fails.
     fn add(&mut self, alloc: Global, rank: &Rank, field: Field) -> Result<(), Memory>
         ensures { OnOk result ((fields : List Field) → ArePartsOf rank.now fields self.old

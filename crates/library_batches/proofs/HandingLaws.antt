@@ -13,7 +13,7 @@ use Rattle.library_batches.specs.Refused.{refused}
 use Rattle.library_batches.specs.Batches.{AreBatches, AreFirstBatches}
 use Rattle.library_batches.specs.Handing.{HandsOut, IsRead}
 use Rattle.library_batches.specs.Outcomes.{found_in, after_batches}
-use Rattle.library_batches.specs.Reading.{Answers, Batching, begun, ahead, KeepsFrames}
+use Rattle.library_batches.specs.Reading.{AnswersBatch, Batching, begun, ahead, KeepsFrames}
 use Rattle.library_batches.specs.declared.stop.Stop.TheVariants.{TooLong}
 use Rattle.library_batches.proofs.PassedLaws.{to_reader, from_reader}
 
@@ -35,7 +35,7 @@ KeepsFrames-more a b c x y z one two = record {
 }
 
 pub HandsOut-batch : (prefer : List (List ℕ)) (library : List ℕ) (limit : ℕ) (left before now : Option (List ℕ)) (done : List Batch) (batch : Batch) (a b : Batching)
-    → HandsOut prefer library limit left done a before → Answers (Ok (Some batch)) a before b now → HandsOut prefer library limit left (done ++ batch ∷ []) b now
+    → HandsOut prefer library limit left done a before → AnswersBatch (Ok (Some batch)) a before b now → HandsOut prefer library limit left (done ++ batch ∷ []) b now
 HandsOut-batch prefer library limit None before now done batch a b handed says = tt
 HandsOut-batch prefer library limit (Some bytes) None now done batch a b handed says = absurd handed
 HandsOut-batch prefer library limit (Some bytes) (Some x) None done batch a b handed says = absurd says
@@ -53,7 +53,7 @@ HandsOut-batch prefer library limit (Some bytes) (Some x) (Some y) done batch a 
     }
 
 pub HandsOut-end : (prefer : List (List ℕ)) (library : List ℕ) (limit : ℕ) (left before now : Option (List ℕ)) (done : List Batch) (a b : Batching)
-    → HandsOut prefer library limit left done a before → Answers (Ok None) a before b now → IfSome left (λ bytes. IsRead prefer library limit bytes done b)
+    → HandsOut prefer library limit left done a before → AnswersBatch (Ok None) a before b now → IfSome left (λ bytes. IsRead prefer library limit bytes done b)
 HandsOut-end prefer library limit None before now done a b handed says = tt
 HandsOut-end prefer library limit (Some bytes) None now done a b handed says = absurd handed
 HandsOut-end prefer library limit (Some bytes) (Some x) None done a b handed says = absurd says
@@ -72,7 +72,7 @@ HandsOut-end prefer library limit (Some bytes) (Some x) (Some y) done a b handed
     }
 
 pub HandsOut-long : (prefer : List (List ℕ)) (library : List ℕ) (limit : ℕ) (left before now : Option (List ℕ)) (done : List Batch) (a b : Batching)
-    → HandsOut prefer library limit left done a before → Answers (Err TooLong) a before b now → IfSome left (λ bytes. limit < length bytes)
+    → HandsOut prefer library limit left done a before → AnswersBatch (Err TooLong) a before b now → IfSome left (λ bytes. limit < length bytes)
 HandsOut-long prefer library limit None before now done a b handed says = tt
 HandsOut-long prefer library limit (Some bytes) None now done a b handed says = absurd handed
 HandsOut-long prefer library limit (Some bytes) (Some x) None done a b handed says = absurd says

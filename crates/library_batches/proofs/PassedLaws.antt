@@ -13,7 +13,7 @@ use Rattle.catalogue_editions.specs.declared.op.Op.{Op}
 use Rattle.library_batches.specs.Streams.{Frame, is_accepted, accepted}
 use Rattle.library_batches.specs.Refused.{refused_from}
 use Rattle.library_batches.specs.Batches.{AreBatches, AreFirstBatches, IsBatchOf, IsOpOf, block_size}
-use Rattle.library_batches.specs.Reading.{Batching, Answers, KeepsFrames, ahead}
+use Rattle.library_batches.specs.Reading.{Batching, AnswersBatch, KeepsFrames, ahead}
 use Rattle.library_batches.specs.Blocks.{IsBlock, IsChecked, IsFull, StopsBehind, BlockAnswers}
 use Rattle.library_batches.specs.declared.block.Block.{Block}
 use Rattle.library_batches.specs.declared.refused.RefusedFrame.{RefusedFrame}
@@ -98,7 +98,7 @@ Passes-block a b c (Some x) (Some y) (Some z) block passes is prefer library non
 -- a block with a batch is answered
 pub Answers-batch : (a b c : Batching) (one two three : Option (List ℕ)) (block : Block) (batch : Batch) → Passes a one b two → IsBlock b two c three block
     → c.prefer ≡ b.prefer → c.library ≡ b.library → batch.library ≡ b.library → batch.ops ≡ block.ops.items → some_in block.ops.items ≡ true
-    → Answers (Ok (Some batch)) a one c three
+    → AnswersBatch (Ok (Some batch)) a one c three
 Answers-batch a b c None two three block batch passes is prefer library code ops some = tt
 Answers-batch a b c (Some x) None three block batch passes is prefer library code ops some = absurd passes
 Answers-batch a b c (Some x) (Some y) None block batch passes is prefer library code ops some = absurd is.takes
@@ -120,7 +120,7 @@ Answers-batch a b c (Some x) (Some y) (Some z) block batch passes is prefer libr
 
 -- at the end of the source every batch was handed out
 pub Answers-end : (a b c : Batching) (one two three : Option (List ℕ)) (block : Block) → Passes a one b two → IsBlock b two c three block
-    → c.prefer ≡ b.prefer → c.library ≡ b.library → some_in block.ops.items ≡ false → block.ended ≡ true → Answers (Ok None) a one c three
+    → c.prefer ≡ b.prefer → c.library ≡ b.library → some_in block.ops.items ≡ false → block.ended ≡ true → AnswersBatch (Ok None) a one c three
 Answers-end a b c None two three block passed is prefer library none ended = tt
 Answers-end a b c (Some x) None three block passed is prefer library none ended = absurd passed
 Answers-end a b c (Some x) (Some y) None block passed is prefer library none ended = absurd is.takes
@@ -135,7 +135,7 @@ Answers-end a b c (Some x) (Some y) (Some z) block passed is prefer library none
 
 -- the source is too long
 pub Answers-long : (a b c : Batching) (one two three : Option (List ℕ)) → Passes a one b two → StopsBehind b.stream two c.stream three → c.stream ≡ stopped
-    → Answers (Err TooLong) a one c three
+    → AnswersBatch (Err TooLong) a one c three
 Answers-long a b c None two three passes stops stands = tt
 Answers-long a b c (Some x) None three passes stops stands = absurd passes
 Answers-long a b c (Some x) (Some y) None passes stops stands = absurd stops.1
@@ -144,14 +144,14 @@ Answers-long a b c (Some x) (Some y) (Some z) passes stops stands =
 
 -- the reading failed, or memory ran out
 pub Answers-failed : (a b c : Batching) (one two three : Option (List ℕ)) → Passes a one b two → StopsBehind b.stream two c.stream three
-    → Answers (Err Failed) a one c three
+    → AnswersBatch (Err Failed) a one c three
 Answers-failed a b c None two three passes stops = tt
 Answers-failed a b c (Some x) None three passes stops = absurd passes
 Answers-failed a b c (Some x) (Some y) None passes stops = absurd stops.1
 Answers-failed a b c (Some x) (Some y) (Some z) passes stops = tt
 
 pub Answers-memory : (a b c : Batching) (one two three : Option (List ℕ)) → Passes a one b two → StopsBehind b.stream two c.stream three
-    → Answers (Err Memory) a one c three
+    → AnswersBatch (Err Memory) a one c three
 Answers-memory a b c None two three passes stops = tt
 Answers-memory a b c (Some x) None three passes stops = absurd passes
 Answers-memory a b c (Some x) (Some y) None passes stops = absurd stops.1
@@ -159,7 +159,7 @@ Answers-memory a b c (Some x) (Some y) (Some z) passes stops = tt
 
 -- the reading of a block stopped
 pub Answers-stopped : (stop : Stop) (a b c : Batching) (one two three : Option (List ℕ)) → Passes a one b two → BlockAnswers (Err stop) b two c three
-    → Answers (Err stop) a one c three
+    → AnswersBatch (Err stop) a one c three
 Answers-stopped TooLong a b c one two three passed stops = Answers-long a b c one two three passed stops.0 stops.1
 Answers-stopped Failed a b c one two three passed stops = Answers-failed a b c one two three passed stops
 Answers-stopped Memory a b c one two three passed stops = Answers-memory a b c one two three passed stops

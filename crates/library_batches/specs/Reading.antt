@@ -56,7 +56,7 @@ AnswersTold (Err Failed) before bytes now rest = ⊤
 AnswersTold (Err Memory) before bytes now rest = ⊤
 
 -- the same where the source may not tell its bytes
-abbrev pub Answers : Result (Option Batch) Stop → Batching → Option (List ℕ) → Batching → Option (List ℕ) → Type 0
-Answers answer before None now left = ⊤
-Answers answer before (Some bytes) now None = ⊥
-Answers answer before (Some bytes) now (Some rest) = AnswersTold answer before bytes now rest
+abbrev pub AnswersBatch : Result (Option Batch) Stop → Batching → Option (List ℕ) → Batching → Option (List ℕ) → Type 0
+AnswersBatch answer before None now left = ⊤
+AnswersBatch answer before (Some bytes) now None = ⊥
+AnswersBatch answer before (Some bytes) now (Some rest) = AnswersTold answer before bytes now rest

@@ -3,7 +3,7 @@ ghost use Rattle.std.specs.Prelude.{◌≡◌, ◌≢◌, ◌≤◌, ◌<◌, Er
 ghost use Rattle.union_io.specs.Causes.{Rose};
 ghost use Rattle.library_stream.specs.Streaming.{most_ahead};
 ghost use Rattle.library_batches.specs.Blocks.{BlockAnswers};
-ghost use Rattle.library_batches.specs.Reading.{Answers, begun, most_bytes};
+ghost use Rattle.library_batches.specs.Reading.{AnswersBatch, begun, most_bytes};
 
 use crate::block::Block;
 use crate::checking::{Origin, check_next};
@@ -119,7 +119,7 @@ impl BatchReader {
         ensures name { S.name source.new ≡ S.name source.old }
         ensures prefer { self.new.prefer ≡ self.old.prefer }
         ensures library { self.new.library ≡ self.old.library }
-        ensures answers { Answers result self.old (S.left source.old) self.new (S.left source.new) }
+        ensures answers { AnswersBatch result self.old (S.left source.old) self.new (S.left source.new) }
         ensures failed { result ≡ Err Stop.Failed → Rose (S.faults source.old) (S.faults source.new) }
         ensures calm { result ≢ Err Stop.Failed → S.faults source.new ≡ S.faults source.old }
         ensures own { IfOk result (λ next. IfSome next (λ batch. batch.library ≡ self.old.library)) }

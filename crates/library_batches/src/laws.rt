@@ -8,7 +8,7 @@ ghost use Rattle.catalogue_editions.specs.declared.edition.Edition.{Edition};
 ghost use Rattle.library_batches.specs.Batches.{AreBatches, AreFirstBatches};
 ghost use Rattle.library_batches.specs.Handing.{HandsOut, IsRead};
 ghost use Rattle.library_batches.specs.Outcomes.{found_in, after_batches};
-ghost use Rattle.library_batches.specs.Reading.{Answers, Batching, begun};
+ghost use Rattle.library_batches.specs.Reading.{AnswersBatch, Batching, begun};
 ghost use Rattle.library_batches.specs.Streams.{Frame};
 ghost use Rattle.library_batches.specs.declared.stop.Stop.TheVariants.{TooLong as TooLongStop};
 
@@ -22,7 +22,7 @@ pub fn nothing_is_handed_out_at_first()
 pub fn a_batch_is_behind_the_others()
     ensures { (prefer : List (List ℕ)) (library : List ℕ) (limit : ℕ) (left before now : Option (List ℕ)) (done : List Batch)
         (batch : Batch) (a b : Batching)
-        → HandsOut prefer library limit left done a before → Answers (Ok (Some batch)) a before b now
+        → HandsOut prefer library limit left done a before → AnswersBatch (Ok (Some batch)) a before b now
         → HandsOut prefer library limit left (done ++ batch ∷ []) b now }
 {}
 
@@ -30,7 +30,7 @@ pub fn a_batch_is_behind_the_others()
 pub fn all_is_handed_out_at_the_end()
     ensures { (prefer : List (List ℕ)) (library : List ℕ) (limit : ℕ) (left before now : Option (List ℕ)) (done : List Batch)
         (a b : Batching)
-        → HandsOut prefer library limit left done a before → Answers (Ok None) a before b now
+        → HandsOut prefer library limit left done a before → AnswersBatch (Ok None) a before b now
         → IfSome left (λ bytes. IsRead prefer library limit bytes done b) }
 {}
 
@@ -38,7 +38,7 @@ pub fn all_is_handed_out_at_the_end()
 pub fn a_source_that_is_too_long_has_more_bytes()
     ensures { (prefer : List (List ℕ)) (library : List ℕ) (limit : ℕ) (left before now : Option (List ℕ)) (done : List Batch)
         (a b : Batching)
-        → HandsOut prefer library limit left done a before → Answers (Err TooLongStop) a before b now
+        → HandsOut prefer library limit left done a before → AnswersBatch (Err TooLongStop) a before b now
         → IfSome left (λ bytes. limit < length bytes) }
 {}
 

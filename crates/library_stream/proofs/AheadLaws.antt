@@ -5,7 +5,7 @@ use Rattle.iso2709_frame.specs.declared.cut.Cut.{Cut}
 use Rattle.library_stream.specs.declared.answer.Next.{Next}
 use Rattle.library_stream.specs.declared.answer.Next.TheVariants.{Frame, End, TooLong, Failed}
 use Rattle.library_stream.specs.Streaming.{Streaming, opened, passes, frames_on, frames_ahead, is_too_long}
-use Rattle.library_stream.specs.Answering.{Takes, Answers, AllHanded, FrontHanded, Fewer}
+use Rattle.library_stream.specs.Answering.{Takes, AnswersFrame, AllHanded, FrontHanded, Fewer}
 use Rattle.iso2709_frame.specs.Frames.{frames}
 use Rattle.iso2709_frame.specs.Cutting.{told}
 use Rattle.std.proofs.lemmas.Bool.{ltb-false, ltb-true}
@@ -27,7 +27,7 @@ Takes-more a b c (Some x) (Some y) (Some z) xs ys first second =
 
 -- an answer, where nothing was taken before
 pub Answers-behind : (answer : Next) (a b c : Streaming) (one two three : Option (List ℕ)) → Takes a one b two []
-    → Answers answer b two c three → Answers answer a one c three
+    → AnswersFrame answer b two c three → AnswersFrame answer a one c three
 Answers-behind (Frame cut) a b c one two three none says = Takes-more a b c one two three [] _ none says
 Answers-behind End a b c one two three none says = (Takes-more a b c one two three [] [] none says.0, says.1)
 Answers-behind TooLong a b c one two three none says = record {
@@ -47,7 +47,7 @@ Fewer-behind Failed a b c bound fewer = omega arith
 
 -- at the end of the source, what was handed out are all its frames
 pub handed_all : (limit : ℕ) (b c : Streaming) (one two three : Option (List ℕ)) (handed : List (Cut × List ℕ))
-    → Takes (opened limit) one b two handed → Answers End b two c three → IfSome one (λ bytes. AllHanded limit bytes handed)
+    → Takes (opened limit) one b two handed → AnswersFrame End b two c three → IfSome one (λ bytes. AllHanded limit bytes handed)
 handed_all limit b c None two three handed takes ends = tt
 handed_all limit b c (Some bytes) None three handed takes ends = absurd takes
 handed_all limit b c (Some bytes) (Some rest) None handed takes ends = absurd ends.0
@@ -62,7 +62,7 @@ handed_all limit b c (Some bytes) (Some rest) (Some more) handed takes ends =
 
 -- where the source is too long, what was handed out are the frames that end within the limit
 pub handed_front : (limit : ℕ) (b c : Streaming) (one two three : Option (List ℕ)) (handed : List (Cut × List ℕ))
-    → Takes (opened limit) one b two handed → Answers TooLong b two c three → IfSome one (λ bytes. FrontHanded limit bytes handed)
+    → Takes (opened limit) one b two handed → AnswersFrame TooLong b two c three → IfSome one (λ bytes. FrontHanded limit bytes handed)
 handed_front limit b c None two three handed takes stops = tt
 handed_front limit b c (Some bytes) None three handed takes stops = absurd takes
 handed_front limit b c (Some bytes) (Some rest) None handed takes stops = absurd stops.takes

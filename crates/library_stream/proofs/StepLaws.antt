@@ -14,7 +14,7 @@ use Rattle.library_stream.specs.declared.course.Course.TheVariants.{Open, Ended,
 use Rattle.library_stream.specs.declared.answer.Next.{Next}
 use Rattle.library_stream.specs.declared.answer.Next.TheVariants.{Frame, End, TooLong, Failed}
 use Rattle.library_stream.specs.Streaming.{streaming}
-use Rattle.library_stream.specs.Answering.{Takes, Answers, IsLast, ReadsWithin}
+use Rattle.library_stream.specs.Answering.{Takes, AnswersFrame, IsLast, ReadsWithin}
 
 -- a piece without a terminator is taken whole
 pub taken_whole : (rest : List ℕ) (n : ℕ) → n ≡ length (first_piece rest) → false ≡ list_any is_terminator rest → drop n rest ≡ []
@@ -66,7 +66,7 @@ ends_with bytes unread' a b unread room last same reads none is =
 pub Answers-last : (before now : Option (List ℕ)) (a b c : Cutting) (unread unread' : List ℕ) (room : ℕ) (answer : Next)
     → ((more : List ℕ) → frames (a.pending ++ (unread ++ more)) ≡ frames (b.pending ++ ([] ++ more)))
     → ReadsWithin before room now unread' Ended → unread' ≡ [] → c.frame ≡ [] → IsLast answer (frames b.pending)
-    → Answers answer (streaming a unread (Open room)) before (streaming c unread' Ended) now
+    → AnswersFrame answer (streaming a unread (Open room)) before (streaming c unread' Ended) now
 Answers-last None now a b c unread unread' room (Frame cut) same reads none lent last = tt
 Answers-last (Some bytes) None a b c unread unread' room (Frame cut) same reads none lent last = absurd reads
 Answers-last (Some bytes) (Some rest) a b c unread unread' room (Frame cut) same reads none lent last =

@@ -40,11 +40,11 @@ pub record FrontHanded (limit : ℕ) (bytes : List ℕ) (handed : List (Cut × L
 
 -- a frame: the first one that was ahead. The end: none was ahead, and the source is not too long. Too long: so it is, and
 -- each frame that ends within the limit was handed out. Failed: as many frames are ahead as were
-abbrev pub Answers : Next → Streaming → Option (List ℕ) → Streaming → Option (List ℕ) → Type 0
-Answers (Frame cut) before left now left' = Takes before left now left' ((cut, now.frame) ∷ [])
-Answers End before left now left' = Takes before left now left' [] × (now.course ≡ Ended)
-Answers TooLong before left now left' = StopsAtLimit before left now left'
-Answers Failed before left now left' = Takes before left now left' []
+abbrev pub AnswersFrame : Next → Streaming → Option (List ℕ) → Streaming → Option (List ℕ) → Type 0
+AnswersFrame (Frame cut) before left now left' = Takes before left now left' ((cut, now.frame) ∷ [])
+AnswersFrame End before left now left' = Takes before left now left' [] × (now.course ≡ Ended)
+AnswersFrame TooLong before left now left' = StopsAtLimit before left now left'
+AnswersFrame Failed before left now left' = Takes before left now left' []
 
 -- a failure raises the count of faults, and no other answer changes it
 abbrev pub CountsFault : Next → ℕ → ℕ → Type 0
@@ -81,7 +81,7 @@ ReadsWithin (Some bytes) room (Some rest) unread course =
 -- a step of the reader: without an answer the same frames are ahead
 abbrev pub Steps : Option Next → Streaming → Option (List ℕ) → Streaming → Option (List ℕ) → Type 0
 Steps None before left now left' = Takes before left now left' []
-Steps (Some answer) before left now left' = Answers answer before left now left'
+Steps (Some answer) before left now left' = AnswersFrame answer before left now left'
 
 -- the answer on a source that ended, by the frames of what waits then
 abbrev pub IsLast : Next → List (Cut × List ℕ) → Type 0

@@ -6,7 +6,7 @@ ghost use Rattle.union_io.specs.Causes.{HasCause};
 ghost use Rattle.iso2709_frame.specs.Frames.{frames};
 ghost use Rattle.iso2709_frame.specs.Cutting.{told, fresh};
 ghost use Rattle.library_stream.specs.Streaming.{streaming, opened, stopped, most_on, most_ahead};
-ghost use Rattle.library_stream.specs.Answering.{Answers, CountsFault, Fewer, IsLast, Lends, LendsCut, ReadsWithin, Steps};
+ghost use Rattle.library_stream.specs.Answering.{AnswersFrame, CountsFault, Fewer, IsLast, Lends, LendsCut, ReadsWithin, Steps};
 
 use crate::answer::Next;
 use crate::course::Course;
@@ -122,7 +122,7 @@ fn last_answer(cutter: &mut Cutter) -> Next
 
 /// The next answer on a source that passed the limit.
 fn passed_answer(cutter: &mut Cutter, piece: &mut Piece) -> Next
-    ensures answers { (left : Option (List ℕ)) → Answers result (streaming cutter.old piece.old Course.Passed) left
+    ensures answers { (left : Option (List ℕ)) → AnswersFrame result (streaming cutter.old piece.old Course.Passed) left
         (streaming cutter.new piece.new Course.Passed) left }
     ensures faults { (count : ℕ) → CountsFault result count count }
     ensures fewer { Fewer result (length piece.old) (length piece.new) }
@@ -144,7 +144,7 @@ fn next_answer<S: Source>(
     source: &mut S,
 ) -> (Course, Next)
     ensures name { S.name source.new ≡ S.name source.old }
-    ensures answers { Answers result.1 (streaming cutter.old piece.old course) (S.left source.old)
+    ensures answers { AnswersFrame result.1 (streaming cutter.old piece.old course) (S.left source.old)
         (streaming cutter.new piece.new result.0) (S.left source.new) }
     ensures faults { CountsFault result.1 (S.faults source.old) (S.faults source.new) }
     ensures fewer { Fewer result.1 (length piece.old + most_on course) (length piece.new + most_on result.0) }
@@ -190,7 +190,7 @@ impl FrameReader {
     /// read gives none. Takes no memory.
     pub fn next<S: Source>(&mut self, source: &mut S) -> Next
         ensures name { S.name source.new ≡ S.name source.old }
-        ensures answers { Answers result self.old (S.left source.old) self.new (S.left source.new) }
+        ensures answers { AnswersFrame result self.old (S.left source.old) self.new (S.left source.new) }
         ensures faults { CountsFault result (S.faults source.old) (S.faults source.new) }
         // A measure for a caller's loop, whether the source tells its bytes or not.
         ensures fewer { Fewer result (most_ahead self.old) (most_ahead self.new) }

@@ -9,7 +9,7 @@ use marc_leader::leader::LEADER_SIZE;
 
 /// The directory and the data of a frame.
 #[derive(Clone, Copy)]
-pub struct Parts<'a> {
+pub struct FrameParts<'a> {
     /// The entries' bytes, without the terminator after them.
     pub directory: &'a [u8],
     /// The fields' bytes, each with its terminator.
@@ -18,7 +18,7 @@ pub struct Parts<'a> {
 
 /// The bytes between the leader and the terminator before the base address, and those from there to the record terminator
 /// (ISO 2709, 'Directory').
-pub fn split_frame(frame: &[u8], base: usize) -> Parts<'_>
+pub fn split_frame(frame: &[u8], base: usize) -> FrameParts<'_>
     requires low { 25 ≤ base }
     requires high { base + 1 ≤ length frame.now }
     ensures directory { result.directory.now ≡ take (base - 25) (drop 24 frame.now) }
@@ -28,7 +28,7 @@ pub fn split_frame(frame: &[u8], base: usize) -> Parts<'_>
     let (directory, _) = behind.split_at(base - SMALLEST_BASE);
     let (_, rest) = frame.split_at(base);
     let (bytes, _) = rest.split_at(frame.len() - 1 - base);
-    Parts { directory, bytes }
+    FrameParts { directory, bytes }
 }
 
 /// The bytes of the entry's field, without the terminator.

@@ -12,7 +12,7 @@ use Rattle.unicode_normalization.proofs.FormsLemmas.{normalize-ascii}
 use Rattle.caseless.specs.Caseless.{default_case_fold}
 use Rattle.caseless.proofs.CaselessLemmas.{default_case_fold-ascii}
 use Rattle.naco_normal.specs.Ascii.{is_ascii_deleted, is_ascii_kept, is_ascii_shown, ascii_letters}
-use Rattle.naco_normal.specs.Normal.{comma_sign, is_deleted, plain_letters, is_letter_or_number, is_kept, folded, without_deleted, with_plain_letters, letters}
+use Rattle.naco_normal.specs.Normal.{comma_sign, is_dropped, plain_letters, is_letter_or_number, is_kept, folded, without_deleted, with_plain_letters, letters}
 use Rattle.naco_normal.specs.Shown.{is_shown}
 use Rattle.naco_normal.specs.Words.{after_gap}
 use Rattle.naco_normal.proofs.WordsLemmas.{read_on}
@@ -33,7 +33,7 @@ abbrev agrees : ℕ → Bool
 agrees b =
     same (is_kept b) (is_ascii_kept b)
     && (same (is_letter_or_number b) (is_ascii_alphanumeric b)
-    && (same (is_deleted b) (is_ascii_deleted b)
+    && (same (is_dropped b) (is_ascii_deleted b)
     && (same (is_ascii_deleted (to_ascii_lowercase b)) (is_ascii_deleted b)
     && (same (is_ascii_alphanumeric (to_ascii_lowercase b)) (is_ascii_alphanumeric b)
     && same (is_ascii_deleted b && is_ascii_alphanumeric b) false))))
@@ -58,7 +58,7 @@ below_agrees (suc n) b all h =
 pub record Agree (b : ℕ) : Type 0 where
   pub kept : is_kept b ≡ is_ascii_kept b
   pub number : is_letter_or_number b ≡ is_ascii_alphanumeric b
-  pub deleted : is_deleted b ≡ is_ascii_deleted b
+  pub deleted : is_dropped b ≡ is_ascii_deleted b
   pub deleted_lower : is_ascii_deleted (to_ascii_lowercase b) ≡ is_ascii_deleted b
   pub number_lower : is_ascii_alphanumeric (to_ascii_lowercase b) ≡ is_ascii_alphanumeric b
   pub apart : (is_ascii_deleted b && is_ascii_alphanumeric b) ≡ false

@@ -17,8 +17,8 @@ abbrev pub comma_sign : ℕ
 comma_sign = 0x2C
 
 -- of category Mn, Me or Lm, or one of the signs ' [ ]
-abbrev pub is_deleted : ℕ → Bool
-is_deleted c =
+abbrev pub is_dropped : ℕ → Bool
+is_dropped c =
     general_category_eq (general_category c) NonspacingMark
     || general_category_eq (general_category c) EnclosingMark
     || general_category_eq (general_category c) ModifierLetter
@@ -64,7 +64,7 @@ folded cs = nfkd (default_case_fold (nfkd cs))
 
 -- step 4: marks, modifier letters and the signs ' [ ] are deleted
 abbrev pub without_deleted : List ℕ → List ℕ
-without_deleted = filter (λ c. not (is_deleted c))
+without_deleted = filter (λ c. not (is_dropped c))
 
 -- step 5: letters that have a plain spelling have it
 abbrev pub with_plain_letters : List ℕ → List ℕ

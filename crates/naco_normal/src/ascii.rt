@@ -21,7 +21,7 @@ pub(crate) fn append_ascii(form: &mut Vec<u8>, text: &[u8], comma: Comma) -> Res
     let mut gap = true;
     let mut awaiting = comma.keeps_first();
     for (place, byte) in text.iter().enumerate() {
-        if is_deleted(*byte) {
+        if is_dropped(*byte) {
             continue;
         }
         let letter = byte.to_ascii_lowercase();
@@ -33,7 +33,7 @@ pub(crate) fn append_ascii(form: &mut Vec<u8>, text: &[u8], comma: Comma) -> Res
     Ok(())
 }
 
-fn is_deleted(byte: u8) -> bool
+fn is_dropped(byte: u8) -> bool
     ensures { result ≡ is_ascii_deleted byte }
 {
     matches!(byte, b'\'' | b'[' | b']')

@@ -4,7 +4,7 @@ ghost use Rattle.std.specs.List.{list_any};
 ghost use Rattle.unicode.specs.CaseFolding.{full_fold};
 ghost use Rattle.unicode_normalization.specs.Forms.{nfkd};
 ghost use Rattle.caseless.specs.Caseless.{default_case_fold};
-ghost use Rattle.naco_normal.specs.Normal.{is_deleted, plain_letters, is_letter_or_number, is_kept, folded, letters, with_plain_letters, without_deleted, spaced};
+ghost use Rattle.naco_normal.specs.Normal.{is_dropped, plain_letters, is_letter_or_number, is_kept, folded, letters, with_plain_letters, without_deleted, spaced};
 ghost use Rattle.naco_normal.specs.Shown.{is_shown};
 ghost use Rattle.naco_normal.specs.Words.{joined};
 
@@ -67,8 +67,8 @@ fn push_folded(folded: &mut Vec<char>, c: char) -> Result<(), Memory>
 }
 
 /// Whether the character is deleted: a nonspacing or enclosing mark, a modifier letter, or one of `'`, `[` and `]`.
-fn is_deleted(c: char) -> bool
-    ensures { result ≡ is_deleted c }
+fn is_dropped(c: char) -> bool
+    ensures { result ≡ is_dropped c }
 {
     matches!(c, '\'' | '[' | ']')
         || matches!(
@@ -83,7 +83,7 @@ fn is_deleted(c: char) -> bool
 fn push_plain(letters: &mut Vec<char>, c: char) -> Result<(), Memory>
     ensures { OnOk result (letters.new.items ≡ letters.old.items ++ with_plain_letters (without_deleted (c ∷ []))) }
 {
-    if is_deleted(c) {
+    if is_dropped(c) {
         return Ok(());
     }
     let (first, second) = plain_letters(c);

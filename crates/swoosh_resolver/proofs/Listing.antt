@@ -3,7 +3,7 @@ use Rattle.std.proofs.Common.{◌≡◌, ℕ, zero, suc, ◌-◌, ◌<◌, ◌�
 use Rattle.std.specs.Prelude.{◌↔◌, ◌⊎◌, Contains, map, slice_set, swap_remove}
 use Rattle.std.proofs.lemmas.List.{map-append, length-map, length-set, get_or-set_same, get_or-set_other}
 use Rattle.feature_index.specs.Postings.{Posting, numbers_of}
-use Rattle.swoosh_resolver.specs.Tables.{Entry, ArePosted, AreListed, block_at, blocks_in, put}
+use Rattle.swoosh_resolver.specs.Tables.{Entry, ArePosted, AreListed, block_at, blocks_in, put_block}
 use Rattle.swoosh_resolver.specs.Insertions.{passes}
 use Rattle.swoosh_resolver.proofs.Opening.{reposted, posted-put, put-past, put-within, one_or_not}
 
@@ -103,7 +103,7 @@ module _ {R K : Type 0} {eq : K → K → Bool} {has_key : R → K → Type 0} w
         posted)
 
     -- another is taken out, and the last is put in its place
-    pub unlisted-moved : (p : List (K × Posting)) → i < m → ArePosted eq has_key (put (slice_set (slice_set (map Some xs) i None) m None) i (get_or xs m d)) p → AreListed eq has_key (swap_remove xs i d) p
+    pub unlisted-moved : (p : List (K × Posting)) → i < m → ArePosted eq has_key (put_block (slice_set (slice_set (map Some xs) i None) m None) i (get_or xs m d)) p → AreListed eq has_key (swap_remove xs i d) p
     unlisted-moved p less posted =
         let mapped : length (map {B = Option (Entry R K)} Some xs) ≡ length xs = length-map xs Some in
         let is : length xs - 1 ≡ m = omega arith in

@@ -10,7 +10,7 @@ use Rattle.std.proofs.lemmas.List.Sums.{sum_by-append}
 use Rattle.std.proofs.lemmas.List.Elements.{Contains-get_or, filter_map-append}
 use Rattle.std.proofs.lemmas.List.Sorted.{IsPermutation-refl, IsPermutation-sym, IsPermutation-cons, IsPermutation-trans, IsPermutation-middle, IsPermutation-to_front}
 use Rattle.feature_index.specs.Postings.{Posting, numbers_of}
-use Rattle.swoosh_resolver.specs.Tables.{Entry, ArePosted, block_at, blocks_in, put}
+use Rattle.swoosh_resolver.specs.Tables.{Entry, ArePosted, block_at, blocks_in, put_block}
 use Rattle.swoosh_resolver.specs.Changes.{AreNumbers, AreOpened, keys_in, number_at, without}
 use Rattle.swoosh_resolver.proofs.Places.{block-kept}
 
@@ -31,22 +31,22 @@ module _ {X : Type 0} where
   pushed-other (b ∷ bs) x zero ne = refl
   pushed-other (b ∷ bs) x (suc m) ne = pushed-other bs x m (λ e. ne (ap suc e))
 
-  pub put-within : (blocks : List (Option X)) (n : ℕ) (x : X) → n < length blocks → put blocks n x ≡ slice_set blocks n (Some x)
+  pub put-within : (blocks : List (Option X)) (n : ℕ) (x : X) → n < length blocks → put_block blocks n x ≡ slice_set blocks n (Some x)
   put-within blocks n x h = let yes' : nat_lt n (length blocks) ≡ true = grind (arith, nat_tests) in rw yes' refl
 
-  pub put-past : (blocks : List (Option X)) (n : ℕ) (x : X) → length blocks ≤ n → put blocks n x ≡ blocks ++ Some x ∷ []
+  pub put-past : (blocks : List (Option X)) (n : ℕ) (x : X) → length blocks ≤ n → put_block blocks n x ≡ blocks ++ Some x ∷ []
   put-past blocks n x h = let no' : nat_lt n (length blocks) ≡ false = grind (arith, nat_tests) in rw no' refl
 
   -- the block that was put stands under its number
-  pub put-at : (blocks : List (Option X)) (n : ℕ) (x : X) → n ≤ length blocks → block_at (put blocks n x) n ≡ Some x
-  put-at blocks n x le = elim (dec_lt n (length blocks)) as (λ _. block_at (put blocks n x) n ≡ Some x) [
+  pub put-at : (blocks : List (Option X)) (n : ℕ) (x : X) → n ≤ length blocks → block_at (put_block blocks n x) n ≡ Some x
+  put-at blocks n x le = elim (dec_lt n (length blocks)) as (λ _. block_at (put_block blocks n x) n ≡ Some x) [
     | yes h ↦ rw (put-within blocks n x h) (get_or-set_same blocks n (Some x) None h)
     | no h ↦ (let same : n ≡ length blocks = omega arith in rw (put-past blocks n x (omega arith), same) (pushed-at blocks x))
   ]
 
   -- and under all other numbers stands what stood there
-  pub put-other : (blocks : List (Option X)) (n : ℕ) (x : X) → n ≤ length blocks → (m : ℕ) → m ≢ n → block_at (put blocks n x) m ≡ block_at blocks m
-  put-other blocks n x le m ne = elim (dec_lt n (length blocks)) as (λ _. block_at (put blocks n x) m ≡ block_at blocks m) [
+  pub put-other : (blocks : List (Option X)) (n : ℕ) (x : X) → n ≤ length blocks → (m : ℕ) → m ≢ n → block_at (put_block blocks n x) m ≡ block_at blocks m
+  put-other blocks n x le m ne = elim (dec_lt n (length blocks)) as (λ _. block_at (put_block blocks n x) m ≡ block_at blocks m) [
     | yes h ↦ rw (put-within blocks n x h) (get_or-set_other blocks n m (Some x) None ne)
     | no h ↦ (let same : n ≡ length blocks = omega arith in rw (put-past blocks n x (omega arith)) (pushed-other blocks x m (rw same at ne)))
   ]
@@ -69,18 +69,18 @@ module _ {R K : Type 0} {eq : K → K → Bool} {has_key : R → K → Type 0} (
 
   pub posted-put : (e : Entry R K) → block_at blocks n ≡ None → n ≤ length blocks
       → ((k : K) (m : ℕ) → Contains (numbers_of eq new k) m ↔ (Contains (numbers_of eq old k) m ⊎ (has_key e.value k × (m ≡ n))))
-      → ArePosted eq has_key (put blocks n e) new
+      → ArePosted eq has_key (put_block blocks n e) new
   posted-put e free le changed = record {
     stands = λ k m. (
-      λ c. elim ((changed k m).0 c) as (λ _. (f : Entry R K) × (block_at (put blocks n e) m ≡ Some f) × has_key f.value k) [
+      λ c. elim ((changed k m).0 c) as (λ _. (f : Entry R K) × (block_at (put_block blocks n e) m ≡ Some f) × has_key f.value k) [
         | inl there ↦
             (let (f, at, has) = (posted.stands k m).0 there in
             (f, put-other blocks n e le m (λ (same : m ≡ n). let none : block_at blocks m ≡ None = subst (λ z. block_at blocks z ≡ None) (sym same) free in absurd cc) ∙ at, has))
-        | inr (has, same) ↦ (e, subst (λ z. block_at (put blocks n e) z ≡ Some e) (sym same) (put-at blocks n e le), has)
+        | inr (has, same) ↦ (e, subst (λ z. block_at (put_block blocks n e) z ≡ Some e) (sym same) (put-at blocks n e le), has)
       ],
       λ (f, at, has). elim (one_or_not m n) as (λ _. Contains (numbers_of eq new k) m) [
         | inl same ↦
-            (let here : block_at (put blocks n e) m ≡ Some e = subst (λ z. block_at (put blocks n e) z ≡ Some e) (sym same) (put-at blocks n e le) in
+            (let here : block_at (put_block blocks n e) m ≡ Some e = subst (λ z. block_at (put_block blocks n e) z ≡ Some e) (sym same) (put-at blocks n e le) in
             let one : f ≡ e = cc in
             (changed k m).1 (inr (subst (λ (z : Entry R K). has_key z.value k) one has, same)))
         | inr ne ↦ (changed k m).1 (inl ((posted.stands k m).1 (f, sym (put-other blocks n e le m ne) ∙ at, has)))
@@ -123,8 +123,8 @@ module _ {X : Type 0} where
       (IsPermutation-middle (x ∷ []) y (blocks_in bs))
       (IsPermutation-cons y (x ∷ blocks_in bs) (blocks_in (slice_set bs n (Some x))) (put-set-view bs n x (omega arith) e))
 
-  put-view : (blocks : List (Option X)) (n : ℕ) (x : X) → block_at blocks n ≡ None → IsPermutation (x ∷ blocks_in blocks) (blocks_in (put blocks n x))
-  put-view blocks n x e = elim (dec_lt n (length blocks)) as (λ _. IsPermutation (x ∷ blocks_in blocks) (blocks_in (put blocks n x))) [
+  put-view : (blocks : List (Option X)) (n : ℕ) (x : X) → block_at blocks n ≡ None → IsPermutation (x ∷ blocks_in blocks) (blocks_in (put_block blocks n x))
+  put-view blocks n x e = elim (dec_lt n (length blocks)) as (λ _. IsPermutation (x ∷ blocks_in blocks) (blocks_in (put_block blocks n x))) [
     | yes h ↦ rw (put-within blocks n x h) (put-set-view blocks n x h e)
     | no h ↦ (let joined : blocks_in (blocks ++ Some x ∷ []) ≡ blocks_in blocks ++ x ∷ [] = filter_map-append (λ b. b) blocks (Some x ∷ []) in
         rw (put-past blocks n x (omega arith), joined) (IsPermutation-sym (blocks_in blocks ++ x ∷ []) (x ∷ blocks_in blocks) (IsPermutation-to_front (blocks_in blocks) x)))
@@ -213,13 +213,13 @@ module _ {X : Type 0} (start : List (Option X)) (closed : List ℕ) where
           | no more ↦ (let e = number-new closed (length start) (length done) (omega arith) in omega arith)
         ]
 
-    pub opening_more : (x : X) → IsOpening start closed (done ++ x ∷ []) (put now next x)
+    pub opening_more : (x : X) → IsOpening start closed (done ++ x ∷ []) (put_block now next x)
     opening_more x =
         let total = length-append done (x ∷ []) in
         record {
           longer = longer' x;
           opened = record {
-            stand = λ i y il e. elim (dec_lt i (length done)) as (λ _. block_at (put now next x) (number_at closed (length start) i) ≡ Some y) [
+            stand = λ i y il e. elim (dec_lt i (length done)) as (λ _. block_at (put_block now next x) (number_at closed (length start) i) ≡ Some y) [
               | yes old ↦ put-other now next x next-within (number_at closed (length start) i) (apart i (length done) old)
                   ∙ h.opened.stand i y old (sym (pushed-before done x i y old) ∙ e)
               | no new ↦
@@ -230,18 +230,18 @@ module _ {X : Type 0} (start : List (Option X)) (closed : List ℕ) where
             others = λ n ne. put-other now next x next-within n (ne (length done) (omega arith)) ∙ h.opened.others n (λ i il. ne i (omega arith));
           };
           view =
-              IsPermutation-trans (blocks_in start ++ (done ++ x ∷ [])) (x ∷ blocks_in start ++ done) (blocks_in (put now next x))
+              IsPermutation-trans (blocks_in start ++ (done ++ x ∷ [])) (x ∷ blocks_in start ++ done) (blocks_in (put_block now next x))
               (rw (sym (append_assoc (blocks_in start) done (x ∷ []))) (IsPermutation-to_front (blocks_in start ++ done) x))
-              (IsPermutation-trans (x ∷ blocks_in start ++ done) (x ∷ blocks_in now) (blocks_in (put now next x))
+              (IsPermutation-trans (x ∷ blocks_in start ++ done) (x ∷ blocks_in now) (blocks_in (put_block now next x))
               (IsPermutation-cons x (blocks_in start ++ done) (blocks_in now) h.view)
               (put-view now next x next-free));
         }
       where
-        longer' : (x : X) → length (put now next x) ≡ length start + (length (done ++ x ∷ []) - length closed)
+        longer' : (x : X) → length (put_block now next x) ≡ length start + (length (done ++ x ∷ []) - length closed)
         longer' x =
             let total = length-append done (x ∷ []) in
             let longer = h.longer in
-            elim (dec_lt (length done) (length closed)) as (λ _. length (put now next x) ≡ length start + (length (done ++ x ∷ []) - length closed)) [
+            elim (dec_lt (length done) (length closed)) as (λ _. length (put_block now next x) ≡ length start + (length (done ++ x ∷ []) - length closed)) [
               | yes less ↦ (let e = number-closed closed (length start) (length done) less in
                   let low = closed-below closed (length start) distinct (λ n c. (free n c).0) (length done) less in
                   rw (put-within now next x (omega arith), length-set now next (Some x)) (omega arith))

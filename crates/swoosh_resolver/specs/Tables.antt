@@ -37,8 +37,8 @@ abbrev pub blocks_in : {X : Type 0} → List (Option X) → List X
 blocks_in blocks = filter_map (λ b. b) blocks
 
 -- with a block under the number, which is new where no place in the list has it
-abbrev pub put : {X : Type 0} → List (Option X) → ℕ → X → List (Option X)
-put blocks n x = if nat_lt n (length blocks) then slice_set blocks n (Some x) else blocks ++ Some x ∷ []
+abbrev pub put_block : {X : Type 0} → List (Option X) → ℕ → X → List (Option X)
+put_block blocks n x = if nat_lt n (length blocks) then slice_set blocks n (Some x) else blocks ++ Some x ∷ []
 
 -- the values
 abbrev pub values_of : {R K : Type 0} → List (Entry R K) → List R

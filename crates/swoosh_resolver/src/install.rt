@@ -4,7 +4,7 @@ ghost use Rattle.std.specs.Prelude.{OnOk, AllPairs, Contains, length, slice_set,
 ghost use Rattle.std.specs.Prelude.{count_by};
 ghost use Rattle.std.specs.List.Sorted.{IsPermutation};
 ghost use Rattle.feature_index.specs.Postings.{spare_of};
-ghost use Rattle.swoosh_resolver.specs.Tables.{Entry, ArePosted, block_at, blocks_in, put, values_of};
+ghost use Rattle.swoosh_resolver.specs.Tables.{Entry, ArePosted, block_at, blocks_in, put_block, values_of};
 ghost use Rattle.swoosh_resolver.specs.Changes.{AreNumbers, AreOpened, Fits, HasRoom, keys_in, number_at, view_of, without};
 
 use crate::blocks::Blocks;
@@ -58,7 +58,7 @@ fn open<R: Resolvable>(
     requires place { number < vec_capacity blocks.old }
     requires room { (k : R.Key) → count_by (R.Key.eq k) keyed.keys ≤ spare_of R.Key.eq postings.old k }
     requires posted { ArePosted R.Key.eq R.is_posted blocks.old.items postings.old }
-    ensures blocks { blocks.new.items ≡ put blocks.old.items number keyed }
+    ensures blocks { blocks.new.items ≡ put_block blocks.old.items number keyed }
     ensures posted { ArePosted R.Key.eq R.is_posted blocks.new.items postings.new }
     ensures spares { (k : R.Key) → spare_of R.Key.eq postings.old k ≤ spare_of R.Key.eq postings.new k + count_by
         (R.Key.eq k) keyed.keys }

@@ -13,6 +13,6 @@ bytes_of (Short size buffer) = take size buffer
 bytes_of (Long text) = text.items
 
 -- the buffer has room for so many bytes
-abbrev pub HasRoom : Content → Type 0
-HasRoom (Short size buffer) = size ≤ longest_short
-HasRoom (Long text) = Unit {0}
+abbrev pub FitsInPlace : Content → Type 0
+FitsInPlace (Short size buffer) = size ≤ longest_short
+FitsInPlace (Long text) = Unit {0}

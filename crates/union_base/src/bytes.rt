@@ -45,11 +45,11 @@ impl Model for Bytes {
 
     ghost Value = { List ℕ };
 
-    ghost use Rattle.union_base.specs.ShortTexts.{bytes_of, HasRoom};
+    ghost use Rattle.union_base.specs.ShortTexts.{bytes_of, FitsInPlace};
 
     ghost view = { λ b. bytes_of b.content };
 
-    ghost invariant = { λ b. HasRoom b.content };
+    ghost invariant = { λ b. FitsInPlace b.content };
 }
 
 impl Bytes {

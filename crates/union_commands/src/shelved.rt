@@ -1,6 +1,6 @@
 //! `check` of the file of a library, as a shelf has it.
 ghost use Rattle.union_io.specs.Counts.{SameElsewhere};
-ghost use Rattle.union_io.specs.Files.{told_of};
+ghost use Rattle.union_io.specs.Files.{told_file};
 ghost use Rattle.union_commands.specs.Runs.{IsCheck};
 
 use crate::check::check_run;
@@ -21,7 +21,7 @@ pub fn check_file<F: Shelf, O: Sink>(
     out: &mut O,
 ) -> Status
     ensures run { IsCheck library.now
-        (record { told = told_of (F.files shelf.old) path.now; before = F.faults shelf.old path.now; after = F.faults shelf.new path.now })
+        (record { told = told_file (F.files shelf.old) path.now; before = F.faults shelf.old path.now; after = F.faults shelf.new path.now })
         (record { old = O.written out.old; new = O.written out.new; before = O.faults out.old; after = O.faults out.new })
         result }
     ensures others { SameElsewhere (F.faults shelf.old) (F.faults shelf.new) path.now }

@@ -7,7 +7,7 @@ use Rattle.std.specs.declared.result.Result.{Result}
 use Rattle.iso2709_frame.specs.Frames.{frames}
 use Rattle.library_batches.specs.Reading.{most_bytes}
 use Rattle.union_io.specs.Causes.{Rose}
-use Rattle.union_io.specs.Files.{told_of}
+use Rattle.union_io.specs.Files.{told_file}
 use Rattle.union_io.specs.Names.{is_among, AddsName}
 use Rattle.union_words.specs.Flows.{ShelfFlow, IsCalm, InputFile, FailsAt}
 use Rattle.union_words.specs.Words.{LibraryFile}
@@ -139,7 +139,7 @@ files_of all = map file_of all
 -- it was opened at a shelf with these files, and nothing was read of it yet
 pub record IsFresh (files : Option (List ℕ → List ℕ)) (names : List (List ℕ)) (opened : OpenedState) : Type 0 where
   pub listed : IsTrue (is_among opened.name names)
-  pub left : opened.left ≡ told_of files opened.name
+  pub left : opened.left ≡ told_file files opened.name
   pub faults : opened.faults ≡ 0
 
 -- nothing of the opened files was read yet

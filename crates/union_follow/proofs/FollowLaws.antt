@@ -8,7 +8,7 @@ use Rattle.library_batches.specs.declared.stop.Stop.{Stop}
 use Rattle.library_batches.specs.declared.stop.Stop.TheVariants.{TooLong, Failed, Memory}
 use Rattle.library_stream.specs.declared.frame_reader.TheConstants.{LARGEST_SOURCE}
 use Rattle.union_files.specs.Inputs.{AreWithin, OpenedState, file_of, files_of, is_overfull, first_overfull}
-use Rattle.union_io.specs.Files.{told_of}
+use Rattle.union_io.specs.Files.{told_file}
 use Rattle.union_script.specs.Readings.{IsStop, Reads}
 use Rattle.union_sessions.specs.declared.reports.Reports.{Reports}
 use Rattle.union_words.specs.Words.{LibraryFile}
@@ -74,13 +74,13 @@ halts_more (Err halt) first told s s' rest rest' P Q R both calm here behind = (
 
 -- a file that was not read to its end, before others
 pub halts_here : (halt : Halt) (first : ℕ) (told : Option Contents) (s s' : OpenedState) (rest : List OpenedState) (R : Contents → Type 0) → halt.place ≡ first
-    → AreUnread told rest → s.left ≡ told_of told s.name
+    → AreUnread told rest → s.left ≡ told_file told s.name
     → IsStop LARGEST_SOURCE halt.stop (record { told = s.left; before = s.faults; after = s'.faults }) → s.faults ≡ 0
     → HaltsIn {T = Unit {0}} (Err halt) first told (s ∷ rest) (s' ∷ rest) R
 halts_here halt first told s s' rest R is unread left stop fresh =
     (0, file_of s, omega (arith, is), refl, stops_here halt.stop stop)
   where
-    too_long : (told : Option Contents) → IfSome (told_of told s.name) (λ bytes. LARGEST_SOURCE < length bytes)
+    too_long : (told : Option Contents) → IfSome (told_file told s.name) (λ bytes. LARGEST_SOURCE < length bytes)
         → IfSome told (λ contents. first_overfull contents (file_of s ∷ files_of rest) ≡ Some (file_of s))
     too_long None long = tt
     too_long (Some contents) long = overfull_first contents (file_of s) (files_of rest) long
@@ -101,7 +101,7 @@ halts_end first None R holds = (tt, tt)
 halts_end first (Some contents) R holds = (tt, (refl, holds contents))
 
 -- what was read of a file of which nothing had been read before
-pub read_whole : (P : List ℕ → Type 0) (told : Option Contents) (name : List ℕ) (left : Option (List ℕ)) → left ≡ told_of told name → IfSome left P
+pub read_whole : (P : List ℕ → Type 0) (told : Option Contents) (name : List ℕ) (left : Option (List ℕ)) → left ≡ told_file told name → IfSome left P
     → IfSome told (λ contents. P (contents name))
 read_whole P None name left is holds = tt
 read_whole P (Some contents) name left is holds = subst (λ bytes. IfSome bytes P) is holds

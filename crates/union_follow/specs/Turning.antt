@@ -21,7 +21,7 @@ use Rattle.union_files.specs.Inputs.{OpenedState, AreWithin, files_of, first_ove
 use Rattle.union_files.specs.declared.opened_file.OpenedFile.{OpenedFile}
 use Rattle.union_io.specs.Causes.{Rose}
 use Rattle.union_io.specs.Counts.{SameElsewhere}
-use Rattle.union_io.specs.Files.{told_of}
+use Rattle.union_io.specs.Files.{told_file}
 use Rattle.union_io.specs.Names.{is_among}
 use Rattle.union_reports.specs.Reports.{report_text}
 use Rattle.union_sessions.specs.declared.reports.Reports.{Reports}
@@ -69,7 +69,7 @@ AreTurnedFrom contents pass (file ∷ files) history now before after =
 
 -- nothing of these opened files was read, and no read of them failed: the bytes that are left are those of their names, where told
 abbrev pub AreUnread : Option (List ℕ → List ℕ) → List OpenedState → Type 0
-AreUnread told states = AllByRecursion (λ state. (state.left ≡ told_of told state.name) × (state.faults ≡ 0)) states
+AreUnread told states = AllByRecursion (λ state. (state.left ≡ told_file told state.name) × (state.faults ≡ 0)) states
 
 -- no read of them failed
 abbrev pub AreCalm : List OpenedState → Type 0

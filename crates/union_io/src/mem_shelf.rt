@@ -1,7 +1,7 @@
 //! A shelf in memory, whose opens and reads fail where its scripts say so.
 ghost use Rattle.std.specs.Prelude.{◌≡◌, ◌≢◌, ◌<◌, ◌≤◌, ℕ, List, [], Some, None, false, IsTrue, IsErrOf, IfOk, OnOk, OnErr, IsSomeAnd, MatchOption};
 ghost use Rattle.union_io.specs.Counts.{SameCounts, SameElsewhere};
-ghost use Rattle.union_io.specs.Files.{told_of};
+ghost use Rattle.union_io.specs.Files.{told_file};
 ghost use Rattle.union_io.specs.Names.{AddsName};
 ghost use Rattle.union_io.specs.Opening.{CountsOpen, ListsOpen};
 ghost use Rattle.union_io.specs.Opened.{names_in, count_in};
@@ -170,7 +170,7 @@ impl Shelf for MemShelf {
         ensures files { Some (content_at self.new.files) ≡ Some (content_at self.old.files) }
 
         ensures name { IfOk result (λ source. source.name ≡ path.now) }
-        ensures left { IfOk result (λ source. Some source.left ≡ told_of (Some (content_at self.old.files)) path.now) }
+        ensures left { IfOk result (λ source. Some source.left ≡ told_file (Some (content_at self.old.files)) path.now) }
         ensures fresh { IfOk result (λ source. source.faults ≡ 0) }
 
         ensures later { count_in self.old.names path.now ≤ count_in self.new.names path.now }

@@ -4,7 +4,7 @@ ghost use Rattle.std.specs.Prelude.{◌≡◌, ◌<◌, ◌≤◌, ℕ, List, Is
 ghost use Rattle.std.specs.declared.option.Option.{Option};
 ghost use Rattle.union_io.specs.Causes.{Rose};
 ghost use Rattle.union_io.specs.Counts.{SameCounts, SameElsewhere};
-ghost use Rattle.union_io.specs.Files.{told_of};
+ghost use Rattle.union_io.specs.Files.{told_file};
 ghost use Rattle.union_io.specs.Names.{is_among};
 ghost use Rattle.union_io.specs.Opening.{CountsOpen, ListsOpen};
 
@@ -54,7 +54,7 @@ pub trait Shelf: Drop {
 
         // what an opened source is
         ensures name { IfOk result (λ source. Self.Src.name source ≡ path.now) }
-        ensures left { IfOk result (λ source. Self.Src.left source ≡ told_of (files self.old) path.now) }
+        ensures left { IfOk result (λ source. Self.Src.left source ≡ told_file (files self.old) path.now) }
         ensures fresh { IfOk result (λ source. Self.Src.faults source ≡ 0) }
 
         // the counts

@@ -1,6 +1,6 @@
 //! A shelf in memory of which nothing fails.
 ghost use Rattle.std.specs.Prelude.{◌≡◌, ◌≢◌, ◌<◌, ℕ, List, [], Some, IfOk, IfSome, OnOk, OnErr, MatchOption};
-ghost use Rattle.union_io.specs.Files.{told_of};
+ghost use Rattle.union_io.specs.Files.{told_file};
 ghost use Rattle.union_io.specs.Opening.{ListsOpen};
 ghost use Rattle.union_io.specs.Opened.{names_in};
 ghost use Rattle.union_io.specs.Store.{at_name};
@@ -111,7 +111,7 @@ impl Shelf for SureShelf {
         ensures files { Some (sure_content_at self.new.files) ≡ Some (sure_content_at self.old.files) }
 
         ensures name { IfOk result (λ source. source.name ≡ path.now) }
-        ensures left { IfOk result (λ source. Some source.left ≡ told_of (Some (sure_content_at self.old.files)) path.now) }
+        ensures left { IfOk result (λ source. Some source.left ≡ told_file (Some (sure_content_at self.old.files)) path.now) }
         ensures most { IfOk result (λ source. IfSome (at_name self.old.files path.now) (λ file. source.most ≡ file.most)) }
 
         ensures names { ListsOpen result (names_in self.old.names) (names_in self.new.names) path.now }

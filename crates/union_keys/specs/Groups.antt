@@ -14,12 +14,12 @@ abbrev pub Table : Type 0
 Table = List (RecordId × Standing)
 
 -- a record takes the place of an earlier one of its id
-abbrev pub put : Table → Standing → Table
-put table s = insert_entry id_cmp table s.id s
+abbrev pub put_standing : Table → Standing → Table
+put_standing table s = insert_entry id_cmp table s.id s
 
 -- the last record of each id
 abbrev pub table_of : List Standing → Table
-table_of standings = fold put [] standings
+table_of standings = fold put_standing [] standings
 
 -- the id in a text `LIB.CTL`
 abbrev pub id_in : List ℕ → Option RecordId

@@ -16,7 +16,7 @@ use Rattle.catalogue_editions.specs.declared.edition.Edition.{Edition}
 use Rattle.catalogue_core.specs.declared.history_entry.HistoryEntry.{HistoryEntry}
 use Rattle.library_batches.specs.Batches.{AreBatches}
 use Rattle.library_batches.specs.Outcomes.{found_in}
-use Rattle.library_batches.specs.Reading.{Batching, begun, ahead, Answers}
+use Rattle.library_batches.specs.Reading.{Batching, begun, ahead, AnswersBatch}
 use Rattle.library_batches.specs.Refused.{refused, refused_from}
 use Rattle.library_batches.specs.declared.stop.Stop.TheVariants.{TooLong}
 use Rattle.union_script.specs.Texts.{turns_of}
@@ -46,7 +46,7 @@ hands_none library limit (Some bytes) = record {
 
 -- one batch more
 pub hands_more : (library : List ℕ) (limit : ℕ) (told now then : Option (List ℕ)) (a b : Batching) (batches : List Batch) (batch : Batch)
-    → a.prefer ≡ [] → a.library ≡ library → Hands library limit told a now batches → Answers (Ok (Some batch)) a now b then
+    → a.prefer ≡ [] → a.library ≡ library → Hands library limit told a now batches → AnswersBatch (Ok (Some batch)) a now b then
     → Hands library limit told b then (batches ++ batch ∷ [])
 hands_more library limit None now then a b batches batch free own hands answers = tt
 hands_more library limit (Some bytes) None then a b batches batch free own hands answers = absurd hands
@@ -67,7 +67,7 @@ hands_more library limit (Some bytes) (Some rest) (Some more) a b batches batch 
 
 -- the source passes the limit
 pub hands_long : (library : List ℕ) (limit : ℕ) (told now then : Option (List ℕ)) (a b : Batching) (batches : List Batch)
-    → Hands library limit told a now batches → Answers (Err TooLong) a now b then → IfSome told (λ bytes. limit < length bytes)
+    → Hands library limit told a now batches → AnswersBatch (Err TooLong) a now b then → IfSome told (λ bytes. limit < length bytes)
 hands_long library limit None now then a b batches hands answers = tt
 hands_long library limit (Some bytes) None then a b batches hands answers = absurd hands
 hands_long library limit (Some bytes) (Some rest) None a b batches hands answers = absurd answers
@@ -82,7 +82,7 @@ pub record AllHandedOut (library : List ℕ) (limit : ℕ) (bytes : List ℕ) (r
   pub refused_are : reader.refused ≡ refused (frames bytes)
 
 pub hands_all : (library : List ℕ) (limit : ℕ) (told now then : Option (List ℕ)) (a b : Batching) (batches : List Batch)
-    → a.prefer ≡ [] → a.library ≡ library → Hands library limit told a now batches → Answers (Ok None) a now b then
+    → a.prefer ≡ [] → a.library ≡ library → Hands library limit told a now batches → AnswersBatch (Ok None) a now b then
     → IfSome told (λ bytes. AllHandedOut library limit bytes b batches)
 hands_all library limit None now then a b batches free own hands answers = tt
 hands_all library limit (Some bytes) None then a b batches free own hands answers = absurd hands
@@ -153,7 +153,7 @@ few_outcomes batch all = subst (λ n. n ≤ 256) (sym (length_outcomes batch.lib
 
 -- after an answer that is no batch
 pub hands_rest : (next : Option Batch) (library : List ℕ) (limit : ℕ) (told now then : Option (List ℕ)) (a b : Batching) (batches : List Batch)
-    → ((batch : Batch) → next ≡ Some batch → ⊥) → a.prefer ≡ [] → a.library ≡ library → Hands library limit told a now batches → Answers (Ok next) a now b then
+    → ((batch : Batch) → next ≡ Some batch → ⊥) → a.prefer ≡ [] → a.library ≡ library → Hands library limit told a now batches → AnswersBatch (Ok next) a now b then
     → IfSome told (λ bytes. AllHandedOut library limit bytes b batches)
 hands_rest None library limit told now then a b batches not free own hands answers = hands_all library limit told now then a b batches free own hands answers
 hands_rest (Some batch) library limit told now then a b batches not free own hands answers = absurd (not batch refl)

@@ -1,7 +1,7 @@
 -- What comes of a file that was opened and read.
 use Rattle.std.proofs.Common.{◌≡◌, ℕ, List, [], ◌∷◌, length, inl, refl, subst, ◌∙◌, arith}
 use Rattle.std.specs.Prelude.{◌<◌, Option, Some, None, IfSome}
-use Rattle.union_io.specs.Files.{told_of}
+use Rattle.union_io.specs.Files.{told_file}
 use Rattle.union_io.specs.Causes.{Rose}
 use Rattle.union_io.specs.Counts.{SameCounts, SameElsewhere}
 use Rattle.union_words.specs.Flows.{ShelfFlow, InputFile, FailsAt}
@@ -25,13 +25,13 @@ some_fault : (before after : ℕ) → before ≡ 0 → Rose before after → 0 <
 some_fault before after none rose = let first : Rose 0 after = subst (λ n. Rose n after) none rose in omega (arith, first)
 
 -- what is so of the bytes of a source is so of the content of its file
-pub on_file : (P : List ℕ → Type 0) (files : Option Contents) (path : List ℕ) → IfSome (told_of files path) P → IfSome files (λ contents. P (contents path))
+pub on_file : (P : List ℕ → Type 0) (files : Option Contents) (path : List ℕ) → IfSome (told_file files path) P → IfSome files (λ contents. P (contents path))
 on_file P None path holds = tt
 on_file P (Some contents) path holds = holds
 
 -- why a file was not read to its end, and what its shelf counts then
 pub file_stops : (stop : Stop) (file : InputFile) (files : Option Contents) (name : List ℕ) (told : Option (List ℕ)) (before after : ℕ) (a b : Counts)
-    → name ≡ file.path → told ≡ told_of files file.path → before ≡ 0
+    → name ≡ file.path → told ≡ told_file files file.path → before ≡ 0
     → IsStop (limit_of file.input) stop (record { told = told; before = before; after = after })
     → (0 < after → Rose (a name) (b name)) → (after ≡ 0 → SameCounts a b) → SameElsewhere a b name
     → StopsAt (stopped_with stop file.input) file (flow files a b)

@@ -15,7 +15,7 @@ use Rattle.load_sessions.specs.declared.end.End.TheVariants.{ReadFault as EndFau
 use Rattle.load_sessions.specs.declared.session.Session.{Session}
 use Rattle.union_io.specs.Causes.{Rose}
 use Rattle.union_io.specs.Counts.{SameCounts}
-use Rattle.union_io.specs.Files.{told_of}
+use Rattle.union_io.specs.Files.{told_file}
 use Rattle.union_io.specs.Names.{is_among}
 use Rattle.union_files.proofs.InputLaws.{flow, same_more}
 use Rattle.union_files.specs.Deliveries.{has_refused}
@@ -117,7 +117,7 @@ module _ {S : Type 0} where
         → IsReadyAs desk prefer number before
         → IsFresh files names (session_state name left faults before) → Runs name left faults desk before now → HasRun name faults desk files names now
     has_run desk prefer number files names before now ready fresh runs =
-        let told : left before.source ≡ told_of files (name now.source) = fresh.left ∙ ap (told_of files) (sym runs.keeps.source) in
+        let told : left before.source ≡ told_file files (name now.source) = fresh.left ∙ ap (told_file files) (sym runs.keeps.source) in
         record {
           desk_is = runs.keeps.desk_is;
           listed = subst (λ n. IsTrue (is_among n names)) (sym runs.keeps.source) fresh.listed;

@@ -18,7 +18,7 @@ use Rattle.load_sessions.specs.declared.end.End.{End}
 use Rattle.load_sessions.specs.declared.end.End.TheVariants.{NotRun, Done as EndDone, ReadFault as EndFault, TooLong as EndTooLong, Memory as EndMemory}
 use Rattle.load_sessions.specs.declared.session.Session.{Session}
 use Rattle.union_io.specs.Causes.{Rose}
-use Rattle.union_io.specs.Files.{told_of}
+use Rattle.union_io.specs.Files.{told_file}
 use Rattle.union_io.specs.Names.{is_among}
 use Rattle.union_reports.specs.Reports.{report_text}
 use Rattle.union_files.specs.Deliveries.{Delivery, delivery, has_refused}
@@ -161,12 +161,12 @@ module _ {S : Type 0} where
       pub record HasRun (desk : TableId) (files : Option (List ℕ → List ℕ)) (names : List (List ℕ)) (session : Session S) : Type 0 where
         pub desk_is : session.pass.place.table_id ≡ desk
         pub listed : IsTrue (is_among (name session.source) names)
-        pub done : session.end ≡ EndDone → IfSome (told_of files (name session.source))
+        pub done : session.end ≡ EndDone → IfSome (told_file files (name session.source))
             (λ bytes. IsLoaded session.prefer session.library most_bytes bytes (view session.pass).own session.report)
         pub counts : session.end ≡ EndDone
             → AreCounted (found (view session.pass).seen (view session.pass).number) (counts_of session.report)
         pub long : session.end ≡ EndTooLong
-            → IfSome (told_of files (name session.source)) (λ bytes. most_bytes < length bytes)
+            → IfSome (told_file files (name session.source)) (λ bytes. most_bytes < length bytes)
         pub fault : is_fault session.end ≡ true → 0 < faults session.source
         pub calm : is_fault session.end ≡ false → faults session.source ≡ 0
 

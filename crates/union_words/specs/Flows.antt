@@ -5,7 +5,7 @@ use Rattle.std.specs.declared.option.Option.{Option}
 use Rattle.std.specs.Io.KnownBytes.{Appends, Keeps}
 use Rattle.union_io.specs.Causes.{Rose}
 use Rattle.union_io.specs.Counts.{SameCounts, SameElsewhere}
-use Rattle.union_io.specs.Files.{told_of}
+use Rattle.union_io.specs.Files.{told_file}
 use Rattle.union_io.specs.Writing.{AppendsFront}
 use Rattle.union_words.specs.declared.input.Input.{Input}
 
@@ -53,7 +53,7 @@ pub record Inflow : Type 0 where
 
 -- the file of that name as a source, where a run opens it and reads it from its start
 abbrev pub file_flow : ShelfFlow → List ℕ → Inflow
-file_flow shelf name = record { told = told_of shelf.files name; before = shelf.before name; after = shelf.after name }
+file_flow shelf name = record { told = told_file shelf.files name; before = shelf.before name; after = shelf.after name }
 
 -- something failed there
 abbrev pub HasFailed : Inflow → Type 0

@@ -16,7 +16,7 @@ use Rattle.union_base.specs.declared.record_id.RecordId.{RecordId}
 use Rattle.union_base.proofs.SortedListLaws.{has-put}
 use Rattle.work_clusters.specs.Works.{key_cmp, id_cmp, pair_cmp, is_key, ids_under, pairs_of, without, changed, AreWorks}
 use Rattle.work_clusters.proofs.WorksLaws.{id_total, key_total, itself, has-filter, then_eq, or_false, works-from_ids, has-after}
-use Rattle.work_clusters.specs.Room.{WorkMap, HasRoom, room_under}
+use Rattle.work_clusters.specs.Room.{WorkMap, HasRoomForPairs, room_under}
 use Rattle.work_clusters.specs.Entries.{Kept, works_in, room_in, AreEntries}
 use Rattle.work_clusters.specs.Steps.{TakesOut, PutsIn}
 use Rattle.work_clusters.proofs.IdLists.{but}
@@ -199,13 +199,13 @@ puts_in_more a b c xs x first then = record {
 }
 
 -- room for pairs is room for the first of them
-pub room_first : (w : WorkMap) (key : List ℕ) (id : RecordId) (rest : List (List ℕ × RecordId)) → HasRoom w.room ((key, id) ∷ rest) → 0 < room_under w.room key
+pub room_first : (w : WorkMap) (key : List ℕ) (id : RecordId) (rest : List (List ℕ × RecordId)) → HasRoomForPairs w.room ((key, id) ∷ rest) → 0 < room_under w.room key
 room_first w key id rest h =
     let one : count_by (λ (p : List ℕ × RecordId). is_key key p.0) ((key, id) ∷ []) ≡ 1 = ap (λ b. 0 + cond b 1 0) (itself key_total texts_apart key) in
     omega (arith, h key, one, sum_by-append (λ (p : List ℕ × RecordId). cond (is_key key p.0) 1 0) ((key, id) ∷ []) rest)
 
 -- and once the first has entered, it is room for the rest
-pub room_rest : (a b : WorkMap) (x : List ℕ × RecordId) (rest : List (List ℕ × RecordId)) → HasRoom a.room (x ∷ rest) → PutsIn a b (x ∷ []) → HasRoom b.room rest
+pub room_rest : (a b : WorkMap) (x : List ℕ × RecordId) (rest : List (List ℕ × RecordId)) → HasRoomForPairs a.room (x ∷ rest) → PutsIn a b (x ∷ []) → HasRoomForPairs b.room rest
 room_rest a b x rest h step = λ q. omega (arith, h q, step.room q, sum_by-append (λ (p : List ℕ × RecordId). cond (is_key q p.0) 1 0) (x ∷ []) rest)
 
 -- ---- a whole change

@@ -14,5 +14,5 @@ abbrev pub room_under : List (List ℕ × ℕ) → List ℕ → ℕ
 room_under room key = unwrap_or (lookup (is_key key) room) 0
 
 -- there is room for the pairs: under each key, for as many ids as they bring there
-abbrev pub HasRoom : List (List ℕ × ℕ) → List (List ℕ × RecordId) → Type 0
-HasRoom room come = (key : List ℕ) → count_by (λ p. is_key key p.0) come ≤ room_under room key
+abbrev pub HasRoomForPairs : List (List ℕ × ℕ) → List (List ℕ × RecordId) → Type 0
+HasRoomForPairs room come = (key : List ℕ) → count_by (λ p. is_key key p.0) come ≤ room_under room key

@@ -3,7 +3,7 @@ ghost use Rattle.std.specs.Prelude.{◌≡◌, ◌+◌, ◌<◌, ◌≤◌, [], 
 ghost use Rattle.std.specs.Option.{option_copied, option_map};
 ghost use Rattle.work_clusters.specs.Works.{is_key, ids_under, key_after, changed};
 ghost use Rattle.work_clusters.specs.Works.{some, AreWorks};
-ghost use Rattle.work_clusters.specs.Room.{HasRoom, room_under};
+ghost use Rattle.work_clusters.specs.Room.{HasRoomForPairs, room_under};
 ghost use Rattle.work_clusters.specs.Steps.{TakesOut, PutsIn};
 
 use crate::change::WorkChange;
@@ -107,7 +107,7 @@ impl Works {
     /// Makes room for the change's come pairs; Memory where there is none. The works stay, whatever the answer.
     pub fn make_room(&mut self, alloc: Global, change: &WorkChange) -> Result<(), Memory>
         ensures works { self.new.works ≡ self.old.works }
-        ensures room { OnOk result (HasRoom self.new.room change.now.come) }
+        ensures room { OnOk result (HasRoomForPairs self.new.room change.now.come) }
     {
         for (key, _) in change.come.as_slice() {
             self.make_place(alloc, key)?;
@@ -132,7 +132,7 @@ impl Works {
 
     /// The gone pairs leave, then the come pairs enter, for which there is room. Takes no memory.
     pub fn install(&mut self, change: WorkChange)
-        requires { HasRoom self.old.room change.come }
+        requires { HasRoomForPairs self.old.room change.come }
         ensures { self.new.works ≡ changed self.old.works change.gone change.come }
     {
         let WorkChange { gone, come } = change;
@@ -165,7 +165,7 @@ impl Works {
     }
 
     fn put_in(&mut self, come: Vec<(Bytes, RecordId)>)
-        requires { HasRoom self.old.room come.items }
+        requires { HasRoomForPairs self.old.room come.items }
         ensures { PutsIn self.old self.new come.items }
     {
         for (key, id) in come {

@@ -6,7 +6,7 @@
 ghost use Rattle.std.specs.Prelude.{◌≡◌, ◌++◌, ◌∷◌, [], IfOk, OnOk, OnErr};
 ghost use Rattle.swoosh_resolver.specs.Tables.{values_of};
 ghost use Rattle.std.specs.Option.{option_map};
-ghost use Rattle.work_clusters.specs.Room.{HasRoom};
+ghost use Rattle.work_clusters.specs.Room.{HasRoomForPairs};
 ghost use Rattle.work_clusters.specs.Works.{changed};
 ghost use Rattle.catalogue_editions.specs.EditionKeys.{work_pairs};
 ghost use Rattle.catalogue_core.specs.ClosedKeys.{closed_pairs};
@@ -77,7 +77,7 @@ fn make_room_in(
     ensures same { works.new.works ≡ works.old.works }
     ensures gone { IfOk result (λ c. c.gone ≡ closed_pairs names.now blocks.now.blocks change.now.closed.items) }
     ensures come { IfOk result (λ c. c.come ≡ work_pairs names.now (values_of change.now.opened.items)) }
-    ensures room { IfOk result (λ c. HasRoom works.new.room c.come) }
+    ensures room { IfOk result (λ c. HasRoomForPairs works.new.room c.come) }
 {
     let gone = closed_pairs(alloc, names, blocks, change.closed.as_slice())?;
     let come = opened_pairs(alloc, names, change.opened.as_slice())?;

@@ -6,7 +6,7 @@ use Rattle.catalogue_lock.specs.Tokens.{view}
 use Rattle.library_stream.specs.Streaming.{most_ahead}
 use Rattle.library_batches.specs.Handing.{HandsOut}
 use Rattle.library_batches.specs.Outcomes.{AreCounted}
-use Rattle.library_batches.specs.Reading.{Batching, Answers}
+use Rattle.library_batches.specs.Reading.{Batching, AnswersBatch}
 use Rattle.library_batches.specs.declared.stop.Stop.TheVariants.{Memory as StopMemory}
 use Rattle.library_batches.proofs.HandingLaws.{HandsOut-none, HandsOut-batch, HandsOut-long}
 use Rattle.load_sessions.specs.Tallies.{found}
@@ -52,7 +52,7 @@ returns-in_err-batch g c =
       pass = before.keeps.pass;
     }) before.handed
     (λ is. HandsOut-long start.prefer start.library start.limit left told later (view c.loop-batch.session.pass).own c.loop-batch.reader c.next.new.self before.handed
-    (subst (λ why. Answers (Err why) c.loop-batch.reader told c.next.new.self later) is c.in_err-batch.ensures.answers))
+    (subst (λ why. AnswersBatch (Err why) c.loop-batch.reader told c.next.new.self later) is c.in_err-batch.ensures.answers))
     (λ is. subst (λ count. Rose count (g.S.Source.faults c.next.new.source)) before.calm (c.in_err-batch.ensures.failed (ap Err is)))
     (λ other. c.in_err-batch.ensures.calm (λ is. other (cc)) ∙ before.calm)
 

@@ -9,7 +9,7 @@ use Rattle.naco_normal.proofs.ascii.append_ascii.Goals as goal
 pub loop-place-preserved : goal.loop-place-preserved
 loop-place-preserved c =
     read_byte c.loop-place.form.items c.push_shown_byte.new.form.items c.loop-place.gap c.loop-place.awaiting c.args.text.now c.loop-place.place (get_or c.args.text.now c.loop-place.place 0)
-    c.to_ascii_lowercase-letter.result c.is_shown-shown.result c.requires c.loop-place-test.true refl (sym c.is_deleted.ensures ∙ c.if-is_deleted.false)
+    c.to_ascii_lowercase-letter.result c.is_shown-shown.result c.requires c.loop-place-test.true refl (sym c.is_dropped.ensures ∙ c.if-is_dropped.false)
     c.to_ascii_lowercase-letter.ensures.value
     (c.is_shown-shown.ensures ∙ ap (is_ascii_shown c.to_ascii_lowercase-letter.result c.loop-place.awaiting) (slice_rest c.args.text.now (c.loop-place.place + 1)))
     c.in_ok-push_shown_byte.ensures

@@ -2,7 +2,7 @@ use Rattle.std.proofs.Common.{◌≡◌, ◌≢◌, ℕ, ◌-◌, ◌<◌, Bool,
 use Rattle.std.specs.Prelude.{◌↔◌, Contains, map, slice_set}
 use Rattle.std.proofs.lemmas.List.{get_or-set_other, get_or-set_same, length-map, length-set, get_or_default}
 use Rattle.feature_index.specs.Postings.{Posting, numbers_of}
-use Rattle.swoosh_resolver.specs.Tables.{Entry, ArePosted, AreListed, block_at, put}
+use Rattle.swoosh_resolver.specs.Tables.{Entry, ArePosted, AreListed, block_at, put_block}
 use Rattle.swoosh_resolver.proofs.Opening.{posted-block, posted-closed, posted-put, unposted-free}
 use Rattle.swoosh_resolver.proofs.Listing.{listed-at, unlisted-last, unlisted-moved}
 use Rattle.swoosh_resolver.proofs.opened.unlist.Goals as goal
@@ -82,4 +82,4 @@ returns-then-place-last g c d =
     let a = length-set (map {B = Option (Entry g.row.R.Denot g.row.R-Key.Denot)} Some xs) i None in
     let b = length-set (slice_set (map {B = Option (Entry g.row.R.Denot g.row.R-Key.Denot)} Some xs) i None) m None in
     let put' = posted-put emptied c.unpost-then-place-last.new.postings two c.post.new.postings i z (freed (map Some xs) i m (omega arith) (omega arith)) (omega arith) c.post.ensures.numbers in
-    unlisted-moved xs i d m (omega arith) c.post.new.postings (omega arith) (subst (λ z. ArePosted g.R.Key.PartialEq.eq g.R.Resolvable.is_posted (put emptied i z) c.post.new.postings) is put')
+    unlisted-moved xs i d m (omega arith) c.post.new.postings (omega arith) (subst (λ z. ArePosted g.R.Key.PartialEq.eq g.R.Resolvable.is_posted (put_block emptied i z) c.post.new.postings) is put')

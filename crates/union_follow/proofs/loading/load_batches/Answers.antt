@@ -2,7 +2,7 @@ use Rattle.std.proofs.Common.{◌≡◌, ◌++◌, ◌∷◌, [], refl, sym, ap,
 use Rattle.std.specs.Prelude.{Ok, Some, OnSome, ◌<◌}
 use Rattle.catalogue_core.specs.Histories.{current, outcomes}
 use Rattle.library_batches.specs.Outcomes.{AreCounted}
-use Rattle.library_batches.specs.Reading.{Answers}
+use Rattle.library_batches.specs.Reading.{AnswersBatch}
 use Rattle.library_stream.specs.Streaming.{most_ahead}
 use Rattle.library_stream.specs.declared.frame_reader.TheConstants.{LARGEST_SOURCE}
 use Rattle.load_sessions.specs.Entries.{entries_of}
@@ -43,8 +43,8 @@ loop-batch-preserved g c =
     let batch = c.in-Some.batch in
     let pass = c.args.pass in
     let history = c.loop-batch.load.catalogue.history in
-    let answers : Answers (Ok (Some batch)) c.loop-batch.reader now c.next.new.self then
-    = subst (λ next. Answers (Ok next) c.loop-batch.reader now c.next.new.self then) c.in-Some.is c.in_ok-batch.ensures.answers in
+    let answers : AnswersBatch (Ok (Some batch)) c.loop-batch.reader now c.next.new.self then
+    = subst (λ next. AnswersBatch (Ok next) c.loop-batch.reader now c.next.new.self then) c.in-Some.is c.in_ok-batch.ensures.answers in
     let fewer : most_ahead c.next.new.self.stream < most_ahead c.loop-batch.reader.stream
     = subst (λ next. OnSome next (most_ahead c.next.new.self.stream < most_ahead c.loop-batch.reader.stream)) c.in-Some.is c.in_ok-batch.ensures.fewer in
     let items : c.as_slice.result.now ≡ outcomes batch.library (current history) batch.ops

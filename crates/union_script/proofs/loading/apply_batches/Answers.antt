@@ -2,7 +2,7 @@ use Rattle.std.proofs.Common.{◌≡◌, ◌++◌, ◌∷◌, [], refl, sym, ap,
 use Rattle.std.specs.Prelude.{Ok, Some, OnSome, ◌<◌}
 use Rattle.catalogue_core.specs.Histories.{current, outcomes}
 use Rattle.library_batches.specs.Outcomes.{AreCounted, found_in}
-use Rattle.library_batches.specs.Reading.{Answers}
+use Rattle.library_batches.specs.Reading.{AnswersBatch}
 use Rattle.library_stream.specs.Streaming.{most_ahead}
 use Rattle.library_stream.specs.declared.frame_reader.TheConstants.{LARGEST_SOURCE}
 use Rattle.union_script.proofs.BatchLaws.{Hands, hands_none, hands_more, hands_rest, found_behind, turns_more, few_outcomes}
@@ -39,8 +39,8 @@ loop-notices-preserved g c =
     let batch = c.in-Some.batch in
     let history = c.args.union.now.catalogue.history in
     let said = c.in_ok-found.ensures.tells.0 in
-    let answers : Answers (Ok (Some batch)) c.loop-notices.reader now c.next.new.self then
-    = subst (λ next. Answers (Ok next) c.loop-notices.reader now c.next.new.self then) c.in-Some.is c.in_ok-batch.ensures.answers in
+    let answers : AnswersBatch (Ok (Some batch)) c.loop-notices.reader now c.next.new.self then
+    = subst (λ next. AnswersBatch (Ok next) c.loop-notices.reader now c.next.new.self then) c.in-Some.is c.in_ok-batch.ensures.answers in
     let fewer : most_ahead c.next.new.self.stream < most_ahead c.loop-notices.reader.stream
     = subst (λ next. OnSome next (most_ahead c.next.new.self.stream < most_ahead c.loop-notices.reader.stream)) c.in-Some.is c.in_ok-batch.ensures.fewer in
     let items : c.as_slice.result.now ≡ outcomes batch.library (current c.loop-notices.union.catalogue.history) batch.ops

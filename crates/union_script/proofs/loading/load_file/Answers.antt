@@ -1,7 +1,7 @@
 use Rattle.std.proofs.Common.{◌∙◌, ap, subst}
 use Rattle.union_io.specs.Causes.{Rose}
 use Rattle.union_io.specs.Counts.{SameElsewhere}
-use Rattle.union_io.specs.Files.{told_of}
+use Rattle.union_io.specs.Files.{told_file}
 use Rattle.union_words.specs.Flows.{InputFile}
 use Rattle.union_words.specs.declared.input.Input.TheVariants.{Library}
 use Rattle.union_script.proofs.FileLaws.{file_stops, stops_before, not_opened}
@@ -16,7 +16,7 @@ returns-in-Ok-open-clause-reads g c =
     rw c.stopped_with.ensures
     (stops_before _ file files (g.F.Shelf.faults c.args.shelf.now) before after c.in-Ok-open.ensures.counts
     (file_stops c.in-Err.stop file files (g.F.Src.Source.name c.load_source-loaded.new.source) _ _ (g.F.Src.Source.faults c.load_source-loaded.new.source) before after
-    (c.in-Err.ensures.name ∙ c.in-Ok-open.ensures.name ∙ c.in-Ok.ensures) (c.in-Ok-open.ensures.left ∙ ap (told_of files) c.in-Ok.ensures) c.in-Ok-open.ensures.fresh c.in-Err.ensures.reads
+    (c.in-Err.ensures.name ∙ c.in-Ok-open.ensures.name ∙ c.in-Ok.ensures) (c.in-Ok-open.ensures.left ∙ ap (told_file files) c.in-Ok.ensures) c.in-Ok-open.ensures.fresh c.in-Err.ensures.reads
     c.give_back.ensures.raised c.give_back.ensures.calm c.give_back.ensures.others))
 
 pub returns-in-Err-Failed-clause-reads : goal.returns-in-Err-Failed-clause-reads

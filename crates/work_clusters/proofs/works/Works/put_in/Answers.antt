@@ -1,6 +1,6 @@
 use Rattle.std.proofs.Common.{◌≡◌, ◌++◌, ◌∷◌, [], rules, subst, sym, ap, ◌∙◌, append_assoc, append-nil}
 use Rattle.std.proofs.lemmas.List.{nil_from_length}
-use Rattle.work_clusters.specs.Room.{HasRoom}
+use Rattle.work_clusters.specs.Room.{HasRoomForPairs}
 use Rattle.work_clusters.specs.Steps.{PutsIn}
 use Rattle.work_clusters.proofs.Steps.{puts_in_none, puts_in_more, room_first, room_rest}
 use Rattle.work_clusters.proofs.works.Works.put_in.Goals as goal
@@ -8,11 +8,11 @@ use Rattle.work_clusters.proofs.works.Works.put_in.Goals as goal
 pub loop-key-init : goal.loop-key-init
 loop-key-init c =
     let all : c.args.come.items ≡ c.into_iter-key-iterator.result.rest.items = search rules in
-    record { done = puts_in_none c.args.self.now; all = all; room = subst (HasRoom c.args.self.now.room) all c.requires }
+    record { done = puts_in_none c.args.self.now; all = all; room = subst (HasRoomForPairs c.args.self.now.room) all c.requires }
 
 pub put_in_one-requires : goal.put_in_one-requires
 put_in_one-requires c =
-    room_first c.loop-key.self c.in-Some.key c.in-Some.id c.next.new.self.rest.items (subst (HasRoom c.loop-key.self.room) c.in-Some.ensures.steps.0 c.loop-key.invariant.room)
+    room_first c.loop-key.self c.in-Some.key c.in-Some.id c.next.new.self.rest.items (subst (HasRoomForPairs c.loop-key.self.room) c.in-Some.ensures.steps.0 c.loop-key.invariant.room)
 
 pub loop-key-preserved : goal.loop-key-preserved
 loop-key-preserved c =
@@ -20,7 +20,7 @@ loop-key-preserved c =
     record {
       done = puts_in_more c.args.self.now c.loop-key.self c.put_in_one.new.self c.loop-key.yielded _ c.loop-key.invariant.done c.put_in_one.ensures;
       all = c.loop-key.invariant.all ∙ ap (λ xs. c.loop-key.yielded ++ xs) c.in-Some.ensures.steps.0 ∙ sym (append_assoc c.loop-key.yielded ((c.in-Some.key, c.in-Some.id) ∷ []) rest);
-      room = room_rest c.loop-key.self c.put_in_one.new.self _ rest (subst (HasRoom c.loop-key.self.room) c.in-Some.ensures.steps.0 c.loop-key.invariant.room) c.put_in_one.ensures;
+      room = room_rest c.loop-key.self c.put_in_one.new.self _ rest (subst (HasRoomForPairs c.loop-key.self.room) c.in-Some.ensures.steps.0 c.loop-key.invariant.room) c.put_in_one.ensures;
     }
 
 pub returns : goal.returns

@@ -1,5 +1,5 @@
 use Rattle.std.proofs.Common.{◌≡◌, ◌++◌}
-use Rattle.work_clusters.specs.Room.{HasRoom}
+use Rattle.work_clusters.specs.Room.{HasRoomForPairs}
 use Rattle.work_clusters.specs.Steps.{PutsIn}
 use Rattle.work_clusters.proofs.works.Works.put_in.Given as goal
 
@@ -8,5 +8,5 @@ abbrev pub invariant-loop-key : goal.invariant-loop-key
 invariant-loop-key l = record {
   done : PutsIn l.fn.self l.self l.yielded;
   all : l.fn.come.items ≡ l.yielded ++ l.key-iterator.rest.items;
-  room : HasRoom l.self.room l.key-iterator.rest.items;
+  room : HasRoomForPairs l.self.room l.key-iterator.rest.items;
 }

@@ -2,7 +2,7 @@ use Rattle.std.specs.Prelude.{codes}
 use Rattle.marc_parts.specs.Parts.{has_tag}
 use Rattle.field_merge.specs.Contents.{is_main_entry}
 use Rattle.field_merge.proofs.Gathering.{slot-more, united-more}
-use Rattle.field_merge.proofs.parts.Parts.add.Goals as goal
+use Rattle.field_merge.proofs.parts.SlotFields.add.Goals as goal
 
 pub returns : goal.returns
 returns c fields old =
