@@ -16,7 +16,7 @@ use union_files::opening::open_rest;
 use union_follow::turning::Load;
 use union_io::shelf::Shelf;
 use union_io::source::Source;
-use union_sessions::reports::Reports;
+use union_load::reports::Reports;
 use union_words::libraries::Libraries;
 
 /// What a load took, and what a viewer beside it answered. Times are in microseconds.

@@ -13,7 +13,7 @@ use std::thread::Threads;
 use union_base::bytes::Bytes;
 use union_base::memory::Memory;
 use union_io::gate::{Gate, OpenGate};
-use union_sessions::sessions::load_by_sessions;
+use union_load::sessions::load_by_sessions;
 use union_words::job::Job;
 use union_words::loading::Loading;
 use union_words::status::Status;

@@ -12,7 +12,7 @@ use std::sync::Wait;
 use std::thread::Threads;
 use union_base::memory::Memory;
 use union_io::gate::OpenGate;
-use union_sessions::sessions::load_by_sessions;
+use union_load::sessions::load_by_sessions;
 use union_words::libraries::Libraries;
 use union_words::loading::Loading;
 use union_words::status::Status;

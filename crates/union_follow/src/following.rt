@@ -10,7 +10,7 @@ ghost use Rattle.load_sessions.specs.Entries.{entries_of};
 ghost use Rattle.union_words.specs.Flows.{shelf_flow};
 ghost use Rattle.union_words.specs.Meanings.{libraries_meaning};
 ghost use Rattle.union_files.specs.Inputs.{AreFresh, Gathers, OpensInOrder, deliveries, files_of, is_open_fault, states_of};
-ghost use Rattle.union_sessions.specs.Replies.{AreReplies};
+ghost use Rattle.union_load.specs.Replies.{AreReplies};
 ghost use Rattle.union_follow.specs.Following.{HasFollowed};
 ghost use Rattle.union_follow.specs.Turning.{AreTurnedFrom, IsShown, Runs};
 
@@ -34,8 +34,8 @@ use union_files::opened_file::OpenedFile;
 use union_files::opening::{give_back_all, open_rest};
 use union_io::shelf::Shelf;
 use union_io::source::Source;
-use union_sessions::reports::Reports;
-use union_sessions::watched::Watched;
+use union_load::reports::Reports;
+use union_load::watched::Watched;
 use union_words::libraries::Libraries;
 use union_words::status::Status;
 

@@ -17,7 +17,7 @@ use std::sync::Wait;
 use std::sync::ledger::{Blank, Ledger};
 use union_base::copied::Copied;
 use union_base::memory::Memory;
-use union_sessions::reports::Reports;
+use union_load::reports::Reports;
 
 /// A load: its catalogue, which has no names, the publisher that shows its history, and the reports of the libraries that are loaded.
 pub struct Load {

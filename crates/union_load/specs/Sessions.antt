@@ -1,0 +1,175 @@
+-- The sessions of a load: before they are run, when each has ended, and what they come to.
+use Rattle.std.specs.Prelude.{◌≡◌, ◌<◌, ◌≤◌, ℕ, suc, ⊤, Bool, true, false, ◌&&◌, ◌||◌, nat_eq, List, [], ◌∷◌, ◌++◌, length, map, Option, IfSome, IsTrue, Result, Ok, Err}
+use Rattle.std.specs.Cmp.Lexicographic.{pointwise}
+use Rattle.std.specs.List.{list_any, find, flat_map, AllByRecursion}
+use Rattle.atomic_table.specs.Seated.{TableId}
+use Rattle.authority_names.specs.Leads.{Table}
+use Rattle.catalogue_editions.specs.declared.batch.Batch.{Batch}
+use Rattle.catalogue_lock.specs.Ended.{Ended}
+use Rattle.catalogue_lock.specs.Tokens.{view}
+use Rattle.catalogue_lock.specs.declared.view.View.{View}
+use Rattle.iso2709_frame.specs.Frames.{frames}
+use Rattle.library_batches.specs.Batches.{AreBatches}
+use Rattle.library_batches.specs.Outcomes.{AreCounted}
+use Rattle.library_batches.specs.Reading.{most_bytes}
+use Rattle.load_sessions.specs.Sessions.{IsReady, IsLoaded, counts_of}
+use Rattle.load_sessions.specs.Tallies.{found}
+use Rattle.load_sessions.specs.declared.end.End.{End}
+use Rattle.load_sessions.specs.declared.end.End.TheVariants.{NotRun, Done as EndDone, ReadFault as EndFault, TooLong as EndTooLong, Memory as EndMemory}
+use Rattle.load_sessions.specs.declared.session.Session.{Session}
+use Rattle.union_io.specs.Causes.{Rose}
+use Rattle.union_io.specs.Files.{told_file}
+use Rattle.union_io.specs.Names.{is_among}
+use Rattle.union_reports.specs.Reports.{report_text}
+use Rattle.union_files.specs.Deliveries.{Delivery, delivery, has_refused}
+use Rattle.union_files.specs.Inputs.{AreWithin, IsTooLongAt, OpenedState}
+use Rattle.union_load.specs.declared.reports.Reports.{Reports}
+use Rattle.union_words.specs.Words.{LibraryFile}
+use Rattle.union_words.specs.declared.status.Status.{Status}
+use Rattle.union_words.specs.declared.status.Status.TheVariants.{TooLong, Memory}
+
+-- a read failed
+abbrev pub is_fault : End → Bool
+is_fault EndFault = true
+is_fault end = false
+
+-- what a session came to: the preference by which it loaded, its library, the name of its file, whether a read of it failed, the
+-- number of its pass, the batches of its turns, and the history that it has seen
+pub record Course : Type 0 where
+  pub prefer : List (List ℕ)
+  pub library : List ℕ
+  pub path : List ℕ
+  pub failed : Bool
+  pub number : ℕ
+  pub own : List Batch
+  pub seen : List (ℕ × Batch)
+
+-- the file that a course reads
+abbrev pub file_of_course : Course → LibraryFile
+file_of_course course = record { library = course.library; path = course.path }
+
+-- what it leaves at the desk
+abbrev pub ended_of : Course → Ended Batch
+ended_of course = record { number = course.number; own = course.own; seen = course.seen }
+
+-- they have these numbers, one after the other
+abbrev pub AreNumbered : ℕ → List Course → Type 0
+AreNumbered number [] = ⊤
+AreNumbered number (course ∷ courses) = (course.number ≡ number) × AreNumbered (suc number) courses
+
+-- what the library delivers
+abbrev pub delivery_of : (List ℕ → List ℕ) → Course → Delivery
+delivery_of contents course = delivery course.prefer course.library (frames (contents course.path))
+
+-- its batches are all those of its file
+abbrev pub IsWhole : (List ℕ → List ℕ) → Course → Type 0
+IsWhole contents course = AreBatches course.prefer course.library (frames (contents course.path)) course.own
+
+-- the report on it, by what came of its batches in the history that it has seen
+abbrev pub course_text : (List ℕ → List ℕ) → Course → List ℕ
+course_text contents course = report_text course.library (frames (contents course.path)) (found course.seen course.number)
+
+-- they are whole, and their reports were added
+pub record AreReported (contents : List ℕ → List ℕ) (courses : List Course) (before now : Reports) : Type 0 where
+  pub whole : AllByRecursion (IsWhole contents) courses
+  pub text : now.text.items ≡ before.text.items ++ flat_map (course_text contents) courses
+  pub refused : now.refused ≡ (before.refused || list_any has_refused (map (delivery_of contents) courses))
+
+-- one of the files is too long, or memory ran out
+abbrev pub StopsBehind : Status → List LibraryFile → Option (List ℕ → List ℕ) → Type 0
+StopsBehind (TooLong input) libraries files = IfSome files (λ contents. IsTooLongAt contents libraries input)
+StopsBehind Memory libraries files = ⊤
+StopsBehind status libraries files = ⊥
+
+-- all files were read to their ends, and what was made of their bytes is so; or one was not, and the status says which
+abbrev pub Closes : {T : Type 0} → Result T Status → List LibraryFile → Option (List ℕ → List ℕ) → ((List ℕ → List ℕ) → Type 0) → Type 0
+Closes (Ok done) libraries files IsOf = IfSome files (λ contents. AreWithin contents libraries × IsOf contents)
+Closes (Err status) libraries files IsOf = StopsBehind status libraries files
+
+-- a read of the file of that name failed in the session
+abbrev pub fails_on : List ℕ → Course → Bool
+fails_on name course = course.failed && pointwise nat_eq course.path name
+
+-- in one of the sessions
+abbrev pub is_failed_in : List Course → List ℕ → Bool
+is_failed_in courses name = list_any (fails_on name) courses
+
+-- the first library whose file could not be read, by its own session or by another of the same file
+abbrev pub first_failed : List Course → List LibraryFile → Option LibraryFile
+first_failed courses libraries = find (λ file. is_failed_in courses file.path) libraries
+
+-- the counts of the files that could not be read rose, and no others changed
+pub record RaisesFailed (courses : List Course) (before after : List ℕ → ℕ) : Type 0 where
+  pub raised : (name : List ℕ) → is_failed_in courses name ≡ true → Rose (before name) (after name)
+  pub others : (name : List ℕ) → is_failed_in courses name ≡ false → after name ≡ before name
+
+-- no read failed
+abbrev pub NoneFailed : List Course → Type 0
+NoneFailed courses = list_any (λ course. course.failed) courses ≡ false
+
+-- these passes more were ended at a root, which knows all turns that they have seen, and whose names stay
+pub record HasEnded (more : List (Ended Batch)) (before now : View Table Batch) : Type 0 where
+  pub setting : now.setting ≡ before.setting
+  pub made : now.made ≡ before.made
+  pub ended : now.ended ≡ before.ended ++ more
+  pub floor : before.floor ≤ now.floor
+  pub known : AllByRecursion (λ left. length left.seen ≤ now.floor) more
+
+module _ {S : Type 0} where
+  -- a session that is to be run, by that preference and with this number
+  pub record IsReadyAs (desk : TableId) (prefer : List (List ℕ)) (number : ℕ) (session : Session S) : Type 0 where
+    pub ready : IsReady desk session
+    pub number_is : (view session.pass).number ≡ number
+    pub prefer_is : session.prefer ≡ prefer
+    pub limit : session.limit ≡ most_bytes
+
+  -- sessions that are to be run, by that preference and with these numbers one after the other
+  abbrev pub AreReady : TableId → List (List ℕ) → ℕ → List (Session S) → Type 0
+  AreReady desk prefer number [] = ⊤
+  AreReady desk prefer number (session ∷ sessions) =
+      IsReadyAs desk prefer number session × AreReady desk prefer (suc number) sessions
+
+  module _ (name : S → List ℕ) where
+    -- a session's course so far
+    abbrev pub course_of : Session S → Course
+    course_of session = record {
+      prefer = session.prefer;
+      library = session.library;
+      path = name session.source;
+      failed = is_fault session.end;
+      number = (view session.pass).number;
+      own = (view session.pass).own;
+      seen = (view session.pass).seen;
+    }
+
+    -- those of all sessions
+    abbrev pub courses_of : List (Session S) → List Course
+    courses_of sessions = map course_of sessions
+
+    module _ (left : S → Option (List ℕ)) (faults : S → ℕ) where
+      -- a session's file
+      abbrev pub session_state : Session S → OpenedState
+      session_state session =
+          record { library = session.library; name = name session.source; left = left session.source; faults = faults session.source }
+
+      -- the files of all sessions
+      abbrev pub session_states : List (Session S) → List OpenedState
+      session_states sessions = map session_state sessions
+
+    module _ (faults : S → ℕ) where
+      -- a session that was run at the desk of that id, on a file that was opened at a shelf with these files and names
+      pub record HasRun (desk : TableId) (files : Option (List ℕ → List ℕ)) (names : List (List ℕ)) (session : Session S) : Type 0 where
+        pub desk_is : session.pass.place.table_id ≡ desk
+        pub listed : IsTrue (is_among (name session.source) names)
+        pub done : session.end ≡ EndDone → IfSome (told_file files (name session.source))
+            (λ bytes. IsLoaded session.prefer session.library most_bytes bytes (view session.pass).own session.report)
+        pub counts : session.end ≡ EndDone
+            → AreCounted (found (view session.pass).seen (view session.pass).number) (counts_of session.report)
+        pub long : session.end ≡ EndTooLong
+            → IfSome (told_file files (name session.source)) (λ bytes. most_bytes < length bytes)
+        pub fault : is_fault session.end ≡ true → 0 < faults session.source
+        pub calm : is_fault session.end ≡ false → faults session.source ≡ 0
+
+      -- all sessions have run
+      abbrev pub HaveRun : TableId → Option (List ℕ → List ℕ) → List (List ℕ) → List (Session S) → Type 0
+      HaveRun desk files names sessions = AllByRecursion (HasRun desk files names) sessions

@@ -1,0 +1,73 @@
+//! Which library's file could not be read.
+//!
+//! Several sessions may have failed, and two libraries may have one file. Each pair of libraries is looked at, of which a command
+//! has few.
+ghost use Rattle.std.specs.Prelude.{◌≡◌, Some, drop, map, slice_get};
+ghost use Rattle.std.specs.Option.{option_map};
+ghost use Rattle.union_words.specs.Meanings.{libraries_meaning};
+ghost use Rattle.union_load.specs.Sessions.{course_of, courses_of, fails_on, file_of_course, first_failed, is_failed_in, is_fault};
+
+use load_sessions::end::End;
+use load_sessions::session::Session;
+use union_base::library_code::LibraryCode;
+use union_io::source::Source;
+use union_words::libraries::Libraries;
+
+/// Whether a read failed. Takes no memory.
+fn is_fault(end: End) -> bool
+    ensures { result ≡ is_fault end }
+{
+    match end {
+        End::ReadFault => true,
+        End::NotRun | End::Done | End::TooLong | End::Memory => false,
+    }
+}
+
+/// Whether a read of the file of that name failed in this session, which is of the library at that place.
+fn fails_on<S: Source>(
+    libraries: &Libraries<'_>,
+    place: usize,
+    session: &Session<S>,
+    path: &[u8],
+) -> bool
+    requires { slice_get (libraries_meaning libraries.now) place ≡ Some (file_of_course (course_of S.name session.now)) }
+    ensures { result ≡ fails_on path.now (course_of S.name session.now) }
+{
+    is_fault(session.end) && libraries.at(place).path == path
+}
+
+/// Whether it did in one of these sessions, which are of the libraries from this place on.
+fn is_failed_in<S: Source>(
+    libraries: &Libraries<'_>,
+    place: usize,
+    sessions: &[Session<S>],
+    path: &[u8],
+) -> bool
+    requires libraries { map file_of_course (courses_of S.name sessions.now) ≡ drop place (libraries_meaning libraries.now) }
+    ensures { result ≡ is_failed_in (courses_of S.name sessions.now) path.now }
+{
+    match sessions {
+        [] => false,
+        [session, rest @ ..] => {
+            fails_on(libraries, place, session, path)
+                || is_failed_in(libraries, place + 1, rest, path)
+        }
+    }
+}
+
+/// The first library whose file could not be read, by its own session or by another of the same file. Takes no memory.
+pub fn first_failed<S: Source>(
+    libraries: &Libraries<'_>,
+    sessions: &[Session<S>],
+) -> Option<LibraryCode>
+    requires { map file_of_course (courses_of S.name sessions.now) ≡ libraries_meaning libraries.now }
+    ensures { result ≡ option_map (λ file. file.library) (first_failed (courses_of S.name sessions.now) (libraries_meaning libraries.now)) }
+{
+    for place in 0..libraries.len() {
+        let file = libraries.at(place);
+        if is_failed_in(libraries, 0, sessions, file.path) {
+            return Some(file.library);
+        }
+    }
+    None
+}

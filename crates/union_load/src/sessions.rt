@@ -1,0 +1,246 @@
+//! The loading of the files of a command's libraries by sessions at one desk, with questions beside the sessions and after them.
+//!
+//! The files are opened in the order of the command, before any of them is read. Then there is a session for each, which makes
+//! its turns under the library's place as its number, and the workers run them; an asker stands beside them. When all of
+//! these have ended, one pass more asks the late questions. Whatever the order of the turns, the catalogue's history has the
+//! batches of each library in their order and no others, and the reports stand in the order of the command. Each source is
+//! given back to its shelf. Memory grows with what is loaded.
+ghost use Rattle.std.specs.Prelude.{◌≡◌, ◌<◌, ◌≤◌, ◌+◌, ◌==◌, ◌&&◌, [], IfOk, IfErr, All, length, not};
+ghost use Rattle.std.specs.List.{AllByRecursion};
+ghost use Rattle.catalogue_core.specs.Catalogues.{by_names};
+ghost use Rattle.catalogue_lock.specs.Rule.{EndedOk};
+ghost use Rattle.catalogue_lock.specs.Tokens.{root_of, view, IsPassOf, IsRootOf};
+ghost use Rattle.union_words.specs.Meanings.{libraries_meaning};
+ghost use Rattle.load_sessions.specs.Askers.{Asks, IsAsker};
+ghost use Rattle.load_sessions.specs.Entries.{entries_of};
+ghost use Rattle.load_sessions.specs.Sessions.{IsReady, RunsEach};
+ghost use Rattle.union_files.specs.Inputs.{Gathers, OpensInOrder, deliveries};
+ghost use Rattle.union_load.specs.Replies.{AreReplies, HasAsked, left_by};
+ghost use Rattle.union_files.specs.Unions.{HasUnited};
+
+use crate::asking::{ask_late, end_asker, start_asker};
+use crate::reports::Reports;
+use crate::session_ends::end_all;
+use crate::session_starts::start_sessions;
+use crate::start::Start;
+use crate::watched::Watched;
+use authority_names::name_table::NameTable;
+use catalogue_lock::desk::Desk;
+use catalogue_lock::root::Root;
+use catalogue_query::query::Query;
+use load_sessions::asker::Asker;
+use load_sessions::end::End;
+use load_sessions::questions::Questions;
+use load_sessions::running::run_sessions;
+use load_sessions::served::Served;
+use load_sessions::session::Session;
+use std::alloc::Global;
+use std::sync::Wait;
+use std::thread::Threads;
+use union_base::memory::Memory;
+use union_files::loaded::Loaded;
+use union_io::gate::Gate;
+use union_io::shelf::Shelf;
+use union_io::source::Source;
+use union_words::loading::Loading;
+use union_words::status::Status;
+
+/// Whether there is a question at all.
+fn are_some(questions: &Questions) -> bool
+    ensures { result ≡ not (length questions.now.beside.items == 0 && length questions.now.late.items == 0) }
+{
+    !(questions.beside.is_empty() && questions.late.is_empty())
+}
+
+/// A catalogue without history, by these names, which keeps its works where questions will be asked.
+fn served(alloc: Global, names: NameTable, is_asked: bool) -> Result<Served, Memory>
+    ensures { IfOk result (λ served. served.catalogue ≡ by_names names) }
+{
+    if is_asked {
+        Served::keeping_works(alloc, names)
+    } else {
+        Served::open(alloc, names)
+    }
+}
+
+/// A desk over a catalogue without history, by these names, with its root.
+fn open_desk(
+    alloc: Global,
+    names: NameTable,
+    is_asked: bool,
+) -> Result<(Desk<Served>, Root<Served>), Memory>
+    ensures desk { IfOk result (λ opened. IsRootOf opened.1 opened.0) }
+    ensures made { IfOk result (λ opened. (root_of opened.1).made ≡ 0) }
+    ensures ended { IfOk result (λ opened. (root_of opened.1).ended ≡ []) }
+    ensures names { IfOk result (λ opened. (root_of opened.1).setting ≡ names) }
+{
+    Desk::open(alloc, served(alloc, names, is_asked)?)
+}
+
+/// Runs the sessions, by `workers` workers, and the asker beside them.
+fn run_all<R: Threads + Wait + Sync, S: Source + Send, G: Gate>(
+    rt: &R,
+    alloc: Global,
+    desk: &Desk<Served>,
+    sessions: &mut Vec<Session<S>>,
+    asker: &mut Asker,
+    workers: u32,
+    gate: &G,
+)
+    requires least { 1 ≤ workers }
+    requires most { workers ≤ 64 }
+    requires ready { All (IsReady desk.now.board.shared.table_id) sessions.old.items }
+    requires asker { IsAsker desk.now.board.shared.table_id asker.old }
+    ensures sessions { RunsEach S.name S.left S.faults desk.now.board.shared.table_id sessions.old.items sessions.new.items }
+    ensures asker { Asks desk.now.board.shared.table_id asker.old asker.new }
+{
+    run_sessions(
+        rt,
+        alloc,
+        desk,
+        sessions.as_mut_slice(),
+        Some(asker),
+        workers,
+        gate,
+    );
+}
+
+/// Ends the asker, asks the late questions, and closes the desk.
+fn close_desk<R: Wait>(
+    rt: &R,
+    alloc: Global,
+    opened: (Desk<Served>, Root<Served>),
+    asker: Asker,
+    reports: Reports,
+    late: Vec<Query>,
+) -> Result<Watched, Memory>
+    requires desk { IsRootOf opened.1 opened.0 }
+    requires made { (root_of opened.1).made ≡ length (root_of opened.1).ended + 1 }
+    requires few { (root_of opened.1).made < 4294967295 }
+    requires numbers { AllByRecursion (λ left. left.number + 1 < (root_of opened.1).made) (root_of opened.1).ended }
+    requires known { AllByRecursion (λ left. length left.seen ≤ (root_of opened.1).floor) (root_of opened.1).ended }
+    requires asker { IsPassOf asker.pass opened.0 }
+    requires idle { (view asker.pass).own ≡ [] }
+    requires asked { asker.end ≡ End.Done → HasAsked (root_of opened.1).setting 0 asker.questions.items asker.replies.items (left_by asker) }
+    ensures names { IfOk result (λ watched. watched.loaded.catalogue.names ≡ (root_of opened.1).setting) }
+    ensures reports { IfOk result (λ watched. watched.loaded.reports ≡ reports.text) }
+    ensures refused { IfOk result (λ watched. watched.loaded.refused ≡ reports.refused) }
+    ensures ended { IfOk result (λ watched. AllByRecursion (EndedOk (entries_of watched.loaded.catalogue.history))
+        (root_of opened.1).ended) }
+    ensures numbers { IfOk result (λ watched. AllByRecursion (λ entry. entry.0 + 1 < (root_of opened.1).made)
+        (entries_of watched.loaded.catalogue.history)) }
+    ensures beside { IfOk result (λ watched. AreReplies (root_of opened.1).setting watched.loaded.catalogue.history 0
+        asker.questions.items watched.beside.items) }
+    ensures late { IfOk result (λ watched. AreReplies (root_of opened.1).setting watched.loaded.catalogue.history
+        (length watched.loaded.catalogue.history) late.items watched.late.items) }
+{
+    let (desk, mut root) = opened;
+    let beside = end_asker(&desk, &mut root, asker)?;
+    let late = ask_late(rt, alloc, &desk, &mut root, late)?;
+    let Served { catalogue } = desk.close(root);
+    Ok(Watched {
+        loaded: Loaded {
+            catalogue,
+            reports: reports.text,
+            refused: reports.refused,
+        },
+        beside,
+        late,
+    })
+}
+
+/// Opens the files of the libraries, loads them by a session each, by the preference and with the workers of `loading`, into a
+/// catalogue by the names of `start`, and asks its questions.
+///
+/// The questions `beside` are asked in their order beside the sessions, or after them with one worker; those in `late` when all
+/// sessions have ended. There is a reply to each: the replies `beside` are over prefixes of the catalogue's history that never
+/// get shorter, and the late ones over all of it.
+///
+/// # Errors
+///
+/// - `OpenFault`: this file, the first such, could not be opened. Those before it were opened, in their order, and none after it;
+///   none was read.
+/// - `ReadFault`: a read of this file failed, the first such in the order of the command.
+/// - `TooLong`: this file, the first such, has more bytes than are read, and no read failed.
+/// - `Memory`: allocation failed, also where it did so for a question.
+pub fn load_and_ask<R: Threads + Wait + Sync, F: Shelf, G: Gate>(
+    rt: &R,
+    alloc: Global,
+    loading: &Loading<'_>,
+    start: Start,
+    shelf: &mut F,
+    gate: &G,
+) -> Result<Watched, Status>
+    ensures gathers { Gathers result (libraries_meaning loading.now.libraries)
+        (record { files = F.files shelf.old; before = F.faults shelf.old; after = F.faults shelf.new })
+        (λ watched contents. HasUnited start.names
+        (deliveries loading.now.prefer contents (libraries_meaning loading.now.libraries)) watched.loaded) }
+    ensures in_order { IfErr result (λ status. OpensInOrder status (libraries_meaning loading.now.libraries)
+        (F.opened shelf.old) (F.opened shelf.new)) }
+    ensures beside { IfOk result (λ watched. AreReplies start.names watched.loaded.catalogue.history 0
+        start.questions.beside.items watched.beside.items) }
+    ensures late { IfOk result (λ watched. AreReplies start.names watched.loaded.catalogue.history
+        (length watched.loaded.catalogue.history) start.questions.late.items watched.late.items) }
+{
+    let Start { names, questions } = start;
+    let Ok((desk, mut root)) = open_desk(alloc, names, are_some(&questions)) else {
+        return Err(Status::Memory);
+    };
+    let Questions { beside, late } = questions;
+    let mut sessions = start_sessions(alloc, &desk, &mut root, loading, shelf)?;
+    let mut asker = start_asker(alloc, &desk, &mut root, beside);
+    run_all(
+        rt,
+        alloc,
+        &desk,
+        &mut sessions,
+        &mut asker,
+        loading.workers.number(),
+        gate,
+    );
+    let mut reports = Reports::none(alloc);
+    end_all(
+        &desk,
+        &mut root,
+        &loading.libraries,
+        sessions,
+        &mut reports,
+        shelf,
+    )?;
+    match close_desk(rt, alloc, (desk, root), asker, reports, late) {
+        Ok(watched) => Ok(watched),
+        Err(Memory) => Err(Status::Memory),
+    }
+}
+
+/// Opens the files of the libraries, and loads them by a session each, by these names: `load_and_ask` with no question.
+///
+/// # Errors
+///
+/// As those of `load_and_ask`.
+pub fn load_by_sessions<R: Threads + Wait + Sync, F: Shelf, G: Gate>(
+    rt: &R,
+    alloc: Global,
+    loading: &Loading<'_>,
+    names: NameTable,
+    shelf: &mut F,
+    gate: &G,
+) -> Result<Loaded, Status>
+    ensures gathers { Gathers result (libraries_meaning loading.now.libraries)
+        (record { files = F.files shelf.old; before = F.faults shelf.old; after = F.faults shelf.new })
+        (λ loaded contents. HasUnited names
+        (deliveries loading.now.prefer contents (libraries_meaning loading.now.libraries)) loaded) }
+    ensures in_order { IfErr result (λ status. OpensInOrder status (libraries_meaning loading.now.libraries)
+        (F.opened shelf.old) (F.opened shelf.new)) }
+{
+    let none = Questions {
+        beside: Vec::new(alloc),
+        late: Vec::new(alloc),
+    };
+    let start = Start {
+        names,
+        questions: none,
+    };
+    let watched = load_and_ask(rt, alloc, loading, start, shelf, gate)?;
+    Ok(watched.loaded)
+}
