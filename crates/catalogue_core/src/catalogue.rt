@@ -134,11 +134,14 @@ impl Catalogue {
         batch: Batch,
         steps: &mut Steps<L>,
     ) -> Result<Vec<Outcome>, Memory>
-        ensures appended { OnOk result (self.new.history ≡ self.old.history ++ record { pass = number; batch = batch } ∷ []) }
+        ensures appended { OnOk result (self.new.history ≡ self.old.history
+            ++ record { pass = number; batch = batch } ∷ []) }
         ensures names { self.new.names ≡ self.old.names }
-        ensures outcomes { IfOk result (λ found. found.items ≡ outcomes batch.library (current self.old.history) batch.ops) }
+        ensures outcomes { IfOk result (λ found. found.items
+            ≡ outcomes batch.library (current self.old.history) batch.ops) }
         ensures kept { OnErr result (self.new ≡ self.old) }
-        ensures reach { (number : ℕ) → IsReachOf batch.library (current self.old.history) batch.ops number
+        ensures reach { (number : ℕ) → IsReachOf batch.library (current self.old.history) batch.ops
+            number
             → steps.new ≤ steps.old + number }
     {
         let context = Context {
@@ -176,13 +179,18 @@ impl Catalogue {
         batch: Batch,
         steps: &mut Steps<L>,
     ) -> Result<(Vec<Outcome>, Delta), Memory>
-        ensures appended { OnOk result (self.new.history ≡ self.old.history ++ record { pass = number; batch = batch } ∷ []) }
+        ensures appended { OnOk result (self.new.history ≡ self.old.history
+            ++ record { pass = number; batch = batch } ∷ []) }
         ensures names { self.new.names ≡ self.old.names }
-        ensures outcomes { IfOk result (λ told. told.0.items ≡ outcomes batch.library (current self.old.history) batch.ops) }
-        ensures delta { IfOk result (λ told. (before after : List EditionModel) → AreEditionsOf self.old.history before
-            → AreEditionsOf self.new.history after → IsDelta before after told.1.closed.items told.1.opened.items) }
+        ensures outcomes { IfOk result (λ told. told.0.items
+            ≡ outcomes batch.library (current self.old.history) batch.ops) }
+        ensures delta { IfOk result (λ told. (before after : List EditionModel)
+            → AreEditionsOf self.old.history before
+            → AreEditionsOf self.new.history after → IsDelta before after told.1.closed.items
+            told.1.opened.items) }
         ensures kept { OnErr result (self.new ≡ self.old) }
-        ensures reach { (number : ℕ) → IsReachOf batch.library (current self.old.history) batch.ops number
+        ensures reach { (number : ℕ) → IsReachOf batch.library (current self.old.history) batch.ops
+            number
             → steps.new ≤ steps.old + number }
     {
         let context = Context {
@@ -221,12 +229,16 @@ impl Catalogue {
         prepared: Prepared,
         steps: &mut Steps<L>,
     ) -> Result<Vec<Outcome>, Memory>
-        ensures appended { OnOk result (self.new.history ≡ self.old.history ++ record { pass = number; batch = prepared } ∷ []) }
+        ensures appended { OnOk result (self.new.history ≡ self.old.history
+            ++ record { pass = number; batch = prepared } ∷ []) }
         ensures names { self.new.names ≡ self.old.names }
-        ensures outcomes { IfOk result (λ found. found.items ≡ outcomes prepared.library (current self.old.history) prepared.ops) }
+        ensures outcomes { IfOk result (λ found. found.items
+            ≡ outcomes prepared.library (current self.old.history) prepared.ops) }
         ensures kept { OnErr result (self.new ≡ self.old) }
-        ensures reach { (parts : List EditionModel) (reach : ℕ) → IsOrderedResolution (net prepared) parts
-            → IsReachOfParts prepared.library (current self.old.history) prepared.ops parts reach → steps.new ≤ steps.old + reach }
+        ensures reach { (parts : List EditionModel) (reach : ℕ)
+            → IsOrderedResolution (net prepared) parts
+            → IsReachOfParts prepared.library (current self.old.history) prepared.ops parts reach
+            → steps.new ≤ steps.old + reach }
     {
         let (batch, parts) = prepared.into_parts();
         let context = Context {
@@ -264,7 +276,8 @@ impl Catalogue {
 
     /// The edition that the record of that id is a contributor of: None exactly where it is not current. Takes no memory.
     pub fn holder(&self, id: &RecordId) -> Option<&Edition>
-        ensures holder { (all : List EditionModel) × AreEditionsOf self.now.history all × (option_copied result ≡ holder_of all id.now) }
+        ensures holder { (all : List EditionModel) × AreEditionsOf self.now.history all
+            × (option_copied result ≡ holder_of all id.now) }
         ensures none { is_none result ≡ not (is_current (current self.now.history) id.now) }
     {
         match self.homes.get(id) {
@@ -278,7 +291,8 @@ impl Catalogue {
     ///
     /// Returns `Memory` if allocation fails.
     pub fn with_key(&self, alloc: Global, key: &FeatureKey) -> Result<Vec<&Edition>, Memory>
-        ensures { IfOk result (λ found. (all : List EditionModel) × AreEditionsOf self.now.history all
+        ensures { IfOk result (λ found. (all : List EditionModel)
+            × AreEditionsOf self.now.history all
             × (map (λ e. e.now) found.items ≡ filter (has_key key.now) all)) }
     {
         by_key::with_key(alloc, &self.blocks, key)
@@ -296,7 +310,8 @@ impl Catalogue {
 
     /// How many editions there are. Takes no memory.
     pub fn edition_count(&self) -> u64
-        ensures { (all : List EditionModel) × AreEditionsOf self.now.history all × (result ≡ length all) }
+        ensures { (all : List EditionModel) × AreEditionsOf self.now.history all
+            × (result ≡ length all) }
     {
         self.blocks.count() as u64
     }
@@ -314,7 +329,8 @@ impl Catalogue {
     /// Returns `Memory` if allocation fails.
     pub fn works(&self, alloc: Global) -> Result<Grouping<'_>, Memory>
         ensures { (all : List EditionModel) × AreEditionsOf self.now.history all
-            × IfOk result (λ grouping. works_in grouping ≡ works_of (work_pairs self.now.names all)) }
+            × IfOk result (λ grouping. works_in grouping
+            ≡ works_of (work_pairs self.now.names all)) }
     {
         match &self.works.works {
             Some(works) => Ok(Grouping::Kept(works)),
@@ -340,7 +356,8 @@ impl Catalogue {
     ///
     /// Returns `Memory` if allocation fails.
     pub fn work_count(&self, alloc: Global) -> Result<u64, Memory>
-        ensures { IfOk result (λ count. (all : List EditionModel) × AreEditionsOf self.now.history all
+        ensures { IfOk result (λ count. (all : List EditionModel)
+            × AreEditionsOf self.now.history all
             × (count ≡ length (works_of (work_pairs self.now.names all)))) }
     {
         Ok(self.works(alloc)?.works().count())

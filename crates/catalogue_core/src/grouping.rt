@@ -61,7 +61,8 @@ fn pairs(
     names: &NameTable,
     blocks: &Blocks<Edition>,
 ) -> Result<Vec<(Bytes, RecordId)>, Memory>
-    ensures { IfOk result (λ pairs. pairs.items ≡ work_pairs names.now (values_of (blocks_in blocks.now.blocks))) }
+    ensures { IfOk result (λ pairs. pairs.items
+        ≡ work_pairs names.now (values_of (blocks_in blocks.now.blocks))) }
 {
     let mut pairs = Vec::with_capacity(alloc, blocks.count())?;
     for edition in blocks.values(alloc)? {
@@ -72,7 +73,8 @@ fn pairs(
 
 /// The works of the editions by the names. Returns `Memory` if allocation fails.
 pub fn grouped(alloc: Global, names: &NameTable, blocks: &Blocks<Edition>) -> Result<Works, Memory>
-    ensures { IfOk result (λ works. works.works ≡ works_of (work_pairs names.now (values_of (blocks_in blocks.now.blocks)))) }
+    ensures { IfOk result (λ works. works.works
+        ≡ works_of (work_pairs names.now (values_of (blocks_in blocks.now.blocks)))) }
 {
     let mut works = Works::empty(alloc);
     let change = works.plan(alloc, Vec::new(alloc), pairs(alloc, names, blocks)?)?;

@@ -17,17 +17,21 @@ pub use catalogue_editions::laws::{
 
 /// The editions of a history are one list.
 pub fn editions_of_a_history_are_unique()
-    ensures { (history : List HistoryEntry) (one other : List Edition) → AreEditionsOf history one → AreEditionsOf history other
+    ensures { (history : List HistoryEntry) (one other : List Edition) → AreEditionsOf history one
+        → AreEditionsOf history other
         → one ≡ other }
 {}
 
 /// A record that shares no index key with any other costs no test where it comes, and at most one where it goes: by the clause
 /// of `catalogue::Catalogue::apply`, however many records there are.
 pub fn strangers_cost_one_test()
-    ensures comes { (list : List Edition) (e : Edition) (number : ℕ) → ((x : Edition) → Contains list x → share x e ≡ false)
+    ensures comes { (list : List Edition) (e : Edition) (number : ℕ)
+        → ((x : Edition) → Contains list x → share x e ≡ false)
         → IsReachOfInsertion list e number → number ≡ 0 }
-    ensures goes { (list : List Edition) (e : Edition) (id : RecordId) (number : ℕ) → ((x : Edition) → Contains list x
-        → (x ≡ e) ⊎ (share x e ≡ false)) → e.content.contributors ≡ id ∷ [] → IsReachOfWithdrawal list id number → number ≡ 1 }
+    ensures goes { (list : List Edition) (e : Edition) (id : RecordId) (number : ℕ)
+        → ((x : Edition) → Contains list x
+        → (x ≡ e) ⊎ (share x e ≡ false)) → e.content.contributors ≡ id ∷ []
+        → IsReachOfWithdrawal list id number → number ≡ 1 }
 {}
 
 /// By any two preferences the same records resolve to the same editions, place by place, but for their fixed parts and their
@@ -35,5 +39,6 @@ pub fn strangers_cost_one_test()
 pub fn preferences_agree()
     ensures { (prefer other : List (List ℕ)) (records : List (List ℕ × Record))
         (one two : List Edition) → IsOrderedResolution (editions_by prefer records) one
-        → IsOrderedResolution (editions_by other records) two → map unranked one ≡ map unranked two }
+        → IsOrderedResolution (editions_by other records) two
+        → map unranked one ≡ map unranked two }
 {}

@@ -12,7 +12,8 @@ ghost use Rattle.catalogue_core.specs.Parts.{Part, records_of, ArePartsApart, Sh
 /// of the parts, merged in order of their least contributors, and nothing else is. How many parts there are does not matter,
 /// nor in which order the records stand.
 pub fn parts_resolve_apart()
-    ensures { (parts : List Part) (list all : List Edition) → ArePartsApart parts → HasMembersOf list (records_of parts)
+    ensures { (parts : List Part) (list all : List Edition) → ArePartsApart parts
+        → HasMembersOf list (records_of parts)
         → IsOrderedResolution list all ↔ AreMerged parts all }
 {}
 

@@ -19,27 +19,32 @@ ghost use Rattle.catalogue_editions.specs.Resolutions.{IsOrderedResolution};
 
 /// An accepted record that is no withdrawal is one that `records::edition_of` makes an edition of.
 pub fn accepted_can_be_loaded()
-    ensures loadable { (r : Record) → IsAccepted r → is_deleted r.leader.status ≡ false → IsTrue (is_loadable r) }
+    ensures loadable { (r : Record) → IsAccepted r → is_deleted r.leader.status ≡ false
+        → IsTrue (is_loadable r) }
     ensures short { (r : Record) → IsAccepted r → IsTrue (list_all is_short r.fields) }
 {}
 
 /// Editions that have a contributor in common match. So those that do not match have none, and their least contributors
 /// differ.
 pub fn common_contributor_matches()
-    ensures any { (x y : Edition) (id : RecordId) → Contains x.content.contributors id → Contains y.content.contributors id
+    ensures any { (x y : Edition) (id : RecordId) → Contains x.content.contributors id
+        → Contains y.content.contributors id
         → IsTrue (edition_match x y) }
     ensures least { (x y : Edition) → edition_match x y ≡ false → least x ≢ least y }
 {}
 
 /// A resolution that was sorted by the least contributors is in strict order of them.
 pub fn sorted_resolution_is_ordered()
-    ensures { (list resolution sorted : List Edition) → IsResolution edition_match join list resolution
-        → IsPermutation resolution sorted → IsSorted edition_cmp sorted → IsOrderedResolution list sorted }
+    ensures { (list resolution sorted : List Edition)
+        → IsResolution edition_match join list resolution
+        → IsPermutation resolution sorted → IsSorted edition_cmp sorted
+        → IsOrderedResolution list sorted }
 {}
 
 /// A list of editions has one resolution that is in order of the least contributors.
 pub fn ordered_resolution_is_unique()
-    ensures { (list one other : List Edition) → IsOrderedResolution list one → IsOrderedResolution list other → one ≡ other }
+    ensures { (list one other : List Edition) → IsOrderedResolution list one
+        → IsOrderedResolution list other → one ≡ other }
 {}
 
 /// Where no names are given, the work key is that of the fields alone.

@@ -47,7 +47,8 @@ fn follow(
     library: &LibraryCode,
     op: &Op,
 ) -> Result<(), Memory>
-    ensures { OnOk result (editions.new.entries ≡ after_op library.now editions.old.entries op.now) }
+    ensures { OnOk result (editions.new.entries
+        ≡ after_op library.now editions.old.entries op.now) }
 {
     match op {
         Op::Load(edition) => {

@@ -93,7 +93,8 @@ fn names_needed(
 /// The names of the added entries, as the table has them.
 fn names_used(alloc: Global, names: &NameTable, added: &[Field]) -> Result<Vec<Bytes>, Memory>
     requires { All HasTexts added.now }
-    ensures { IfOk result (λ others. others.items ≡ map (λ f. used_for names.now (name_of f)) added.now) }
+    ensures { IfOk result (λ others. others.items
+        ≡ map (λ f. used_for names.now (name_of f)) added.now) }
 {
     let mut others = Vec::with_capacity(alloc, added.len())?;
     for field in added {
@@ -166,7 +167,8 @@ fn added_entries(alloc: Global, fields: &[Field]) -> Result<Vec<Field>, Memory>
 }
 
 fn push_added_entry(alloc: Global, added: &mut Vec<Field>, field: &Field) -> Result<(), Memory>
-    ensures { OnOk result (added.new.items ≡ added.old.items ++ filter is_added_entry (field.now ∷ [])) }
+    ensures { OnOk result (added.new.items ≡ added.old.items
+        ++ filter is_added_entry (field.now ∷ [])) }
 {
     if is_added_entry(field) {
         added.push(field.copied(alloc)?)?;

@@ -37,7 +37,8 @@ pub fn edition_bytes(
     into: &mut Vec<u8>,
 ) -> Result<usize, Memory>
     requires { IsTrue (is_text key.now) }
-    ensures text { Appends result into.old.items into.new.items (edition_bytes edition.now.content key.now) }
+    ensures text { Appends result into.old.items into.new.items
+        (edition_bytes edition.now.content key.now) }
     ensures left { IfOk result (λ n. n ≡ left_out edition.now.content key.now) }
 {
     append_content(alloc, edition.content(), key.bytes(), into)
@@ -69,7 +70,8 @@ fn append_content(
 ) -> Result<usize, Memory>
     requires sound { IsTrue (is_sound content.now) }
     requires key { IsTrue (is_text key.now) }
-    ensures text { Appends result into.old.items into.new.items (edition_bytes content.now key.now) }
+    ensures text { Appends result into.old.items into.new.items
+        (edition_bytes content.now key.now) }
     ensures left { IfOk result (λ n. n ≡ left_out content.now key.now) }
 {
     let (rec, left) = exported(alloc, content, key)?;

@@ -22,8 +22,10 @@ pub fn append_editions(
     into: &mut Vec<u8>,
     left: &mut Vec<(RecordId, usize)>,
 ) -> Result<(), Memory>
-    ensures text { OnOk result (into.new.items ≡ into.old.items ++ export_text catalogue.now.names editions.now) }
-    ensures left { OnOk result (left.new.items ≡ left.old.items ++ left_of catalogue.now.names editions.now) }
+    ensures text { OnOk result (into.new.items ≡ into.old.items
+        ++ export_text catalogue.now.names editions.now) }
+    ensures left { OnOk result (left.new.items ≡ left.old.items
+        ++ left_of catalogue.now.names editions.now) }
 {
     for edition in editions {
         let count = append_edition(alloc, catalogue, edition, into)?;
@@ -39,7 +41,8 @@ pub fn append_edition(
     edition: &Edition,
     into: &mut Vec<u8>,
 ) -> Result<usize, Memory>
-    ensures text { OnOk result (into.new.items ≡ into.old.items ++ edition_text catalogue.now.names edition.now) }
+    ensures text { OnOk result (into.new.items ≡ into.old.items
+        ++ edition_text catalogue.now.names edition.now) }
     ensures left { IfOk result (λ n. n ≡ fields_left catalogue.now.names edition.now) }
 {
     let key = catalogue.key_of(alloc, edition)?;

@@ -29,9 +29,16 @@ pub fn export<O: Sink>(
 ) -> Result<(), ExportFail>
     ensures { (all : List EditionModel) × AreEditionsOf catalogue.now.history all
         × HasWritten (export_text catalogue.now.names all)
-        (record { old = O.written out.old; new = O.written out.new; before = O.faults out.old; after = O.faults out.new }) result
+        (record {
+          old = O.written out.old;
+          new = O.written out.new;
+          before = O.faults out.old;
+          after
+              = O.faults out.new;
+        }) result
         × OnOk result (left.new.items ≡ left.old.items ++ left_of catalogue.now.names all)
-        × OnErr result (GainsFront left.old.items left.new.items (left_of catalogue.now.names all)) }
+        × OnErr result (GainsFront left.old.items left.new.items
+        (left_of catalogue.now.names all)) }
 {
     match catalogue.editions(alloc) {
         Ok(editions) => write_editions(alloc, catalogue, editions.as_slice(), out, left),
@@ -48,9 +55,17 @@ fn write_editions<O: Sink>(
     left: &mut Vec<(RecordId, usize)>,
 ) -> Result<(), ExportFail>
     ensures written { HasWritten (export_text catalogue.now.names (map (λ e. e.now) editions.now))
-        (record { old = O.written out.old; new = O.written out.new; before = O.faults out.old; after = O.faults out.new }) result }
-    ensures left { OnOk result (left.new.items ≡ left.old.items ++ left_of catalogue.now.names (map (λ e. e.now) editions.now)) }
-    ensures stopped { OnErr result (GainsFront left.old.items left.new.items (left_of catalogue.now.names (map (λ e. e.now) editions.now))) }
+        (record {
+          old = O.written out.old;
+          new = O.written out.new;
+          before = O.faults out.old;
+          after
+              = O.faults out.new;
+        }) result }
+    ensures left { OnOk result (left.new.items ≡ left.old.items
+        ++ left_of catalogue.now.names (map (λ e. e.now) editions.now)) }
+    ensures stopped { OnErr result (GainsFront left.old.items left.new.items
+        (left_of catalogue.now.names (map (λ e. e.now) editions.now))) }
 {
     let mut pending = Vec::new(alloc);
     for edition in editions {
@@ -71,10 +86,19 @@ fn write_edition<O: Sink>(
     left: &mut Vec<(RecordId, usize)>,
     out: &mut O,
 ) -> Result<(), ExportFail>
-    ensures text { HasMoved (pending.old.items ++ edition_text catalogue.now.names edition.now) pending.new.items
-        (record { old = O.written out.old; new = O.written out.new; before = O.faults out.old; after = O.faults out.new }) result }
-    ensures left { OnOk result (left.new.items ≡ left.old.items ++ left_of_one catalogue.now.names edition.now) }
-    ensures stopped { OnErr result (GainsFront left.old.items left.new.items (left_of_one catalogue.now.names edition.now)) }
+    ensures text { HasMoved (pending.old.items ++ edition_text catalogue.now.names edition.now)
+        pending.new.items
+        (record {
+          old = O.written out.old;
+          new = O.written out.new;
+          before = O.faults out.old;
+          after
+              = O.faults out.new;
+        }) result }
+    ensures left { OnOk result (left.new.items ≡ left.old.items
+        ++ left_of_one catalogue.now.names edition.now) }
+    ensures stopped { OnErr result (GainsFront left.old.items left.new.items
+        (left_of_one catalogue.now.names edition.now)) }
 {
     let count = append_edition(alloc, catalogue, edition, pending)?;
     note_left(alloc, edition, count, left)?;

@@ -31,8 +31,10 @@ pub(crate) fn fitting_count(own: &[Field], united: &[Field]) -> usize
 fn fit(room: usize, fields: &[Field]) -> (usize, usize)
     requires { IsTrue (list_all is_short fields.now) }
     ensures bound { result.0 ≤ length fields.now }
-    ensures whole { result.0 ≡ length fields.now → (more : List Field) → fitting_in room (fields.now ++ more) ≡ fields.now ++ fitting_in result.1 more }
-    ensures cut { result.0 < length fields.now → (more : List Field) → fitting_in room (fields.now ++ more) ≡ take result.0 fields.now }
+    ensures whole { result.0 ≡ length fields.now → (more : List Field)
+        → fitting_in room (fields.now ++ more) ≡ fields.now ++ fitting_in result.1 more }
+    ensures cut { result.0 < length fields.now → (more : List Field)
+        → fitting_in room (fields.now ++ more) ≡ take result.0 fields.now }
     ensures alone { fitting_in room (fields.now ++ []) ≡ take result.0 fields.now }
 {
     let mut left = room;

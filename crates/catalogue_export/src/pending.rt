@@ -11,7 +11,13 @@ const PIECE: usize = 65_536;
 /// Writes what is pending, once there is enough of it.
 pub fn hand_on<O: Sink>(pending: &mut Vec<u8>, out: &mut O) -> Result<(), ExportFail>
     ensures { HasMoved pending.old.items pending.new.items
-        (record { old = O.written out.old; new = O.written out.new; before = O.faults out.old; after = O.faults out.new }) result }
+        (record {
+          old = O.written out.old;
+          new = O.written out.new;
+          before = O.faults out.old;
+          after
+              = O.faults out.new;
+        }) result }
 {
     if pending.len() < PIECE {
         return Ok(());
@@ -28,7 +34,13 @@ pub fn hand_on<O: Sink>(pending: &mut Vec<u8>, out: &mut O) -> Result<(), Export
 /// Writes the rest.
 pub fn hand_on_rest<O: Sink>(pending: &[u8], out: &mut O) -> Result<(), ExportFail>
     ensures { HasWritten pending.now
-        (record { old = O.written out.old; new = O.written out.new; before = O.faults out.old; after = O.faults out.new }) result }
+        (record {
+          old = O.written out.old;
+          new = O.written out.new;
+          before = O.faults out.old;
+          after
+              = O.faults out.new;
+        }) result }
 {
     match put_all(out, pending) {
         Ok(()) => Ok(()),

@@ -28,7 +28,13 @@ pub fn works_text<O: Sink>(
 ) -> Result<(), ExportFail>
     ensures { (all : List EditionModel) × AreEditionsOf catalogue.now.history all
         × HasWritten (works_text_of catalogue.now.names all)
-        (record { old = O.written out.old; new = O.written out.new; before = O.faults out.old; after = O.faults out.new }) result }
+        (record {
+          old = O.written out.old;
+          new = O.written out.new;
+          before = O.faults out.old;
+          after
+              = O.faults out.new;
+        }) result }
 {
     match catalogue.works(alloc) {
         Ok(grouping) => write_works(alloc, grouping.works(), out),
@@ -39,7 +45,13 @@ pub fn works_text<O: Sink>(
 /// Writes the works, in order of their keys.
 fn write_works<O: Sink>(alloc: Global, works: &Works, out: &mut O) -> Result<(), ExportFail>
     ensures { HasWritten (flat_map work_text works.now.works)
-        (record { old = O.written out.old; new = O.written out.new; before = O.faults out.old; after = O.faults out.new }) result }
+        (record {
+          old = O.written out.old;
+          new = O.written out.new;
+          before = O.faults out.old;
+          after
+              = O.faults out.new;
+        }) result }
 {
     works.are_in_order();
     let mut pending = Vec::new(alloc);
@@ -66,7 +78,13 @@ fn write_work<O: Sink>(
     out: &mut O,
 ) -> Result<(), ExportFail>
     ensures { HasMoved (pending.old.items ++ work_text (key.now, editions.now)) pending.new.items
-        (record { old = O.written out.old; new = O.written out.new; before = O.faults out.old; after = O.faults out.new }) result }
+        (record {
+          old = O.written out.old;
+          new = O.written out.new;
+          before = O.faults out.old;
+          after
+              = O.faults out.new;
+        }) result }
 {
     add_work(alloc, key, editions, pending)?;
     hand_on(pending, out)

@@ -32,9 +32,16 @@ pub fn export_json<O: Sink>(
 ) -> Result<(), ExportFail>
     ensures { (all : List EditionModel) × AreEditionsOf catalogue.now.history all
         × HasWritten (json_export_text catalogue.now.names all)
-        (record { old = O.written out.old; new = O.written out.new; before = O.faults out.old; after = O.faults out.new }) result
+        (record {
+          old = O.written out.old;
+          new = O.written out.new;
+          before = O.faults out.old;
+          after
+              = O.faults out.new;
+        }) result
         × OnOk result (left.new.items ≡ left.old.items ++ left_of catalogue.now.names all)
-        × OnErr result (GainsFront left.old.items left.new.items (left_of catalogue.now.names all)) }
+        × OnErr result (GainsFront left.old.items left.new.items
+        (left_of catalogue.now.names all)) }
 {
     match catalogue.editions(alloc) {
         Ok(editions) => write_editions(alloc, catalogue, editions.as_slice(), out, left),
@@ -50,10 +57,19 @@ fn write_editions<O: Sink>(
     out: &mut O,
     left: &mut Vec<(RecordId, usize)>,
 ) -> Result<(), ExportFail>
-    ensures written { HasWritten (json_export_text catalogue.now.names (map (λ e. e.now) editions.now))
-        (record { old = O.written out.old; new = O.written out.new; before = O.faults out.old; after = O.faults out.new }) result }
-    ensures left { OnOk result (left.new.items ≡ left.old.items ++ left_of catalogue.now.names (map (λ e. e.now) editions.now)) }
-    ensures stopped { OnErr result (GainsFront left.old.items left.new.items (left_of catalogue.now.names (map (λ e. e.now) editions.now))) }
+    ensures written { HasWritten (json_export_text catalogue.now.names
+        (map (λ e. e.now) editions.now))
+        (record {
+          old = O.written out.old;
+          new = O.written out.new;
+          before = O.faults out.old;
+          after
+              = O.faults out.new;
+        }) result }
+    ensures left { OnOk result (left.new.items ≡ left.old.items
+        ++ left_of catalogue.now.names (map (λ e. e.now) editions.now)) }
+    ensures stopped { OnErr result (GainsFront left.old.items left.new.items
+        (left_of catalogue.now.names (map (λ e. e.now) editions.now))) }
 {
     let mut pending = Vec::new(alloc);
     for edition in editions {
@@ -74,10 +90,19 @@ fn write_edition<O: Sink>(
     left: &mut Vec<(RecordId, usize)>,
     out: &mut O,
 ) -> Result<(), ExportFail>
-    ensures text { HasMoved (pending.old.items ++ edition_line catalogue.now.names edition.now) pending.new.items
-        (record { old = O.written out.old; new = O.written out.new; before = O.faults out.old; after = O.faults out.new }) result }
-    ensures left { OnOk result (left.new.items ≡ left.old.items ++ left_of_one catalogue.now.names edition.now) }
-    ensures stopped { OnErr result (GainsFront left.old.items left.new.items (left_of_one catalogue.now.names edition.now)) }
+    ensures text { HasMoved (pending.old.items ++ edition_line catalogue.now.names edition.now)
+        pending.new.items
+        (record {
+          old = O.written out.old;
+          new = O.written out.new;
+          before = O.faults out.old;
+          after
+              = O.faults out.new;
+        }) result }
+    ensures left { OnOk result (left.new.items ≡ left.old.items
+        ++ left_of_one catalogue.now.names edition.now) }
+    ensures stopped { OnErr result (GainsFront left.old.items left.new.items
+        (left_of_one catalogue.now.names edition.now)) }
 {
     let count = append_line(alloc, catalogue, edition, pending)?;
     note_left(alloc, edition, count, left)?;
@@ -91,7 +116,8 @@ pub fn append_line(
     edition: &Edition,
     into: &mut Vec<u8>,
 ) -> Result<usize, Memory>
-    ensures text { OnOk result (into.new.items ≡ into.old.items ++ edition_line catalogue.now.names edition.now) }
+    ensures text { OnOk result (into.new.items ≡ into.old.items
+        ++ edition_line catalogue.now.names edition.now) }
     ensures left { IfOk result (λ n. n ≡ fields_left catalogue.now.names edition.now) }
 {
     let key = catalogue.key_of(alloc, edition)?;

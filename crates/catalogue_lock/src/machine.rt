@@ -54,8 +54,10 @@ pub trait Machine: Sized + Send + Drop {
         change: Self::Change,
     ) -> Result<Self::Outcome, Memory>
         ensures setting { setting self.new ≡ setting self.old }
-        ensures outcome { IfOk result (λ r. yields (setting self.old) (entries self.old) number change r) }
-        ensures entries { OnOk result (entries self.new ≡ entries self.old ++ (number, change) ∷ []) }
+        ensures outcome { IfOk result (λ r. yields (setting self.old) (entries self.old) number
+            change r) }
+        ensures entries { OnOk result (entries self.new ≡ entries self.old
+            ++ (number, change) ∷ []) }
         ensures memory { OnErr result (entries self.new ≡ entries self.old) };
 
     /// Answers a question over all entries.

@@ -39,8 +39,10 @@ use union_base::sequence::Sequence;
 ///
 /// Returns `Memory` if allocation fails.
 pub fn answer(alloc: Global, catalogue: &Catalogue, query: &Query) -> Result<Answer, Memory>
-    ensures { IfOk result (λ found. (all : List EditionModel) × AreEditionsOf catalogue.now.history all
-        × (found.lines ≡ answer_lines catalogue.now.names query.now (current catalogue.now.history) all)) }
+    ensures { IfOk result (λ found. (all : List EditionModel)
+        × AreEditionsOf catalogue.now.history all
+        × (found.lines ≡ answer_lines catalogue.now.names query.now (current catalogue.now.history)
+        all)) }
 {
     let lines = lines_of(alloc, catalogue, query)?;
     Ok(Answer {
@@ -61,8 +63,10 @@ fn or_none(alloc: Global, lines: Vec<Bytes>) -> Result<Vec<Bytes>, Memory>
 
 /// The lines of the answer, which may be none.
 fn lines_of(alloc: Global, catalogue: &Catalogue, query: &Query) -> Result<Vec<Bytes>, Memory>
-    ensures { IfOk result (λ lines. (all : List EditionModel) × AreEditionsOf catalogue.now.history all
-        × (lines.items ≡ lines_of catalogue.now.names query.now (current catalogue.now.history) all)) }
+    ensures { IfOk result (λ lines. (all : List EditionModel)
+        × AreEditionsOf catalogue.now.history all
+        × (lines.items ≡ lines_of catalogue.now.names query.now (current catalogue.now.history)
+        all)) }
 {
     match query {
         Query::Id(id) => lines_of_holder(alloc, catalogue, query, id),
@@ -83,8 +87,10 @@ fn lines_of_holder(
     query: &Query,
     id: &RecordId,
 ) -> Result<Vec<Bytes>, Memory>
-    ensures { IfOk result (λ lines. (all : List EditionModel) × AreEditionsOf catalogue.now.history all
-        × (lines.items ≡ flat_map (told catalogue.now.names query.now (current catalogue.now.history)) (filter (has_contributor id.now) all))) }
+    ensures { IfOk result (λ lines. (all : List EditionModel)
+        × AreEditionsOf catalogue.now.history all
+        × (lines.items ≡ flat_map (told catalogue.now.names query.now
+        (current catalogue.now.history)) (filter (has_contributor id.now) all))) }
 {
     let mut lines = Vec::new(alloc);
     if let Some(edition) = catalogue.holder(id) {
@@ -99,8 +105,10 @@ fn lines_of_isbn(
     catalogue: &Catalogue,
     digits: &[u8; 13],
 ) -> Result<Vec<Bytes>, Memory>
-    ensures { IfOk result (λ lines. (all : List EditionModel) × AreEditionsOf catalogue.now.history all
-        × (lines.items ≡ told_of_all catalogue.now.names (Isbn digits.now) (current catalogue.now.history) all)) }
+    ensures { IfOk result (λ lines. (all : List EditionModel)
+        × AreEditionsOf catalogue.now.history all
+        × (lines.items ≡ told_of_all catalogue.now.names (Isbn digits.now)
+        (current catalogue.now.history) all)) }
 {
     lines_with_key(alloc, catalogue, &FeatureKey::Isbn(*digits))
 }
@@ -111,8 +119,10 @@ fn lines_of_issn(
     catalogue: &Catalogue,
     number: &[u8; 8],
 ) -> Result<Vec<Bytes>, Memory>
-    ensures { IfOk result (λ lines. (all : List EditionModel) × AreEditionsOf catalogue.now.history all
-        × (lines.items ≡ told_of_all catalogue.now.names (Issn number.now) (current catalogue.now.history) all)) }
+    ensures { IfOk result (λ lines. (all : List EditionModel)
+        × AreEditionsOf catalogue.now.history all
+        × (lines.items ≡ told_of_all catalogue.now.names (Issn number.now)
+        (current catalogue.now.history) all)) }
 {
     lines_with_key(alloc, catalogue, &FeatureKey::Issn(*number))
 }
@@ -124,8 +134,10 @@ fn lines_of_control(
     source: &Bytes,
     number: &Bytes,
 ) -> Result<Vec<Bytes>, Memory>
-    ensures { IfOk result (λ lines. (all : List EditionModel) × AreEditionsOf catalogue.now.history all
-        × (lines.items ≡ told_of_all catalogue.now.names (Control source.now number.now) (current catalogue.now.history) all)) }
+    ensures { IfOk result (λ lines. (all : List EditionModel)
+        × AreEditionsOf catalogue.now.history all
+        × (lines.items ≡ told_of_all catalogue.now.names (Control source.now number.now)
+        (current catalogue.now.history) all)) }
 {
     let pair = ControlPair::of(alloc, source.bytes(), number.bytes())?;
     lines_with_key(alloc, catalogue, &FeatureKey::Control(pair))
@@ -133,8 +145,10 @@ fn lines_of_control(
 
 /// What is told of the editions that have the title.
 fn lines_of_title(alloc: Global, catalogue: &Catalogue, form: &Bytes) -> Result<Vec<Bytes>, Memory>
-    ensures { IfOk result (λ lines. (all : List EditionModel) × AreEditionsOf catalogue.now.history all
-        × (lines.items ≡ told_of_all catalogue.now.names (Title form.now) (current catalogue.now.history) all)) }
+    ensures { IfOk result (λ lines. (all : List EditionModel)
+        × AreEditionsOf catalogue.now.history all
+        × (lines.items ≡ told_of_all catalogue.now.names (Title form.now)
+        (current catalogue.now.history) all)) }
 {
     let key = FeatureKey::Title(form.copied(alloc)?);
     lines_with_key(alloc, catalogue, &key)
@@ -146,7 +160,8 @@ fn lines_with_key(
     catalogue: &Catalogue,
     key: &FeatureKey,
 ) -> Result<Vec<Bytes>, Memory>
-    ensures { IfOk result (λ lines. (all : List EditionModel) × AreEditionsOf catalogue.now.history all
+    ensures { IfOk result (λ lines. (all : List EditionModel)
+        × AreEditionsOf catalogue.now.history all
         × (lines.items ≡ map (λ e. edition_line (least e)) (filter (has_key key.now) all))) }
 {
     let editions = catalogue.with_key(alloc, key)?;
@@ -159,8 +174,10 @@ fn lines_with_key(
 
 /// What is told of the editions of the work.
 fn lines_of_work(alloc: Global, catalogue: &Catalogue, key: &Bytes) -> Result<Vec<Bytes>, Memory>
-    ensures { IfOk result (λ lines. (all : List EditionModel) × AreEditionsOf catalogue.now.history all
-        × (lines.items ≡ told_of_all catalogue.now.names (Work key.now) (current catalogue.now.history) all)) }
+    ensures { IfOk result (λ lines. (all : List EditionModel)
+        × AreEditionsOf catalogue.now.history all
+        × (lines.items ≡ told_of_all catalogue.now.names (Work key.now)
+        (current catalogue.now.history) all)) }
 {
     let grouping = catalogue.works(alloc)?;
     edition_lines(alloc, grouping.works().editions_of(key))
@@ -179,7 +196,8 @@ fn edition_lines(alloc: Global, ids: &[RecordId]) -> Result<Vec<Bytes>, Memory>
 
 /// The line of the counts.
 fn count_lines(alloc: Global, catalogue: &Catalogue) -> Result<Vec<Bytes>, Memory>
-    ensures { IfOk result (λ lines. (all : List EditionModel) × AreEditionsOf catalogue.now.history all
+    ensures { IfOk result (λ lines. (all : List EditionModel)
+        × AreEditionsOf catalogue.now.history all
         × (lines.items ≡ lines_of catalogue.now.names Count (current catalogue.now.history) all)) }
 {
     let editions = catalogue.edition_count();

@@ -22,7 +22,8 @@ pub(crate) fn add_told(
     query: &Query,
     edition: &Edition,
 ) -> Result<(), Memory>
-    ensures { OnOk result (lines.new.items ≡ lines.old.items ++ told catalogue.now.names query.now (current catalogue.now.history) edition.now) }
+    ensures { OnOk result (lines.new.items ≡ lines.old.items
+        ++ told catalogue.now.names query.now (current catalogue.now.history) edition.now) }
 {
     match query {
         Query::Id(_) => add_identity(alloc, lines, catalogue, edition),
@@ -41,7 +42,8 @@ fn add_identity(
     catalogue: &Catalogue,
     edition: &Edition,
 ) -> Result<(), Memory>
-    ensures { OnOk result (lines.new.items ≡ lines.old.items ++ identity_lines catalogue.now.names edition.now) }
+    ensures { OnOk result (lines.new.items ≡ lines.old.items
+        ++ identity_lines catalogue.now.names edition.now) }
 {
     lines.push(edition_line(alloc, edition.least())?)?;
     add_contributors(alloc, lines, edition.content().contributors.as_slice())?;
@@ -66,7 +68,8 @@ fn add_holdings(
     catalogue: &Catalogue,
     edition: &Edition,
 ) -> Result<(), Memory>
-    ensures { OnOk result (lines.new.items ≡ lines.old.items ++ holding_lines (current catalogue.now.history) edition.now) }
+    ensures { OnOk result (lines.new.items ≡ lines.old.items
+        ++ holding_lines (current catalogue.now.history) edition.now) }
 {
     for id in edition.content().contributors.as_slice() {
         add_record(alloc, lines, catalogue, id)?;
@@ -81,7 +84,8 @@ fn add_record(
     catalogue: &Catalogue,
     id: &RecordId,
 ) -> Result<(), Memory>
-    ensures { OnOk result (lines.new.items ≡ lines.old.items ++ record_lines (current catalogue.now.history) id.now) }
+    ensures { OnOk result (lines.new.items ≡ lines.old.items
+        ++ record_lines (current catalogue.now.history) id.now) }
 {
     let Some(base) = catalogue.base(id) else {
         return Ok(());

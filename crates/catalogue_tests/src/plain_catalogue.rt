@@ -85,8 +85,10 @@ impl PlainCatalogue {
         batch: Batch,
         steps: &mut Steps<L>,
     ) -> Result<Vec<Outcome>, Memory>
-        ensures appended { OnOk result (self.new ≡ self.old ++ record { pass = number; batch = batch } ∷ []) }
-        ensures outcomes { IfOk result (λ found. found.items ≡ outcomes batch.library (current self.old) batch.ops) }
+        ensures appended { OnOk result (self.new ≡ self.old
+            ++ record { pass = number; batch = batch } ∷ []) }
+        ensures outcomes { IfOk result (λ found. found.items
+            ≡ outcomes batch.library (current self.old) batch.ops) }
         ensures kept { OnErr result (self.new ≡ self.old) }
     {
         let mut records = current_records(alloc, &self.history)?;
@@ -112,7 +114,8 @@ impl PlainCatalogue {
 
     /// The edition that the record of that id is a contributor of: None exactly where it is not current.
     pub fn holder(&self, id: &RecordId) -> Option<&Edition>
-        ensures holder { (all : List EditionModel) × AreEditionsOf self.now all × (option_copied result ≡ holder_of all id.now) }
+        ensures holder { (all : List EditionModel) × AreEditionsOf self.now all
+            × (option_copied result ≡ holder_of all id.now) }
         ensures none { is_none result ≡ not (is_current (current self.now) id.now) }
     {
         holder_in(&self.editions, id)
@@ -141,7 +144,8 @@ impl PlainCatalogue {
 
     /// The works of the editions: under each work key, by their least contributors, the editions that have it.
     pub fn works(&self) -> &Works
-        ensures { (all : List EditionModel) × AreEditionsOf self.now all × (result.now.works ≡ works_of (work_pairs empty all)) }
+        ensures { (all : List EditionModel) × AreEditionsOf self.now all
+            × (result.now.works ≡ works_of (work_pairs empty all)) }
     {
         &self.works
     }
@@ -174,8 +178,10 @@ fn follow_all(
     records: &mut BTreeMap<RecordId, Edition>,
     batch: &Batch,
 ) -> Result<Vec<Outcome>, Memory>
-    ensures records { OnOk result (records.new.entries ≡ after_batch records.old.entries batch.now) }
-    ensures outcomes { IfOk result (λ found. found.items ≡ outcomes batch.now.library records.old.entries batch.now.ops) }
+    ensures records { OnOk result (records.new.entries
+        ≡ after_batch records.old.entries batch.now) }
+    ensures outcomes { IfOk result (λ found. found.items
+        ≡ outcomes batch.now.library records.old.entries batch.now.ops) }
 {
     let mut outcomes = Vec::new(alloc);
     for op in batch.ops.as_slice() {
@@ -191,8 +197,10 @@ fn follow(
     library: &LibraryCode,
     op: &Op,
 ) -> Result<Outcome, Memory>
-    ensures records { OnOk result (records.new.entries ≡ after_op library.now records.old.entries op.now) }
-    ensures outcome { IfOk result (λ found. found ≡ outcome_of library.now records.old.entries op.now) }
+    ensures records { OnOk result (records.new.entries
+        ≡ after_op library.now records.old.entries op.now) }
+    ensures outcome { IfOk result (λ found. found
+        ≡ outcome_of library.now records.old.entries op.now) }
 {
     match op {
         Op::Load(edition) => {
@@ -221,7 +229,8 @@ fn resolved<L: Ledger>(
     records: &BTreeMap<RecordId, Edition>,
     steps: &mut Steps<L>,
 ) -> Result<Vec<Edition>, Memory>
-    ensures { IfOk result (λ editions. IsOrderedResolution (values_of records.now.entries) editions.items) }
+    ensures { IfOk result (λ editions. IsOrderedResolution (values_of records.now.entries)
+        editions.items) }
 {
     sorted_resolution_is_ordered();
     let copies = copied(alloc, records)?;

@@ -34,7 +34,8 @@ fn add_contributors(
 
 /// Whether a contributor of the edition was seen. Takes no memory.
 fn has_seen(seen: &BTreeSet<RecordId>, edition: &Edition) -> bool
-    ensures { result ≡ list_any (λ id. contains id_cmp seen.now id) edition.now.content.contributors }
+    ensures { result ≡ list_any (λ id. contains id_cmp seen.now id)
+        edition.now.content.contributors }
 {
     let ids = edition.content().contributors.as_slice();
     ids.iter().any(|id| seen.contains(id))
@@ -47,8 +48,10 @@ pub fn first_double(
     staying: &[Edition],
     opened: &[Edition],
 ) -> Result<Option<usize>, Memory>
-    ensures { IfOk result (λ found. (held closed : List EditionModel) → AreOnlyIn held closed staying.now → MatchOption found
-        (IsNowhere (IsDouble held closed opened.now)) (λ at. IsFirst (IsDouble held closed opened.now) at)) }
+    ensures { IfOk result (λ found. (held closed : List EditionModel)
+        → AreOnlyIn held closed staying.now → MatchOption found
+        (IsNowhere (IsDouble held closed opened.now))
+        (λ at. IsFirst (IsDouble held closed opened.now) at)) }
 {
     let mut seen = BTreeSet::new(alloc);
     for edition in staying {

@@ -63,7 +63,8 @@ impl Follower {
             → IsNowhere (IsMissing self.old delta.closed.items)
             × IsFirst (IsDouble self.old delta.closed.items delta.opened.items) at }
         ensures fits { OnOk result (CanTake self.old delta.closed.items delta.opened.items) }
-        ensures taken { OnOk result (IsTaken self.old delta.closed.items delta.opened.items self.new) }
+        ensures taken { OnOk result (IsTaken self.old delta.closed.items delta.opened.items
+            self.new) }
         ensures kept { OnErr result (self.new ≡ self.old) }
     {
         let Delta { closed, opened } = delta;
@@ -85,8 +86,10 @@ fn next_of(
     opened: Vec<Edition>,
 ) -> Result<Vec<Edition>, FollowRefusal>
     requires { AreHeld held.now }
-    ensures missing { (at : ℕ) → result ≡ Err (FollowRefusal.Missing at) → IsFirst (IsMissing held.now closed.now) at }
-    ensures double { (at : ℕ) → result ≡ Err (FollowRefusal.Double at) → IsNowhere (IsMissing held.now closed.now)
+    ensures missing { (at : ℕ) → result ≡ Err (FollowRefusal.Missing at)
+        → IsFirst (IsMissing held.now closed.now) at }
+    ensures double { (at : ℕ) → result ≡ Err (FollowRefusal.Double at)
+        → IsNowhere (IsMissing held.now closed.now)
         × IsFirst (IsDouble held.now closed.now opened.items) at }
     ensures fits { OnOk result (CanTake held.now closed.now opened.items) }
     ensures taken { IfOk result (λ next. IsTaken held.now closed.now opened.items next.items) }

@@ -46,7 +46,8 @@ pub fn marked(
 ) -> Result<Result<Vec<bool>, usize>, Memory>
     requires { IsTrue (is_ascending edition_cmp held.now) }
     ensures { IfOk result (λ found. MatchResult found
-        (λ marks. IsNowhere (IsMissing held.now closed.now) × AreMarked held.now closed.now marks.items)
+        (λ marks. IsNowhere (IsMissing held.now closed.now)
+        × AreMarked held.now closed.now marks.items)
         (λ at. IsFirst (IsMissing held.now closed.now) at)) }
 {
     let mut marks = vec![in alloc; false; held.len()]?;
@@ -63,10 +64,12 @@ pub fn marked(
 fn free_place(held: &[Edition], marks: &[bool], edition: &Edition) -> Option<usize>
     requires ascending { IsTrue (is_ascending edition_cmp held.now) }
     requires marks { length marks.now ≡ length held.now }
-    ensures found { IfSome result (λ place. (slice_get held.now place ≡ Some edition.now) × (place < length marks.now)
+    ensures found { IfSome result (λ place. (slice_get held.now place ≡ Some edition.now)
+        × (place < length marks.now)
         × (slice_index_or marks.now place false ≡ false)) }
     ensures none { IfNone result ((Contains held.now edition.now → ⊥)
-        ⊎ ((place : ℕ) × (slice_get held.now place ≡ Some edition.now) × (slice_index_or marks.now place false ≡ true))) }
+        ⊎ ((place : ℕ) × (slice_get held.now place ≡ Some edition.now)
+        × (slice_index_or marks.now place false ≡ true))) }
 {
     let place = place_of(held, edition)?;
     if marks[place] { None } else { Some(place) }
@@ -76,7 +79,8 @@ fn free_place(held: &[Edition], marks: &[bool], edition: &Edition) -> Option<usi
 pub fn unmarked(alloc: Global, held: &[Edition], marks: &[bool]) -> Result<Vec<Edition>, Memory>
     requires ascending { IsTrue (is_ascending edition_cmp held.now) }
     requires marks { length marks.now ≡ length held.now }
-    ensures { IfOk result (λ left. (closed : List EditionModel) → AreMarked held.now closed marks.now
+    ensures { IfOk result (λ left. (closed : List EditionModel)
+        → AreMarked held.now closed marks.now
         → AreOnlyIn held.now closed left.items) }
 {
     let mut left = Vec::new(alloc);

@@ -41,7 +41,8 @@ fn name_contributors(
     edition: &Edition,
 ) -> Result<(), Memory>
     ensures { OnOk result ((q : IdModel) → get id_cmp names.new q
-        ≡ (if has id_cmp edition.now.content.contributors q then Some (least edition.now) else get id_cmp names.old q)) }
+        ≡ (if has id_cmp edition.now.content.contributors q then Some (least edition.now) else get
+        id_cmp names.old q)) }
 {
     let ids = edition.content().contributors.as_slice();
     for id in ids {
@@ -113,7 +114,8 @@ fn add_edition(
     edition: &Edition,
 ) -> Result<(), Memory>
     ensures { OnOk result (lines.new.items ≡ lines.old.items
-        ++ edition_lines words.now.head.now words.now.moved.now words.now.alone.now (get id_cmp names.now) edition.now) }
+        ++ edition_lines words.now.head.now words.now.moved.now words.now.alone.now
+        (get id_cmp names.now) edition.now) }
 {
     lines.push(head_line(alloc, words.head, edition.least())?)?;
     let ids = edition.content().contributors.as_slice();
@@ -132,7 +134,8 @@ fn add_side(
     editions: &[Edition],
 ) -> Result<(), Memory>
     ensures { OnOk result (lines.new.items ≡ lines.old.items
-        ++ flat_map (edition_lines words.now.head.now words.now.moved.now words.now.alone.now (get id_cmp names.now)) editions.now) }
+        ++ flat_map (edition_lines words.now.head.now words.now.moved.now words.now.alone.now
+        (get id_cmp names.now)) editions.now) }
 {
     for edition in editions {
         add_edition(alloc, lines, words, names, edition)?;
@@ -146,7 +149,8 @@ fn add_side(
 ///
 /// The delta is that of two lists of editions as a follower holds them. Returns `Memory` if allocation fails.
 pub fn notice(alloc: Global, delta: &Delta) -> Result<Vec<Bytes>, Memory>
-    ensures { IfOk result (λ lines. (before after : List EditionModel) → AreHeld before → AreHeld after
+    ensures { IfOk result (λ lines. (before after : List EditionModel) → AreHeld before
+        → AreHeld after
         → IsDelta before after delta.now.closed.items delta.now.opened.items
         → lines.items ≡ notice_lines before after delta.now.closed.items delta.now.opened.items) }
 {

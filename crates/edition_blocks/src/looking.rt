@@ -32,8 +32,10 @@ pub fn under_numbers<'a>(
 
 /// The editions in order of their least contributors. Returns `Memory` if allocation fails.
 pub fn by_least(mut editions: Vec<&Edition>) -> Result<Vec<&Edition>, Memory>
-    ensures same { IfOk result (λ sorted. IsPermutation (map (λ e. e.now) editions.entry.items) (map (λ e. e.now) sorted.items)) }
-    ensures ascending { IfOk result (λ sorted. IsSorted edition_cmp (map (λ e. e.now) sorted.items)) }
+    ensures same { IfOk result (λ sorted. IsPermutation (map (λ e. e.now) editions.entry.items)
+        (map (λ e. e.now) sorted.items)) }
+    ensures ascending { IfOk result (λ sorted. IsSorted edition_cmp
+        (map (λ e. e.now) sorted.items)) }
 {
     editions.sort_by(
         |a: &&Edition, b: &&Edition| -> Ordering

@@ -59,7 +59,8 @@ fn only_in(
 ) -> Result<Vec<Edition>, Memory>
     requires own { IsTrue (is_ascending edition_cmp (map (λ e. e.now) editions.now)) }
     requires others { IsTrue (is_ascending edition_cmp (map (λ e. e.now) others.now)) }
-    ensures { IfOk result (λ found. AreOnlyIn (map (λ e. e.now) editions.now) (map (λ e. e.now) others.now) found.items) }
+    ensures { IfOk result (λ found. AreOnlyIn (map (λ e. e.now) editions.now)
+        (map (λ e. e.now) others.now) found.items) }
 {
     let mut found = Vec::new(alloc);
     for edition in editions {
@@ -80,9 +81,11 @@ pub fn delta_of(
     change: &Change<Edition>,
 ) -> Result<Delta, Memory>
     requires apart { AreApart edition_match (values_of (blocks_in blocks.now.blocks)) }
-    requires fits { Fits edition_match blocks.now.blocks change.now.closed.items change.now.opened.items }
+    requires fits { Fits edition_match blocks.now.blocks change.now.closed.items
+        change.now.opened.items }
     ensures { IfOk result (λ delta. IsDelta (values_of (blocks_in blocks.now.blocks))
-        (view_of blocks.now.blocks change.now.closed.items change.now.opened.items) delta.closed.items delta.opened.items) }
+        (view_of blocks.now.blocks change.now.closed.items change.now.opened.items)
+        delta.closed.items delta.opened.items) }
 {
     let closing = under_numbers(alloc, blocks, change.closed.as_slice())?;
     let closing = by_least(closing)?;

@@ -51,7 +51,8 @@ impl<K: Eq + Hash + Drop> Postings<K> {
     pub fn make_room(&mut self, alloc: Global, keys: Vec<K>) -> Result<(), Memory>
         ensures numbers { (k : K) → numbers_of K.eq self.new k ≡ numbers_of K.eq self.old k }
         ensures kept { (k : K) → spare_of K.eq self.old k ≤ spare_of K.eq self.new k }
-        ensures room { OnOk result ((k : K) → count_by (K.eq k) keys.items ≤ spare_of K.eq self.new k) }
+        ensures room { OnOk result ((k : K) → count_by (K.eq k) keys.items
+            ≤ spare_of K.eq self.new k) }
     {
         for key in keys {
             self.make_room_once(alloc, key)?;
@@ -63,7 +64,8 @@ impl<K: Eq + Hash + Drop> Postings<K> {
     fn make_room_once(&mut self, alloc: Global, key: K) -> Result<(), Memory>
         ensures numbers { (k : K) → numbers_of K.eq self.new k ≡ numbers_of K.eq self.old k }
         ensures kept { (k : K) → spare_of K.eq self.old k ≤ spare_of K.eq self.new k }
-        ensures room { OnOk result ((k : K) → spare_of K.eq self.old k + (if K.eq k key then 1 else 0)
+        ensures room { OnOk result ((k : K) → spare_of K.eq self.old k +
+            (if K.eq k key then 1 else 0)
             ≤ spare_of K.eq self.new k) }
     {
         match self.rows.get_mut(&key) {
@@ -79,9 +81,11 @@ impl<K: Eq + Hash + Drop> Postings<K> {
     pub fn add(&mut self, key: &K, number: u64)
         requires spare { 0 < spare_of K.eq self.old key.now }
         requires absent { Contains (numbers_of K.eq self.old key.now) number → ⊥ }
-        ensures numbers { Gains (numbers_of K.eq self.old key.now) (numbers_of K.eq self.new key.now) number }
+        ensures numbers { Gains (numbers_of K.eq self.old key.now)
+            (numbers_of K.eq self.new key.now) number }
         ensures used { spare_of K.eq self.new key.now + 1 ≡ spare_of K.eq self.old key.now }
-        ensures others { (k : K) → K.eq key.now k ≡ false → posting_of K.eq self.new k ≡ posting_of K.eq self.old k }
+        ensures others { (k : K) → K.eq key.now k ≡ false
+            → posting_of K.eq self.new k ≡ posting_of K.eq self.old k }
     {
         if let Some(row) = self.rows.get_mut(key) {
             row.add(number);
@@ -91,9 +95,11 @@ impl<K: Eq + Hash + Drop> Postings<K> {
     /// Takes a number from under the key, whose spare stays. What stands under all other keys stays. Takes no memory.
     pub fn remove(&mut self, key: &K, number: u64)
         requires { Contains (numbers_of K.eq self.old key.now) number }
-        ensures numbers { Loses (numbers_of K.eq self.old key.now) (numbers_of K.eq self.new key.now) number }
+        ensures numbers { Loses (numbers_of K.eq self.old key.now)
+            (numbers_of K.eq self.new key.now) number }
         ensures spare { spare_of K.eq self.new key.now ≡ spare_of K.eq self.old key.now }
-        ensures others { (k : K) → K.eq key.now k ≡ false → posting_of K.eq self.new k ≡ posting_of K.eq self.old k }
+        ensures others { (k : K) → K.eq key.now k ≡ false
+            → posting_of K.eq self.new k ≡ posting_of K.eq self.old k }
     {
         if let Some(row) = self.rows.get_mut(key) {
             row.remove(number);

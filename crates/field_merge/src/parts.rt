@@ -70,7 +70,8 @@ fn fill(
     rank: &Rank,
     field: &Field,
 ) -> Result<(), Memory>
-    ensures { OnOk result (place.new ≡ option_or place.old (if fits then Some (slot rank.now field.now) else None)) }
+    ensures { OnOk result (place.new ≡ option_or place.old
+        (if fits then Some (slot rank.now field.now) else None)) }
 {
     if fits && place.is_none() {
         *place = Some(Slot {

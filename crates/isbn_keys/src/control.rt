@@ -93,7 +93,9 @@ fn without_prefix(number: &[u8]) -> &[u8]
 
 /// What follows the prefix, where that is digits alone.
 fn after_prefix<'a>(number: &'a [u8], prefix: &[u8]) -> Option<&'a [u8]>
-    ensures { MatchOption result (is_prefixed prefix.now number.now ≡ false) (λ rest. (is_prefixed prefix.now number.now ≡ true) × (rest.now ≡ drop (length prefix.now) number.now)) }
+    ensures { MatchOption result (is_prefixed prefix.now number.now ≡ false)
+        (λ rest. (is_prefixed prefix.now number.now ≡ true)
+        × (rest.now ≡ drop (length prefix.now) number.now)) }
 {
     match number.strip_prefix(prefix) {
         Some(rest) if all_digits(rest) => Some(rest),

@@ -34,7 +34,8 @@ pub fn isbn(text: &[u8]) -> Option<[u8; 13]>
 
 /// The characters but the hyphens, and how many they are, where they are no more than a key has.
 fn without_hyphens(part: &[u8]) -> Option<([u8; 13], usize)>
-    ensures { MatchOption result (13 < length (without_hyphens part.now)) (λ kept. (kept.1 ≤ 13) × (take kept.1 kept.0 ≡ without_hyphens part.now)) }
+    ensures { MatchOption result (13 < length (without_hyphens part.now))
+        (λ kept. (kept.1 ≤ 13) × (take kept.1 kept.0 ≡ without_hyphens part.now)) }
 {
     let mut characters = [0; KEY_LENGTH];
     let mut len = 0;

@@ -40,7 +40,8 @@ fn with_capital(characters: [u8; 8]) -> [u8; 8]
 
 /// The characters but a hyphen after the fourth, where that leaves as many as a key has.
 fn without_hyphen(part: &[u8]) -> Option<[u8; 8]>
-    ensures { MatchOption result (length (without_hyphen part.now) ≢ 8) (λ characters. characters ≡ without_hyphen part.now) }
+    ensures { MatchOption result (length (without_hyphen part.now) ≢ 8)
+        (λ characters. characters ≡ without_hyphen part.now) }
 {
     let mut characters = [0; KEY_LENGTH];
     if part.len() == KEY_LENGTH + 1 && part[4] == b'-' {

@@ -67,7 +67,10 @@ fn number_end(text: &[u8]) -> usize
 
 /// What stands before and after the first byte of this value, where there is one.
 pub(crate) fn cut_at(text: &[u8], byte: u8) -> Option<(&[u8], &[u8])>
-    ensures { MatchOption result (list_any (λ b. b == byte) text.now ≡ false) (λ parts. (list_any (λ b. b == byte) text.now ≡ true) × (parts.0.now ≡ before_first (λ b. b == byte) text.now) × (parts.1.now ≡ after_first (λ b. b == byte) text.now)) }
+    ensures { MatchOption result (list_any (λ b. b == byte) text.now ≡ false)
+        (λ parts. (list_any (λ b. b == byte) text.now ≡ true)
+        × (parts.0.now ≡ before_first (λ b. b == byte) text.now)
+        × (parts.1.now ≡ after_first (λ b. b == byte) text.now)) }
 {
     let place = place_of(text, byte);
     if place == text.len() {

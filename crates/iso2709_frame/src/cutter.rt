@@ -86,8 +86,10 @@ fn gather(held: &mut Vec<u8>, overfull: bool, part: &[u8]) -> bool
     requires front { skip_breaks held.old.items ≡ held.old.items }
     ensures room { 99999 ≤ vec_capacity held.new }
     ensures size { vec_len held.new ≤ 99999 }
-    ensures overfull { result ≡ (overfull || nat_lt 99999 (length (skip_breaks (held.old.items ++ part.now)))) }
-    ensures held { held.new.items ≡ (if result then [] else skip_breaks (held.old.items ++ part.now)) }
+    ensures overfull { result ≡ (overfull || nat_lt 99999
+        (length (skip_breaks (held.old.items ++ part.now)))) }
+    ensures held { held.new.items ≡ (if result then [] else skip_breaks
+        (held.old.items ++ part.now)) }
 {
     if overfull {
         held.clear();
@@ -110,7 +112,8 @@ fn resumed(held: &mut Vec<u8>, phase: Phase) -> bool
     requires gathered { IsGathered phase held.old.items }
     ensures room { 99999 ≤ vec_capacity held.new }
     ensures size { vec_len held.new ≤ 99999 }
-    ensures pending { pending_of phase held.old.items ≡ (if result then too_long else held.new.items) }
+    ensures pending { pending_of phase held.old.items
+        ≡ (if result then too_long else held.new.items) }
     ensures open_text { list_any is_terminator held.new.items ≡ false }
     ensures front { skip_breaks held.new.items ≡ held.new.items }
 {
@@ -127,7 +130,8 @@ fn resumed(held: &mut Vec<u8>, phase: Phase) -> bool
 /// Whether bytes of a frame are left where the stream ends.
 fn is_left(held: &[u8], phase: Phase) -> bool
     requires { IsGathered phase held.now }
-    ensures { frames (pending_of phase held.now) ≡ told (if result then Some Cut.Truncated else None) [] }
+    ensures { frames (pending_of phase held.now)
+        ≡ told (if result then Some Cut.Truncated else None) [] }
 {
     match phase {
         Phase::Gathering => !held.is_empty(),
@@ -165,7 +169,8 @@ impl Cutter {
     pub fn feed(&mut self, piece: &[u8]) -> (usize, Option<Cut>)
         // Whatever follows: the frames of what waited, the piece and that, are the one told and those of what is left.
         ensures frames { (more : List ℕ) → frames (self.old.pending ++ (piece.now ++ more))
-            ≡ told result.1 self.new.frame ++ frames (self.new.pending ++ (drop result.0 piece.now ++ more)) }
+            ≡ told result.1 self.new.frame ++ frames (self.new.pending
+            ++ (drop result.0 piece.now ++ more)) }
         ensures taken { result.0 ≡ length (first_piece piece.now) }
         ensures within { result.0 ≤ length piece.now }
         ensures some { 0 < length piece.now → 0 < result.0 }

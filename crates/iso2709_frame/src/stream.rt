@@ -16,7 +16,8 @@ fn add_cuts(
     piece: &[u8],
     cuts: &mut Vec<(Cut, Bytes)>,
 ) -> Result<(), Memory>
-    ensures { OnOk result ((more : List ℕ) → cuts.old.items ++ frames (cutter.old.pending ++ (piece.now ++ more))
+    ensures { OnOk result ((more : List ℕ) → cuts.old.items
+        ++ frames (cutter.old.pending ++ (piece.now ++ more))
         ≡ cuts.new.items ++ frames (cutter.new.pending ++ more)) }
 {
     let mut rest = piece;

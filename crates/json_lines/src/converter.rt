@@ -38,9 +38,11 @@ impl Converter {
     /// Judges the line that is held, and counts it.
     fn judge_begun(&mut self, alloc: Global) -> Result<(), Memory>
         requires { self.old.findings.lines < u64.MAX }
-        ensures counted { OnOk result ((begun : List ℕ) (all : List Ended) → Holds self.old.begun.is_over self.old.begun.bytes.items begun
+        ensures counted { OnOk result ((begun : List ℕ) (all : List Ended)
+            → Holds self.old.begun.is_over self.old.begun.bytes.items begun
             → AreCounted all self.old.findings
-            → (ended : Ended) × IsOutcome begun ended × AreCounted (all ++ ended ∷ []) self.new.findings) }
+            → (ended : Ended) × IsOutcome begun ended
+            × AreCounted (all ++ ended ∷ []) self.new.findings) }
         ensures lines { OnOk result (self.new.findings.lines ≡ self.old.findings.lines + 1) }
     {
         let outcome = judge(alloc, self.begun.line(), &mut self.frame)?;
@@ -67,8 +69,10 @@ impl Converter {
     /// Returns `Memory` if allocation fails; nothing is said of what was taken then.
     pub fn take(&mut self, alloc: Global, piece: &[u8]) -> Result<(), Memory>
         requires { self.old.findings.lines + length piece.now < u64.MAX }
-        ensures taken { OnOk result ((text : List ℕ) → HasTaken text self.old → HasTaken (text ++ piece.now) self.new) }
-        ensures few { OnOk result (self.new.findings.lines ≤ self.old.findings.lines + length piece.now) }
+        ensures taken { OnOk result ((text : List ℕ) → HasTaken text self.old
+            → HasTaken (text ++ piece.now) self.new) }
+        ensures few { OnOk result (self.new.findings.lines
+            ≤ self.old.findings.lines + length piece.now) }
     {
         let mut rest = piece;
         while let Some(at) = memchr(b'\n', rest) {
@@ -85,7 +89,8 @@ impl Converter {
     /// Returns `Memory` if allocation fails.
     pub fn finish(mut self, alloc: Global) -> Result<Findings, Memory>
         requires { self.findings.lines < u64.MAX }
-        ensures { IfOk result (λ found. (text : List ℕ) → HasTaken text self → IsConverted text found) }
+        ensures { IfOk result (λ found. (text : List ℕ) → HasTaken text self
+            → IsConverted text found) }
     {
         self.judge_begun(alloc)?;
         Ok(self.findings)

@@ -55,7 +55,8 @@ impl Gathered {
     /// Writes the whole text. Where a write fails, a prefix of it was written. Takes no memory.
     pub fn put<O: Sink>(&self, out: &mut O) -> Result<(), Failed>
         ensures all { OnOk result (Appends (O.written out.old) (O.written out.new) self.now) }
-        ensures front { OnErr result (AppendsFront (O.written out.old) (O.written out.new) self.now) }
+        ensures front { OnErr result (AppendsFront (O.written out.old) (O.written out.new)
+            self.now) }
         ensures cause { HasCause (O.faults out.old) (O.faults out.new) result }
     {
         put_pieces(self.full.as_slice(), out)?;
@@ -76,8 +77,10 @@ fn next_piece(full: &mut Vec<Vec<u8>>, last: &mut Vec<u8>, size: usize) -> Resul
 
 /// Writes the pieces, one after the other.
 fn put_pieces<O: Sink>(pieces: &[Vec<u8>], out: &mut O) -> Result<(), Failed>
-    ensures all { OnOk result (Appends (O.written out.old) (O.written out.new) (flat_map (λ piece. piece.items) pieces.now)) }
-    ensures front { OnErr result (AppendsFront (O.written out.old) (O.written out.new) (flat_map (λ piece. piece.items) pieces.now)) }
+    ensures all { OnOk result (Appends (O.written out.old) (O.written out.new)
+        (flat_map (λ piece. piece.items) pieces.now)) }
+    ensures front { OnErr result (AppendsFront (O.written out.old) (O.written out.new)
+        (flat_map (λ piece. piece.items) pieces.now)) }
     ensures cause { HasCause (O.faults out.old) (O.faults out.new) result }
 {
     for piece in pieces {

@@ -20,8 +20,10 @@ use union_base::memory::Memory;
 /// What comes of a line, by the record that it stands for and by the record's frame, which is emptied where it is refused.
 fn judge_frame(alloc: Global, frame: &mut Vec<u8>) -> Result<Outcome, Memory>
     requires { IsWhole frame.old.items }
-    ensures { IfOk result (λ outcome. (line : List ℕ) (r : RecordModel) → line ≢ [] → IsRecordOf line r
-        → too_long r ≡ None → frame.old.items ≡ spelling r → IsOutcomeWithin line outcome frame.new.items) }
+    ensures { IfOk result (λ outcome. (line : List ℕ) (r : RecordModel) → line ≢ []
+        → IsRecordOf line r
+        → too_long r ≡ None → frame.old.items ≡ spelling r
+        → IsOutcomeWithin line outcome frame.new.items) }
 {
     match accepted_status(alloc, Cut::Whole, frame.as_slice()) {
         Ok(_) => Ok(Outcome::Written),

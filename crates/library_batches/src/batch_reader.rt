@@ -78,8 +78,10 @@ impl BatchReader {
         ensures name { S.name source.new ≡ S.name source.old }
         ensures prefer { self.new.prefer ≡ self.old.prefer }
         ensures library { self.new.library ≡ self.old.library }
-        ensures answers { BlockAnswers result self.old (S.left source.old) self.new (S.left source.new) }
-        ensures failed { result ≡ Err Stop.Failed → Rose (S.faults source.old) (S.faults source.new) }
+        ensures answers { BlockAnswers result self.old (S.left source.old) self.new
+            (S.left source.new) }
+        ensures failed { result ≡ Err Stop.Failed
+            → Rose (S.faults source.old) (S.faults source.new) }
         ensures calm { result ≢ Err Stop.Failed → S.faults source.new ≡ S.faults source.old }
     {
         let mut ops = Vec::new(alloc);
@@ -119,12 +121,16 @@ impl BatchReader {
         ensures name { S.name source.new ≡ S.name source.old }
         ensures prefer { self.new.prefer ≡ self.old.prefer }
         ensures library { self.new.library ≡ self.old.library }
-        ensures answers { AnswersBatch result self.old (S.left source.old) self.new (S.left source.new) }
-        ensures failed { result ≡ Err Stop.Failed → Rose (S.faults source.old) (S.faults source.new) }
+        ensures answers { AnswersBatch result self.old (S.left source.old) self.new
+            (S.left source.new) }
+        ensures failed { result ≡ Err Stop.Failed
+            → Rose (S.faults source.old) (S.faults source.new) }
         ensures calm { result ≢ Err Stop.Failed → S.faults source.new ≡ S.faults source.old }
-        ensures own { IfOk result (λ next. IfSome next (λ batch. batch.library ≡ self.old.library)) }
+        ensures own { IfOk result (λ next. IfSome next
+            (λ batch. batch.library ≡ self.old.library)) }
         // A measure for a caller's loop, whether the source tells its bytes or not.
-        ensures fewer { IfOk result (λ next. OnSome next (most_ahead self.new.stream < most_ahead self.old.stream)) }
+        ensures fewer { IfOk result (λ next. OnSome next
+            (most_ahead self.new.stream < most_ahead self.old.stream)) }
     {
         loop {
             let Block { ops, ended } = self.read_block(alloc, source)?;

@@ -38,8 +38,10 @@ pub fn check_next(
     requires whole { cut ≡ Cut.Whole → IsWhole frame.now }
     ensures { OnOk result ((start : ℕ) (taken : List Frame) (before : List RefusedModel)
         → origin.now.number ≡ start + length taken
-        → IsChecked origin.now.prefer.now origin.now.library.now start taken ops.old.items before refused.old.items
-        → IsChecked origin.now.prefer.now origin.now.library.now start (taken ++ (cut, frame.now) ∷ [])
+        → IsChecked origin.now.prefer.now origin.now.library.now start taken ops.old.items before
+        refused.old.items
+        → IsChecked origin.now.prefer.now origin.now.library.now start
+        (taken ++ (cut, frame.now) ∷ [])
         ops.new.items before refused.new.items) }
 {
     match check_frame(alloc, cut, frame) {

@@ -31,7 +31,8 @@ impl OutcomeCounts {
     /// Counts one more outcome. Takes no memory.
     fn count_one(&mut self, outcome: Outcome)
         requires { counted self.old + 1 ≤ u64.MAX }
-        ensures more { (found : List OutcomeModel) → AreCounted found self.old → AreCounted (found ++ outcome ∷ []) self.new }
+        ensures more { (found : List OutcomeModel) → AreCounted found self.old
+            → AreCounted (found ++ outcome ∷ []) self.new }
         ensures total { counted self.new ≡ counted self.old + 1 }
     {
         match outcome {
@@ -45,7 +46,8 @@ impl OutcomeCounts {
     /// Counts these outcomes too, of which there are so few that the counts fit together. Takes no memory.
     pub fn count(&mut self, outcomes: &[Outcome])
         requires { counted self.old + length outcomes.now ≤ u64.MAX }
-        ensures more { (found : List OutcomeModel) → AreCounted found self.old → AreCounted (found ++ outcomes.now) self.new }
+        ensures more { (found : List OutcomeModel) → AreCounted found self.old
+            → AreCounted (found ++ outcomes.now) self.new }
         ensures total { counted self.new ≡ counted self.old + length outcomes.now }
     {
         for outcome in outcomes {

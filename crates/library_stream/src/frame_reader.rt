@@ -64,7 +64,8 @@ fn read_within<S: Source>(piece: &mut Piece, room: u64, source: &mut S) -> Resul
     ensures given { MatchResult result
         (λ course. ReadsWithin (S.left source.old) room (S.left source.new) piece.new course)
         (λ _. Keeps (S.left source.old) (S.left source.new)) }
-    ensures bound { MatchResult result (λ course. length piece.new + most_on course ≤ suc room) (λ _. piece.new ≡ []) }
+    ensures bound { MatchResult result (λ course. length piece.new + most_on course ≤ suc room)
+        (λ _. piece.new ≡ []) }
     ensures fewer { IfOk result (λ course. most_on course < suc room) }
     ensures end { result ≡ Ok Course.Ended → piece.new ≡ [] }
     ensures cause { HasCause (S.faults source.old) (S.faults source.new) result }
@@ -89,12 +90,15 @@ fn step<S: Source>(
     source: &mut S,
 ) -> (Course, Option<Next>)
     ensures name { S.name source.new ≡ S.name source.old }
-    ensures answers { Steps result.1 (streaming cutter.old piece.old (Course.Open room)) (S.left source.old)
+    ensures answers { Steps result.1 (streaming cutter.old piece.old (Course.Open room))
+        (S.left source.old)
         (streaming cutter.new piece.new result.0) (S.left source.new) }
     ensures faults { MatchOption result.1 (S.faults source.new ≡ S.faults source.old)
         (λ answer. CountsFault answer (S.faults source.old) (S.faults source.new)) }
-    ensures fewer { MatchOption result.1 (length piece.new + most_on result.0 ≤ length piece.old + suc room)
-        (λ answer. Fewer answer (length piece.old + suc room) (length piece.new + most_on result.0)) }
+    ensures fewer { MatchOption result.1 (length piece.new + most_on result.0
+        ≤ length piece.old + suc room)
+        (λ answer. Fewer answer (length piece.old + suc room)
+        (length piece.new + most_on result.0)) }
     ensures further { result.1 ≡ None → most_on result.0 < suc room }
     ensures lends { IfSome result.1 (λ answer. Lends answer cutter.new.frame) }
 {
@@ -122,7 +126,8 @@ fn last_answer(cutter: &mut Cutter) -> Next
 
 /// The next answer on a source that passed the limit.
 fn passed_answer(cutter: &mut Cutter, piece: &mut Piece) -> Next
-    ensures answers { (left : Option (List ℕ)) → AnswersFrame result (streaming cutter.old piece.old Course.Passed) left
+    ensures answers { (left : Option (List ℕ))
+        → AnswersFrame result (streaming cutter.old piece.old Course.Passed) left
         (streaming cutter.new piece.new Course.Passed) left }
     ensures faults { (count : ℕ) → CountsFault result count count }
     ensures fewer { Fewer result (length piece.old) (length piece.new) }
@@ -144,10 +149,12 @@ fn next_answer<S: Source>(
     source: &mut S,
 ) -> (Course, Next)
     ensures name { S.name source.new ≡ S.name source.old }
-    ensures answers { AnswersFrame result.1 (streaming cutter.old piece.old course) (S.left source.old)
+    ensures answers { AnswersFrame result.1 (streaming cutter.old piece.old course)
+        (S.left source.old)
         (streaming cutter.new piece.new result.0) (S.left source.new) }
     ensures faults { CountsFault result.1 (S.faults source.old) (S.faults source.new) }
-    ensures fewer { Fewer result.1 (length piece.old + most_on course) (length piece.new + most_on result.0) }
+    ensures fewer { Fewer result.1 (length piece.old + most_on course)
+        (length piece.new + most_on result.0) }
     ensures lends { Lends result.1 cutter.new.frame }
     ensures ended { course ≡ Course.Ended → result.1 ≡ Next.End }
     ensures stopped { course ≡ Course.Passed → piece.old ≡ [] → result.1 ≡ Next.TooLong }
@@ -190,7 +197,8 @@ impl FrameReader {
     /// read gives none. Takes no memory.
     pub fn next<S: Source>(&mut self, source: &mut S) -> Next
         ensures name { S.name source.new ≡ S.name source.old }
-        ensures answers { AnswersFrame result self.old (S.left source.old) self.new (S.left source.new) }
+        ensures answers { AnswersFrame result self.old (S.left source.old) self.new
+            (S.left source.new) }
         ensures faults { CountsFault result (S.faults source.old) (S.faults source.new) }
         // A measure for a caller's loop, whether the source tells its bytes or not.
         ensures fewer { Fewer result (most_ahead self.old) (most_ahead self.new) }

@@ -28,7 +28,8 @@ fn reply_all<R: Wait>(
     ensures desk { IsPassOf pass.new desk.now }
     ensures same { IsSamePass pass.old pass.new }
     ensures knows { Knows (view pass.old) (view pass.new) }
-    ensures replied { Replied (view pass.old).setting (view pass.new).seen (view pass.old).floor questions.now replies.new.items }
+    ensures replied { Replied (view pass.old).setting (view pass.new).seen (view pass.old).floor
+        questions.now replies.new.items }
     ensures all { OnOk result (length replies.new.items ≡ length questions.now) }
 {
     for question in questions {

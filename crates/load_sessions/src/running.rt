@@ -112,7 +112,8 @@ fn run_in_order<R: Threads + Wait + Sync, S: Source, G: Gate>(
     sessions: &mut [Session<S>],
 )
     requires { All (IsReady desk.now.board.shared.table_id) sessions.old }
-    ensures { RunsEach S.name S.left S.faults desk.now.board.shared.table_id sessions.old sessions.new }
+    ensures { RunsEach S.name S.left S.faults desk.now.board.shared.table_id sessions.old
+        sessions.new }
 {
     for session in sessions.iter_mut() {
         run_session(rt, alloc, desk, gate, session, 1);
@@ -142,12 +143,15 @@ fn run_at_once<R: Threads + Wait + Sync, S: Source + Send, G: Gate>(
     requires some { 1 ≤ workers }
     requires most { workers ≤ 64 }
     requires ready { All (IsReady desk.now.board.shared.table_id) sessions.old }
-    ensures { RunsEach S.name S.left S.faults desk.now.board.shared.table_id sessions.old sessions.new }
+    ensures { RunsEach S.name S.left S.faults desk.now.board.shared.table_id sessions.old
+        sessions.new }
 {
     let preparers = preparers(workers, sessions.len());
     let each = |_place: usize, session: &mut Session<S>|
-        requires { (1 ≤ preparers) × (preparers ≤ 64) × IsReady desk.now.board.shared.table_id session.now }
-        ensures { Runs S.name S.left S.faults desk.entry.now.board.shared.table_id session.entry.now session.exit.now }
+        requires { (1 ≤ preparers) × (preparers ≤ 64)
+            × IsReady desk.now.board.shared.table_id session.now }
+        ensures { Runs S.name S.left S.faults desk.entry.now.board.shared.table_id session.entry.now
+            session.exit.now }
     { run_session(rt, alloc, desk, gate, session, preparers) };
     thread::for_each_mut(rt, sessions, workers as usize, &each);
 }
@@ -164,7 +168,8 @@ fn run_alone<R: Threads + Wait + Sync, S: Source + Send, G: Gate>(
     requires some { 1 ≤ workers }
     requires most { workers ≤ 64 }
     requires ready { All (IsReady desk.now.board.shared.table_id) sessions.old }
-    ensures { RunsEach S.name S.left S.faults desk.now.board.shared.table_id sessions.old sessions.new }
+    ensures { RunsEach S.name S.left S.faults desk.now.board.shared.table_id sessions.old
+        sessions.new }
 {
     if workers == 1 {
         run_in_order(rt, alloc, desk, gate, sessions)
@@ -187,14 +192,17 @@ fn run_beside<R: Threads + Wait + Sync, S: Source + Send, G: Gate>(
     requires most { workers ≤ 64 }
     requires ready { All (IsReady desk.now.board.shared.table_id) sessions.old }
     requires asker { IsAsker desk.now.board.shared.table_id asker.old }
-    ensures sessions { RunsEach S.name S.left S.faults desk.now.board.shared.table_id sessions.old sessions.new }
+    ensures sessions { RunsEach S.name S.left S.faults desk.now.board.shared.table_id sessions.old
+        sessions.new }
     ensures asker { Asks desk.now.board.shared.table_id asker.old asker.new }
 {
     join_mut(
         rt,
         &mut || -> ()
-            requires { (1 ≤ workers) × (workers ≤ 64) × All (IsReady desk.now.board.shared.table_id) sessions.now }
-            ensures { RunsEach S.name S.left S.faults desk.entry.now.board.shared.table_id sessions.entry.now sessions.exit.now }
+            requires { (1 ≤ workers) × (workers ≤ 64)
+                × All (IsReady desk.now.board.shared.table_id) sessions.now }
+            ensures { RunsEach S.name S.left S.faults desk.entry.now.board.shared.table_id
+                sessions.entry.now sessions.exit.now }
         { run_at_once(rt, alloc, desk, gate, sessions, workers) },
         &mut || ask_all(rt, alloc, desk, asker),
     );
@@ -214,7 +222,8 @@ fn run_with_asker<R: Threads + Wait + Sync, S: Source + Send, G: Gate>(
     requires most { workers ≤ 64 }
     requires ready { All (IsReady desk.now.board.shared.table_id) sessions.old }
     requires asker { IsAsker desk.now.board.shared.table_id asker.old }
-    ensures sessions { RunsEach S.name S.left S.faults desk.now.board.shared.table_id sessions.old sessions.new }
+    ensures sessions { RunsEach S.name S.left S.faults desk.now.board.shared.table_id sessions.old
+        sessions.new }
     ensures asker { Asks desk.now.board.shared.table_id asker.old asker.new }
 {
     if workers == 1 {
@@ -247,7 +256,8 @@ pub fn run_sessions<R: Threads + Wait + Sync, S: Source + Send, G: Gate>(
     requires most { workers ≤ 64 }
     requires ready { All (IsReady desk.now.board.shared.table_id) sessions.old }
     requires asker { IsAskerIf desk.now.board.shared.table_id asker }
-    ensures sessions { RunsEach S.name S.left S.faults desk.now.board.shared.table_id sessions.old sessions.new }
+    ensures sessions { RunsEach S.name S.left S.faults desk.now.board.shared.table_id sessions.old
+        sessions.new }
     ensures asker { AsksIf desk.now.board.shared.table_id asker.entry asker.exit }
 {
     match asker {

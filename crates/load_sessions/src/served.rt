@@ -62,8 +62,10 @@ fn apply_by<L: Ledger>(
     requires some { 0 < L.parts }
     requires few { length catalogue.old.history < 2 ^ 63 }
     ensures names { catalogue.new.names ≡ catalogue.old.names }
-    ensures appended { OnOk result (catalogue.new.history ≡ catalogue.old.history ++ record { pass = number; batch = prepared } ∷ []) }
-    ensures outcomes { IfOk result (λ found. found.items ≡ outcomes prepared.library (current catalogue.old.history) prepared.ops) }
+    ensures appended { OnOk result (catalogue.new.history ≡ catalogue.old.history
+        ++ record { pass = number; batch = prepared } ∷ []) }
+    ensures outcomes { IfOk result (λ found. found.items
+        ≡ outcomes prepared.library (current catalogue.old.history) prepared.ops) }
     ensures kept { OnErr result (catalogue.new ≡ catalogue.old) }
     ensures few { length catalogue.new.history < 2 ^ 63 }
 {

@@ -74,7 +74,8 @@ pub(crate) fn turn_batches<R: Threads + Wait + Sync, S: Source, G: Gate>(
     requires limit { session.old.limit ≤ most_bytes }
     requires reader { reader.old ≡ begun session.old.prefer session.old.library session.old.limit }
     requires counts { AreCounted [] counts.old × (counted counts.old ≡ 0) }
-    ensures { Turns S.name S.left S.faults desk.now.board.shared.table_id session.old session.new reader.new counts.new result }
+    ensures { Turns S.name S.left S.faults desk.now.board.shared.table_id session.old session.new
+        reader.new counts.new result }
 {
     let mut turn: u64 = 0;
     loop {

@@ -78,7 +78,8 @@ fn decode_data(alloc: Global, entries: &[Entry], bytes: &[u8]) -> Result<Vec<Fie
     requires formed { list_all is_formed entries.now ≡ true }
     requires inner { ends_no_record bytes.now ≡ true }
     ensures { Answers result (data_failure bytes.now entries.now)
-        (λ fields. (tiling_failure bytes.now entries.now ≡ None) × AreEntriesOf bytes.now entries.now fields.items) }
+        (λ fields. (tiling_failure bytes.now entries.now ≡ None)
+        × AreEntriesOf bytes.now entries.now fields.items) }
 {
     match check_tiling(alloc, entries, bytes) {
         Ok(()) => check_fields(alloc, entries, bytes),
@@ -109,7 +110,8 @@ fn decode_parts(
 fn decode_behind(alloc: Global, frame: &[u8], front: &Front) -> Result<Record, DecodeRefusal>
     requires frame { IsFrame frame.now }
     requires front { IsFront (leader_of_frame frame.now) frame.now front.now.codes front.now.base }
-    ensures { Answers result (parts_failure (texts_of frame.now) (data_in frame.now)) (λ found. Spells frame.now found) }
+    ensures { Answers result (parts_failure (texts_of frame.now) (data_in frame.now))
+        (λ found. Spells frame.now found) }
 {
     let base = front.base;
     let parts = split_frame(frame, base);

@@ -43,7 +43,8 @@ fn failure_at(rule: EntryRule, directory: &[u8], before: usize, count: usize) ->
     requires few { before + count ≤ 9999 }
     requires some { 0 < count }
     requires rule { Err rule ≡ entry_of (take 12 directory.now) }
-    ensures { IsRefusal result (directory_failure_from (before + 1) (entry_texts count directory.now)) }
+    ensures { IsRefusal result (directory_failure_from (before + 1)
+        (entry_texts count directory.now)) }
 {
     match rule {
         EntryRule::Digits => DecodeRefusal::Rule {
@@ -72,7 +73,8 @@ pub fn check_directory(
 ) -> Result<Vec<Entry>, DecodeRefusal>
     requires size { length directory.now ≡ 12 * count }
     requires few { count ≤ 9999 }
-    ensures { Answers result (directory_failure (entry_texts count directory.now)) (λ entries. AreRead directory.now count entries.items) }
+    ensures { Answers result (directory_failure (entry_texts count directory.now))
+        (λ entries. AreRead directory.now count entries.items) }
 {
     let mut entries = Vec::with_capacity(alloc, count)?;
     let mut rest = directory;

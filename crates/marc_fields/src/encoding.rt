@@ -46,7 +46,8 @@ pub fn stored_size(body: &Body) -> usize
 
 /// How many bytes the fields have, at most one more than a frame may have; None where a field is too long.
 fn data_size(fields: &[Field]) -> Option<usize>
-    ensures { result ≡ (if list_all is_short fields.now then Some (min (length (flat_map stored fields.now)) 100000) else None) }
+    ensures { result ≡ (if list_all is_short fields.now then Some
+        (min (length (flat_map stored fields.now)) 100000) else None) }
 {
     let mut size = 0;
     for field in fields {
@@ -61,7 +62,8 @@ fn data_size(fields: &[Field]) -> Option<usize>
 
 /// The bytes of a frame with so many entries and so many bytes of data; None where they are more than a frame may have.
 fn counted_size(entries: usize, bytes: usize) -> Option<usize>
-    ensures { result ≡ (if nat_le (26 + 12 * entries + bytes) longest_frame then Some (26 + 12 * entries + bytes) else None) }
+    ensures { result ≡ (if nat_le (26 + 12 * entries + bytes) longest_frame then Some
+        (26 + 12 * entries + bytes) else None) }
 {
     if entries > LONGEST_FRAME || bytes > LONGEST_FRAME {
         return None;
@@ -107,7 +109,8 @@ fn append_entry(entry: &Entry, into: &mut Vec<u8>) -> Result<(), AllocError>
 fn append_entries(fields: &[Field], into: &mut Vec<u8>) -> Result<(), AllocError>
     requires short { IsTrue (list_all is_short fields.now) }
     requires few { length (flat_map stored fields.now) ≤ 99999 }
-    ensures { Appends result into.old.items into.new.items (flat_map entry_bytes (entries_from 0 fields.now)) }
+    ensures { Appends result into.old.items into.new.items
+        (flat_map entry_bytes (entries_from 0 fields.now)) }
 {
     let mut start = 0;
     for field in fields {

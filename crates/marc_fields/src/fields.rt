@@ -110,7 +110,8 @@ pub fn check_fields(
     requires tiles { list_all (is_tile bytes.now) entries.now ≡ true }
     requires formed { list_all is_formed entries.now ≡ true }
     requires inner { ends_no_record bytes.now ≡ true }
-    ensures { Answers result (shape_failure bytes.now entries.now) (λ fields. AreEntriesOf bytes.now entries.now fields.items) }
+    ensures { Answers result (shape_failure bytes.now entries.now)
+        (λ fields. AreEntriesOf bytes.now entries.now fields.items) }
 {
     match check_shapes(entries, bytes) {
         Ok(()) => Ok(read_fields(alloc, entries, bytes)?),

@@ -59,7 +59,8 @@ fn read_codes(leader: &[u8]) -> Result<LeaderCodes, DecodeRefusal>
     requires size { length leader.now ≡ 24 }
     requires length { are_digits (length_place leader.now) ≡ true }
     requires base { are_digits (base_place leader.now) ≡ true }
-    ensures { Answers result (fails LeaderCounts (misfit leader.now)) (λ codes. IsCounted leader.now codes) }
+    ensures { Answers result (fails LeaderCounts (misfit leader.now))
+        (λ codes. IsCounted leader.now codes) }
 {
     match Leader::read(leader) {
         Ok(found) => Ok(found.codes),
@@ -76,7 +77,8 @@ fn read_codes(leader: &[u8]) -> Result<LeaderCodes, DecodeRefusal>
 fn check_leader(leader: &[u8], frame: &[u8]) -> Result<Front, DecodeRefusal>
     requires size { length leader.now ≡ 24 }
     requires long { 26 ≤ length frame.now }
-    ensures { Answers result (leader_failure leader.now frame.now) (λ front. IsFront leader.now frame.now front.codes front.base) }
+    ensures { Answers result (leader_failure leader.now frame.now)
+        (λ front. IsFront leader.now frame.now front.codes front.base) }
 {
     let Some(size) = digits(&leader[..5]) else {
         return Err(DecodeRefusal::Rule {
@@ -105,7 +107,8 @@ fn check_leader(leader: &[u8], frame: &[u8]) -> Result<Front, DecodeRefusal>
 /// The leader's content, or the first of the rules on it that fails (ISO 2709, 'Record label'; MARC 21, 'Leader').
 /// Takes no memory.
 pub fn check_head(frame: &[u8]) -> Result<Front, DecodeRefusal>
-    ensures { Answers result (head_failure frame.now) (λ front. IsFront (leader_of_frame frame.now) frame.now front.codes front.base) }
+    ensures { Answers result (head_failure frame.now)
+        (λ front. IsFront (leader_of_frame frame.now) frame.now front.codes front.base) }
 {
     if frame.len() < SMALLEST_FRAME {
         return Err(DecodeRefusal::Rule {

@@ -22,7 +22,8 @@ struct FirstSubfield<'a> {
 /// The first subfield of bytes that begin with a delimiter; None where no code follows it.
 fn first_subfield(bytes: &[u8]) -> Option<FirstSubfield<'_>>
     requires { IsTrue (begins_with_delimiter bytes.now) }
-    ensures { MatchOption result (are_coded bytes.now ≡ false) (λ s. IsFirstSubfield bytes.now s.code s.text.now s.rest.now) }
+    ensures { MatchOption result (are_coded bytes.now ≡ false)
+        (λ s. IsFirstSubfield bytes.now s.code s.text.now s.rest.now) }
 {
     let [_, code, behind @ ..] = bytes else {
         return None;
@@ -73,7 +74,8 @@ struct Indicated<'a> {
 
 /// The indicators of a data field and the bytes after them; None where they are no indicators, or no delimiter follows.
 fn split_indicators(bytes: &[u8]) -> Option<Indicated<'_>>
-    ensures { MatchOption result (has_data_shape bytes.now ≡ false) (λ found. IsIndicated bytes.now found.ind1 found.ind2 found.rest.now) }
+    ensures { MatchOption result (has_data_shape bytes.now ≡ false)
+        (λ found. IsIndicated bytes.now found.ind1 found.ind2 found.rest.now) }
 {
     match bytes {
         [ind1, ind2, rest @ ..]

@@ -31,7 +31,8 @@ fn are_marked(marks: &[bool]) -> bool
 /// Whether the entry's range is a field of the data, and none of its bytes has an entry.
 fn is_free_tile(entry: &Entry, marks: &[bool], bytes: &[u8]) -> bool
     requires { length marks.now ≡ length bytes.now }
-    ensures { result ≡ (is_tile bytes.now entry.now && not (list_any is_marked (take entry.now.length (drop entry.now.start marks.now)))) }
+    ensures { result ≡ (is_tile bytes.now entry.now
+        && not (list_any is_marked (take entry.now.length (drop entry.now.start marks.now)))) }
 {
     let start = entry.start as usize;
     let size = entry.length as usize;
@@ -48,7 +49,8 @@ fn is_free_tile(entry: &Entry, marks: &[bool], bytes: &[u8]) -> bool
 /// Marks so many bytes from that one on.
 fn mark(marks: &mut [bool], start: usize, size: usize)
     requires { start + size ≤ length marks.old }
-    ensures { (k : ℕ) → slice_index_or marks.new k false ≡ (slice_index_or marks.old k false || (nat_le start k && nat_lt k (start + size))) }
+    ensures { (k : ℕ) → slice_index_or marks.new k false
+        ≡ (slice_index_or marks.old k false || (nat_le start k && nat_lt k (start + size))) }
 {
     for at in start..start + size {
         marks[at] = true;

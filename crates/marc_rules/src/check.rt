@@ -59,7 +59,8 @@ const TOO_LONG: Refusal = Refusal::Rule {
 fn check_shaped(status: u8, entries: &[Entry], bytes: &[u8]) -> Result<(), DecodeRefusal>
     requires few { length entries.now ≤ 9999 }
     requires tiles { list_all (is_tile bytes.now) entries.now ≡ true }
-    ensures { Answers result (or_then (shape_failure bytes.now entries.now) (number_failure status bytes.now entries.now))
+    ensures { Answers result (or_then (shape_failure bytes.now entries.now)
+        (number_failure status bytes.now entries.now))
         (λ _. shape_failure bytes.now entries.now ≡ None) }
 {
     match check_shapes(entries, bytes) {
@@ -73,7 +74,8 @@ fn check_tiled(status: u8, coding: u8, entries: &[Entry], bytes: &[u8]) -> Resul
     requires few { length entries.now ≤ 9999 }
     requires tiles { list_all (is_tile bytes.now) entries.now ≡ true }
     ensures { Answers result (or_then (content_failure status coding bytes.now entries.now)
-        (or_then (shape_failure bytes.now entries.now) (number_failure status bytes.now entries.now)))
+        (or_then (shape_failure bytes.now entries.now)
+        (number_failure status bytes.now entries.now)))
         (λ _. shape_failure bytes.now entries.now ≡ None) }
 {
     match check_content(status, coding, entries, bytes) {
@@ -92,7 +94,8 @@ fn check_entries(
 ) -> Result<(), DecodeRefusal>
     requires { length entries.now ≤ 9999 }
     ensures { Answers result (fields_failure status coding bytes.now entries.now)
-        (λ _. (tiling_failure bytes.now entries.now ≡ None) × (shape_failure bytes.now entries.now ≡ None)) }
+        (λ _. (tiling_failure bytes.now entries.now ≡ None)
+        × (shape_failure bytes.now entries.now ≡ None)) }
 {
     match check_tiling(alloc, entries, bytes) {
         Ok(()) => check_tiled(status, coding, entries, bytes),
@@ -111,7 +114,8 @@ fn check_record(
 ) -> Result<Vec<Entry>, DecodeRefusal>
     requires size { length directory.now ≡ 12 * count }
     requires few { count ≤ 9999 }
-    ensures { Answers result (record_failure status coding (entry_texts count directory.now) bytes.now)
+    ensures { Answers result (record_failure status coding (entry_texts count directory.now)
+        bytes.now)
         (λ entries. AreSound directory.now bytes.now count entries.items) }
 {
     match check_directory(alloc, directory, count) {
@@ -127,7 +131,8 @@ fn check_record(
 fn check_behind(alloc: Global, frame: &[u8], front: &Front) -> Result<Vec<Entry>, DecodeRefusal>
     requires frame { IsFrame frame.now }
     requires front { IsFront (leader_of_frame frame.now) frame.now front.now.codes front.now.base }
-    ensures { Answers result (record_failure (status_of frame.now) (coding_of frame.now) (texts_of frame.now) (data_in frame.now))
+    ensures { Answers result (record_failure (status_of frame.now) (coding_of frame.now)
+        (texts_of frame.now) (data_in frame.now))
         (λ entries. AreSoundIn frame.now front.now.base entries.items) }
 {
     let base = front.base;
@@ -153,7 +158,8 @@ struct Sound {
 /// The leader's content and the entries of a whole frame, or the first rule that it breaks.
 fn check_whole(alloc: Global, frame: &[u8]) -> Result<Sound, DecodeRefusal>
     requires { IsFrame frame.now }
-    ensures { Answers result (whole_failure frame.now) (λ found. IsSound frame.now found.front.codes found.front.base found.entries.items) }
+    ensures { Answers result (whole_failure frame.now)
+        (λ found. IsSound frame.now found.front.codes found.front.base found.entries.items) }
 {
     match check_head(frame) {
         Ok(front) => match check_behind(alloc, frame, &front) {
@@ -167,7 +173,8 @@ fn check_whole(alloc: Global, frame: &[u8]) -> Result<Sound, DecodeRefusal>
 /// The record that a whole frame spells in which no rule fails.
 fn read_record(alloc: Global, frame: &[u8], sound: &Sound) -> Result<Record, Memory>
     requires frame { IsFrame frame.now }
-    requires sound { IsSound frame.now sound.now.front.codes sound.now.front.base sound.now.entries.items }
+    requires sound { IsSound frame.now sound.now.front.codes sound.now.front.base
+        sound.now.entries.items }
     ensures { IfOk result (λ found. Spells frame.now found) }
 {
     let parts = split_frame(frame, sound.front.base);
@@ -180,7 +187,8 @@ fn read_record(alloc: Global, frame: &[u8], sound: &Sound) -> Result<Record, Mem
 
 /// The refusal of a frame that was cut whole.
 fn refusal_of(refusal: DecodeRefusal) -> Refusal
-    ensures { (failure : Option Failure) → IsRefusal refusal failure → IsFrameRefusal result failure }
+    ensures { (failure : Option Failure) → IsRefusal refusal failure
+        → IsFrameRefusal result failure }
 {
     match refusal {
         DecodeRefusal::Rule { rule, place } => Refusal::Rule { rule, place },
@@ -193,7 +201,8 @@ fn refusal_of(refusal: DecodeRefusal) -> Refusal
 /// a byte of marks for each byte of the data where the data are not in the order of the directory.
 pub fn accepted_status(alloc: Global, cut: Cut, bytes: &[u8]) -> Result<u8, Refusal>
     requires { cut ≡ Cut.Whole → IsWhole bytes.now }
-    ensures { AnswersFrame result (first_rule cut bytes.now) (λ status. status ≡ status_of bytes.now) }
+    ensures { AnswersFrame result (first_rule cut bytes.now)
+        (λ status. status ≡ status_of bytes.now) }
 {
     match cut {
         Cut::Truncated => Err(TRUNCATED),
@@ -210,7 +219,8 @@ pub fn accepted_status(alloc: Global, cut: Cut, bytes: &[u8]) -> Result<u8, Refu
 /// looked at.
 pub fn check_frame(alloc: Global, cut: Cut, bytes: &[u8]) -> Result<Record, Refusal>
     requires { cut ≡ Cut.Whole → IsWhole bytes.now }
-    ensures first { AnswersFrame result (first_rule cut bytes.now) (λ found. Spells bytes.now found) }
+    ensures first { AnswersFrame result (first_rule cut bytes.now)
+        (λ found. Spells bytes.now found) }
     ensures accepted { IfOk result (λ found. IsAccepted found) }
 {
     match cut {

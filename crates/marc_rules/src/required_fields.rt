@@ -61,7 +61,8 @@ fn are_control_number(text: &[u8]) -> bool
 /// The number of the one entry with that tag, or why there is not one.
 fn only_entry(entries: &[Entry], tag: &[u8]) -> Result<u32, NotOne>
     requires { length entries.now ≤ 9999 }
-    ensures { MatchResult result (λ i. (places tag.now 1 entries.now ≡ i ∷ []) × ((1 ≤ i) × (i ≤ length entries.now)))
+    ensures { MatchResult result (λ i. (places tag.now 1 entries.now ≡ i ∷ [])
+        × ((1 ≤ i) × (i ≤ length entries.now)))
         (λ refusal. not_one (places tag.now 1 entries.now) ≡ Some refusal) }
 {
     let mut found = None;

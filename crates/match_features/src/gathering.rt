@@ -40,7 +40,8 @@ pub(crate) fn gathered(
     fields: &[Field],
 ) -> Result<Findings, Memory>
     requires { All HasTexts fields.now }
-    ensures control { IfOk result (λ found. found.control.items ≡ control.items ++ flat_map numbers_in fields.now) }
+    ensures control { IfOk result (λ found. found.control.items ≡ control.items
+        ++ flat_map numbers_in fields.now) }
     ensures isbns { IfOk result (λ found. found.isbns.items ≡ flat_map isbns_in fields.now) }
     ensures issns { IfOk result (λ found. found.issns.items ≡ flat_map issns_in fields.now) }
     ensures titles { IfOk result (λ found. found.titles.items ≡ flat_map title_in fields.now) }
@@ -63,11 +64,16 @@ impl Findings {
     /// Takes what one more field gives.
     fn take(&mut self, alloc: Global, field: &Field) -> Result<(), Memory>
         requires { HasTexts field.now }
-        ensures control { OnOk result (self.new.control.items ≡ self.old.control.items ++ numbers_in field.now) }
-        ensures isbns { OnOk result (self.new.isbns.items ≡ self.old.isbns.items ++ isbns_in field.now) }
-        ensures issns { OnOk result (self.new.issns.items ≡ self.old.issns.items ++ issns_in field.now) }
-        ensures titles { OnOk result (self.new.titles.items ≡ self.old.titles.items ++ title_in field.now) }
-        ensures names { OnOk result (self.new.names.items ≡ self.old.names.items ++ name_in field.now) }
+        ensures control { OnOk result (self.new.control.items ≡ self.old.control.items
+            ++ numbers_in field.now) }
+        ensures isbns { OnOk result (self.new.isbns.items ≡ self.old.isbns.items
+            ++ isbns_in field.now) }
+        ensures issns { OnOk result (self.new.issns.items ≡ self.old.issns.items
+            ++ issns_in field.now) }
+        ensures titles { OnOk result (self.new.titles.items ≡ self.old.titles.items
+            ++ title_in field.now) }
+        ensures names { OnOk result (self.new.names.items ≡ self.old.names.items
+            ++ name_in field.now) }
     {
         push_numbers(alloc, &mut self.control, field)?;
         push_isbns(&mut self.isbns, field)?;
@@ -99,7 +105,8 @@ fn push_lccns(
     control: &mut Vec<(Bytes, Bytes)>,
     subfields: Subfields<'_>,
 ) -> Result<(), Memory>
-    ensures { OnOk result (control.new.items ≡ control.old.items ++ flat_map lccn_in subfields.entry) }
+    ensures { OnOk result (control.new.items ≡ control.old.items
+        ++ flat_map lccn_in subfields.entry) }
 {
     for subfield in subfields {
         push_lccn(alloc, control, &subfield)?;
@@ -129,7 +136,8 @@ fn push_system_numbers(
     control: &mut Vec<(Bytes, Bytes)>,
     subfields: Subfields<'_>,
 ) -> Result<(), Memory>
-    ensures { OnOk result (control.new.items ≡ control.old.items ++ flat_map system_number_in subfields.entry) }
+    ensures { OnOk result (control.new.items ≡ control.old.items
+        ++ flat_map system_number_in subfields.entry) }
 {
     for subfield in subfields {
         push_system_number(alloc, control, &subfield)?;

@@ -103,7 +103,8 @@ impl Copied for FeatureKey {
 /// Returns `Memory` if allocation fails.
 pub fn feature_keys(alloc: Global, features: &Features) -> Result<Vec<FeatureKey>, Memory>
     ensures value { IfOk result (λ found. found.items ≡ keys features.now) }
-    ensures had { IfOk result (λ found. (k : FeatureKey) → Contains found.items k ↔ HasKey features.now k) }
+    ensures had { IfOk result (λ found. (k : FeatureKey)
+        → Contains found.items k ↔ HasKey features.now k) }
     ensures once { IfOk result (λ found. AllPairs (λ j k. j ≢ k) found.items) }
 {
     let titles = features.titles.as_slice();
@@ -119,7 +120,8 @@ pub fn feature_keys(alloc: Global, features: &Features) -> Result<Vec<FeatureKey
 /// Returns `Memory` if allocation fails.
 pub fn posted_keys(alloc: Global, features: &Features) -> Result<Vec<FeatureKey>, Memory>
     ensures value { IfOk result (λ found. found.items ≡ posted features.now) }
-    ensures had { IfOk result (λ found. (k : FeatureKey) → Contains found.items k ↔ IsPosted features.now k) }
+    ensures had { IfOk result (λ found. (k : FeatureKey)
+        → Contains found.items k ↔ IsPosted features.now k) }
     ensures once { IfOk result (λ found. AllPairs (λ j k. j ≢ k) found.items) }
 {
     let mut found = with_room_by_title(alloc, features)?;
@@ -135,7 +137,8 @@ pub fn posted_keys(alloc: Global, features: &Features) -> Result<Vec<FeatureKey>
 /// Returns `Memory` if allocation fails.
 pub fn sought_keys(alloc: Global, features: &Features) -> Result<Vec<FeatureKey>, Memory>
     ensures value { IfOk result (λ found. found.items ≡ sought features.now) }
-    ensures sought { IfOk result (λ found. (k : FeatureKey) → Contains found.items k ↔ Seeks features.now k) }
+    ensures sought { IfOk result (λ found. (k : FeatureKey)
+        → Contains found.items k ↔ Seeks features.now k) }
 {
     let mut found = with_room_by_title(alloc, features)?;
     push_number_keys(alloc, &mut found, features)?;
@@ -201,7 +204,8 @@ fn push_control_keys(
     found: &mut Vec<FeatureKey>,
     control: &[(Bytes, Bytes)],
 ) -> Result<(), Memory>
-    ensures { OnOk result (found.new.items ≡ found.old.items ++ map FeatureKey.Control control.now) }
+    ensures { OnOk result (found.new.items ≡ found.old.items
+        ++ map FeatureKey.Control control.now) }
 {
     for (source, number) in control {
         let pair = ControlPair::of(alloc, source.bytes(), number.bytes())?;
@@ -316,7 +320,8 @@ fn push_keys_of_many(
     found: &mut Vec<FeatureKey>,
     titles: &[Bytes],
 ) -> Result<(), Memory>
-    ensures { OnOk result (found.new.items ≡ found.old.items ++ map FeatureKey.TitleOfMany titles.now) }
+    ensures { OnOk result (found.new.items ≡ found.old.items
+        ++ map FeatureKey.TitleOfMany titles.now) }
 {
     for title in titles {
         found.push(FeatureKey::TitleOfMany(title.copied(alloc)?))?;

@@ -47,7 +47,8 @@ pub fn meeting_is_found()
 
 /// What features find by the keys that they seek has a key in common with them.
 pub fn found_shares_a_key()
-    ensures { (x y : Features) (k : FeatureKey) → Seeks x k → IsPosted y k → IsTrue (share_key y x) }
+    ensures { (x y : Features) (k : FeatureKey) → Seeks x k → IsPosted y k
+        → IsTrue (share_key y x) }
 {}
 
 /// Whether an index has features under a key is what the test says.
@@ -62,7 +63,8 @@ pub fn merging_keeps_keys()
 
 /// Whether two have a key in common is what the test says.
 pub fn shared_keys_are_told()
-    ensures { (x y : Features) → IsTrue (share_key x y) ↔ ((k : FeatureKey) × HasKey x k × HasKey y k) }
+    ensures { (x y : Features) → IsTrue (share_key x y)
+        ↔ ((k : FeatureKey) × HasKey x k × HasKey y k) }
 {}
 
 /// The keys that `feature_keys` answers are those that features have.

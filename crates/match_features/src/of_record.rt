@@ -73,7 +73,8 @@ fn first_pairs(
     library: &LibraryCode,
     rec: &Record,
 ) -> Result<Vec<(Bytes, Bytes)>, Memory>
-    ensures { IfOk result (λ pairs. pairs.items ≡ own_pair library.now rec.now ∷ assigned_pair rec.now) }
+    ensures { IfOk result (λ pairs. pairs.items
+        ≡ own_pair library.now rec.now ∷ assigned_pair rec.now) }
 {
     let fields = rec.fields.as_slice();
     let source = own_source(alloc, library.bytes())?;

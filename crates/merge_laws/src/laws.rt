@@ -12,19 +12,23 @@ use crate::resolvable::Resolvable;
 /// dominate one another are one.
 pub fn domination_is_an_order<R: Resolvable>()
     ensures reflexive { (x : R) → IsDominated R.meets R.join x x }
-    ensures transitive { (x y z : R) → IsDominated R.meets R.join x y → IsDominated R.meets R.join y z
+    ensures transitive { (x y z : R) → IsDominated R.meets R.join x y
+        → IsDominated R.meets R.join y z
         → IsDominated R.meets R.join x z }
-    ensures antisymmetric { (x y : R) → IsDominated R.meets R.join x y → IsDominated R.meets R.join y x → x ≡ y }
+    ensures antisymmetric { (x y : R) → IsDominated R.meets R.join x y
+        → IsDominated R.meets R.join y x → x ≡ y }
 {}
 
 /// Each list has a resolution.
 pub fn resolution_exists<R: Resolvable>()
-    ensures { (list : List R) → (resolution : List R) × IsResolution R.meets R.join list resolution }
+    ensures { (list : List R) → (resolution : List R)
+        × IsResolution R.meets R.join list resolution }
 {}
 
 /// Members of a resolution at different places do not match.
 pub fn resolution_is_apart<R: Resolvable>()
-    ensures { (list resolution : List R) → IsResolution R.meets R.join list resolution → AreApart R.meets resolution }
+    ensures { (list resolution : List R) → IsResolution R.meets R.join list resolution
+        → AreApart R.meets resolution }
 {}
 
 /// Each member of a list is dominated by the member at exactly one place of the list's resolution.
@@ -35,23 +39,27 @@ pub fn each_is_dominated_once<R: Resolvable>()
 
 /// A list has one resolution, up to the order of its members.
 pub fn resolution_is_unique<R: Resolvable>()
-    ensures { (list one other : List R) → IsResolution R.meets R.join list one → IsResolution R.meets R.join list other
+    ensures { (list one other : List R) → IsResolution R.meets R.join list one
+        → IsResolution R.meets R.join list other
         → IsPermutation one other }
 {}
 
 /// What resolves a resolution and more values resolves all the values: one value more, or a second list by its own
 /// resolution.
 pub fn resolution_goes_on<R: Resolvable>()
-    ensures with_one { (list resolution whole : List R) (value : R) → IsResolution R.meets R.join list resolution
+    ensures with_one { (list resolution whole : List R) (value : R)
+        → IsResolution R.meets R.join list resolution
         → IsResolution R.meets R.join (resolution ++ value ∷ []) whole
         → IsResolution R.meets R.join (list ++ value ∷ []) whole }
-    ensures with_list { (first second one two whole : List R) → IsResolution R.meets R.join first one
+    ensures with_list { (first second one two whole : List R)
+        → IsResolution R.meets R.join first one
         → IsResolution R.meets R.join second two → IsResolution R.meets R.join (one ++ two) whole
         → IsResolution R.meets R.join (first ++ second) whole }
 {}
 
 /// The members of a list that a member of its resolution dominates are those that match it.
 pub fn dominated_is_matching<R: Resolvable>()
-    ensures { (list resolution : List R) → IsResolution R.meets R.join list resolution → (w x : R) → Contains list w
+    ensures { (list resolution : List R) → IsResolution R.meets R.join list resolution → (w x : R)
+        → Contains list w
         → Contains resolution x → IsDominated R.meets R.join w x ↔ IsTrue (R.meets w x) }
 {}

@@ -42,12 +42,14 @@ pub trait Resolvable: Join {
 
     /// The keys of the value, each once, in any order. Returns `Memory` if allocation fails.
     fn index_keys(&self, alloc: Global) -> Result<Vec<Self::Key>, Memory>
-        ensures keys { IfOk result (λ keys. (k : Self.Key) → Contains keys.items k ↔ has_key self.now k) }
+        ensures keys { IfOk result (λ keys. (k : Self.Key)
+            → Contains keys.items k ↔ has_key self.now k) }
         ensures once { IfOk result (λ keys. AllPairs (λ j k. j ≢ k) keys.items) };
 
     /// The keys under which an index has the value, each once, in any order. Returns `Memory` if allocation fails.
     fn posted_keys(&self, alloc: Global) -> Result<Vec<Self::Key>, Memory>
-        ensures keys { IfOk result (λ keys. (k : Self.Key) → Contains keys.items k ↔ is_posted self.now k) }
+        ensures keys { IfOk result (λ keys. (k : Self.Key)
+            → Contains keys.items k ↔ is_posted self.now k) }
         ensures once { IfOk result (λ keys. AllPairs (λ j k. j ≢ k) keys.items) };
 
     /// The keys under which what the value can match is looked up, in any order. Returns `Memory` if allocation fails.

@@ -21,7 +21,8 @@ fn first_match<R: Resolvable, L: Ledger>(
     steps: &mut Steps<L>,
 ) -> Option<usize>
     ensures within { IfSome result (λ i. i < length done.now) }
-    ensures found { IfSome result (λ i. (d : R) → IsTrue (R.meets value.now (slice_index_or done.now i d))) }
+    ensures found { IfSome result (λ i. (d : R)
+        → IsTrue (R.meets value.now (slice_index_or done.now i d))) }
     ensures none { IfNone result (All (λ x. R.meets value.now x ≡ false) done.now) }
     ensures cost { steps.new ≤ steps.old + length done.now }
 {
@@ -69,9 +70,11 @@ pub fn resolve_onto<R: Resolvable, L: Ledger>(
     steps: &mut Steps<L>,
 ) -> Result<Vec<R>, Memory>
     requires { AreApart R.meets apart.items }
-    ensures resolved { IfOk result (λ all. IsResolution R.meets R.join (apart.items ++ more.items) all.items) }
+    ensures resolved { IfOk result (λ all. IsResolution R.meets R.join (apart.items ++ more.items)
+        all.items) }
     ensures cost { steps.new
-        ≤ steps.old + (length apart.items + length more.items) * (length apart.items + length more.items) }
+        ≤ steps.old + (length apart.items + length more.items) *
+        (length apart.items + length more.items) }
 {
     let mut left = more;
     let mut done = apart;

@@ -16,7 +16,8 @@ use union_base::memory::Memory;
 /// Appends the form of the text, after one blank where neither is empty.
 pub(crate) fn append_ascii(form: &mut Vec<u8>, text: &[u8], comma: Comma) -> Result<(), Memory>
     requires { IsAscii text.now }
-    ensures { OnOk result (form.new.items ≡ joined form.old.items (encode_utf8_all (normal_form comma text.now))) }
+    ensures { OnOk result (form.new.items ≡ joined form.old.items
+        (encode_utf8_all (normal_form comma text.now))) }
 {
     let mut gap = true;
     let mut awaiting = comma.keeps_first();

@@ -56,7 +56,8 @@ pub(crate) fn append_form(
     text: &str,
     comma: Comma,
 ) -> Result<(), Memory>
-    ensures { OnOk result (form.new.items ≡ joined form.old.items (encode_utf8_all (normal_form comma (chars text.now)))) }
+    ensures { OnOk result (form.new.items ≡ joined form.old.items
+        (encode_utf8_all (normal_form comma (chars text.now)))) }
 {
     if text.is_ascii() {
         append_ascii(form, text.as_bytes(), comma)
@@ -67,7 +68,8 @@ pub(crate) fn append_form(
 
 /// The same by the steps on characters of every kind.
 fn append_any(alloc: Global, form: &mut Vec<u8>, text: &str, comma: Comma) -> Result<(), Memory>
-    ensures { OnOk result (form.new.items ≡ joined form.old.items (encode_utf8_all (normal_form comma (chars text.now)))) }
+    ensures { OnOk result (form.new.items ≡ joined form.old.items
+        (encode_utf8_all (normal_form comma (chars text.now)))) }
 {
     let characters = characters(alloc, text)?;
     append_letters(form, &letters(alloc, &characters)?, comma)

@@ -85,7 +85,8 @@ fn append_subfield(
     seen: bool,
 ) -> Result<(), Memory>
     requires { IsUtf8 subfield.now.text }
-    ensures { OnOk result (form.new.items ≡ joined form.old.items (subfield_form first seen subfield.now)) }
+    ensures { OnOk result (form.new.items ≡ joined form.old.items
+        (subfield_form first seen subfield.now)) }
 {
     let text = text_of(subfield);
     if seen || subfield.code != MAIN_CODE {

@@ -81,7 +81,8 @@ fn is_dropped(c: char) -> bool
 
 /// Appends what the character leaves: nothing where it is deleted, else its plain letters.
 fn push_plain(letters: &mut Vec<char>, c: char) -> Result<(), Memory>
-    ensures { OnOk result (letters.new.items ≡ letters.old.items ++ with_plain_letters (without_deleted (c ∷ []))) }
+    ensures { OnOk result (letters.new.items ≡ letters.old.items
+        ++ with_plain_letters (without_deleted (c ∷ []))) }
 {
     if is_dropped(c) {
         return Ok(());
@@ -152,7 +153,8 @@ pub(crate) fn append_letters(
     letters: &[char],
     comma: Comma,
 ) -> Result<(), Memory>
-    ensures { OnOk result (form.new.items ≡ joined form.old.items (encode_utf8_all (spaced comma letters.now))) }
+    ensures { OnOk result (form.new.items ≡ joined form.old.items
+        (encode_utf8_all (spaced comma letters.now))) }
 {
     let mut gap = true;
     let mut awaiting = comma.keeps_first();

@@ -11,7 +11,8 @@ const BLANK: u8 = b' ';
 
 /// Appends the character where it shows, after one blank where a gap goes before it and it isn't the first.
 pub(crate) fn push_shown(form: &mut Vec<u8>, gap: bool, shown: bool, c: char) -> Result<(), Memory>
-    ensures { OnOk result (form.new.items ≡ (if shown then after_gap form.old.items gap ++ encode_utf8 c else form.old.items)) }
+    ensures { OnOk result (form.new.items ≡ (if shown then after_gap form.old.items gap
+        ++ encode_utf8 c else form.old.items)) }
 {
     if !shown {
         return Ok(());
@@ -29,7 +30,8 @@ pub(crate) fn push_shown_byte(
     shown: bool,
     byte: u8,
 ) -> Result<(), Memory>
-    ensures { OnOk result (form.new.items ≡ (if shown then after_gap form.old.items gap ++ byte ∷ [] else form.old.items)) }
+    ensures { OnOk result (form.new.items ≡ (if shown then after_gap form.old.items gap
+        ++ byte ∷ [] else form.old.items)) }
 {
     if !shown {
         return Ok(());

@@ -24,7 +24,8 @@ impl Tally {
     /// Counts a frame that is read. Takes no memory.
     pub(crate) fn accept(&mut self)
         requires { self.old.frames < u64.MAX }
-        ensures counted { (all : List Judged) (one : Judged) → IsTally all self.old → one.fault ≡ None
+        ensures counted { (all : List Judged) (one : Judged) → IsTally all self.old
+            → one.fault ≡ None
             → IsTally (all ++ one ∷ []) self.new }
         ensures frames { self.new.frames ≡ self.old.frames + 1 }
     {
@@ -34,7 +35,8 @@ impl Tally {
     /// Counts a frame that is refused, and adds `names refused FRAME NAME PLACE`.
     pub(crate) fn refuse(&mut self, fault: NameFault) -> Result<(), AllocError>
         requires { self.old.frames < u64.MAX }
-        ensures counted { OnOk result ((all : List Judged) (one : Judged) → IsTally all self.old → one.fault ≡ Some fault
+        ensures counted { OnOk result ((all : List Judged) (one : Judged) → IsTally all self.old
+            → one.fault ≡ Some fault
             → IsTally (all ++ one ∷ []) self.new) }
         ensures frames { OnOk result (self.new.frames ≡ self.old.frames + 1) }
     {

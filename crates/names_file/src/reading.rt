@@ -42,8 +42,10 @@ impl Reading {
     fn take(&mut self, alloc: Global, cut: Cut, frame: &[u8]) -> Result<(), Memory>
         requires whole { cut ≡ Cut.Whole → IsWhole frame.now }
         requires room { self.old.tally.frames < u64.MAX }
-        ensures read { OnOk result ((all : List Judged) → IsReading all self.old.table self.old.tally
-            → (one : Judged) × (one.frame ≡ (cut, frame.now)) × IsReading (all ++ one ∷ []) self.new.table self.new.tally) }
+        ensures read { OnOk result ((all : List Judged)
+            → IsReading all self.old.table self.old.tally
+            → (one : Judged) × (one.frame ≡ (cut, frame.now))
+            × IsReading (all ++ one ∷ []) self.new.table self.new.tally) }
         ensures frames { OnOk result (self.new.tally.frames ≡ self.old.tally.frames + 1) }
     {
         match take_frame(alloc, &mut self.table, cut, frame)? {
@@ -55,7 +57,8 @@ impl Reading {
 
     /// The table, and the report on all frames.
     fn finish(self) -> Result<NamesRead, AllocError>
-        ensures { IfOk result (λ found. (all : List Judged) → IsReading all self.table self.tally → IsNamesRead all found) }
+        ensures { IfOk result (λ found. (all : List Judged) → IsReading all self.table self.tally
+            → IsNamesRead all found) }
     {
         let Reading { table, tally } = self;
         let Tally {
@@ -81,7 +84,13 @@ impl Reading {
 /// fails.
 pub fn read_names<S: Source>(alloc: Global, source: &mut S) -> Result<NamesRead, Stop>
     ensures name { S.name source.new ≡ S.name source.old }
-    ensures reads { Reads LARGEST_SOURCE result (record { told = S.left source.old; before = S.faults source.old; after = S.faults source.new })
+    ensures reads { Reads LARGEST_SOURCE result
+        (record {
+          told = S.left source.old;
+          before = S.faults source.old;
+          after = S.faults
+              source.new;
+        })
         (λ found bytes. IsNamesFile (frames bytes) found) }
 {
     match read_frames(alloc, source) {
@@ -96,7 +105,13 @@ pub fn read_names<S: Source>(alloc: Global, source: &mut S) -> Result<NamesRead,
 /// Reads the frames of a source to its end.
 fn read_frames<S: Source>(alloc: Global, source: &mut S) -> Result<Reading, Stop>
     ensures name { S.name source.new ≡ S.name source.old }
-    ensures reads { Reads LARGEST_SOURCE result (record { told = S.left source.old; before = S.faults source.old; after = S.faults source.new })
+    ensures reads { Reads LARGEST_SOURCE result
+        (record {
+          told = S.left source.old;
+          before = S.faults source.old;
+          after = S.faults
+              source.new;
+        })
         (λ reading bytes. AreRead (frames bytes) reading.table reading.tally) }
 {
     let mut reader = FrameReader::open(alloc, LARGEST_SOURCE)?;

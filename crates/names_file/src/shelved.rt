@@ -28,7 +28,11 @@ fn read_names_file<F: Shelf>(
 ) -> Result<NamesRead, Status>
     ensures files { F.files shelf.new ≡ F.files shelf.old }
     ensures reads { ReadsFile result (names_file path.now)
-        (record { files = F.files shelf.old; before = F.faults shelf.old; after = F.faults shelf.new })
+        (record {
+          files = F.files shelf.old;
+          before = F.faults shelf.old;
+          after = F.faults shelf.new;
+        })
         (λ found bytes. IsNamesFile (frames bytes) found) }
 {
     match shelf.open(alloc, path) {
@@ -57,7 +61,11 @@ pub fn names_of<F: Shelf>(
 ) -> Result<NamesRead, Status>
     ensures files { F.files shelf.new ≡ F.files shelf.old }
     ensures reads { ReadsNames (option_copied path.entry) result
-        (record { files = F.files shelf.old; before = F.faults shelf.old; after = F.faults shelf.new }) }
+        (record {
+          files = F.files shelf.old;
+          before = F.faults shelf.old;
+          after = F.faults shelf.new;
+        }) }
 {
     match path {
         Some(path) => match Bytes::of(alloc, path) {

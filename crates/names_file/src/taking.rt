@@ -22,7 +22,8 @@ fn take_record(
     table: &mut NameTable,
     rec: &Record,
 ) -> Result<Option<NameFault>, Memory>
-    ensures { IfOk result (λ fault. (taken : List Authority) × IsRecordJudged (refusal_of rec.now) rec.now fault taken
+    ensures { IfOk result (λ fault. (taken : List Authority)
+        × IsRecordJudged (refusal_of rec.now) rec.now fault taken
         × HasTaken table.old taken table.new) }
 {
     match table.add(alloc, rec) {
@@ -42,7 +43,8 @@ fn take_whole(
     frame: &[u8],
 ) -> Result<Option<NameFault>, Memory>
     requires { IsFrame frame.now }
-    ensures { IfOk result (λ fault. (taken : List Authority) × IsReadJudged (first_failure frame.now) frame.now fault taken
+    ensures { IfOk result (λ fault. (taken : List Authority)
+        × IsReadJudged (first_failure frame.now) frame.now fault taken
         × HasTaken table.old taken table.new) }
 {
     match decode(alloc, frame) {

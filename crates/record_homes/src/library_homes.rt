@@ -65,7 +65,8 @@ impl LibraryHomes {
 
     /// Moves the home under the control number, where there is one. Takes no memory.
     pub(crate) fn change(&mut self, control: &Bytes, to: MoveTo)
-        ensures { Sets self.old self.new control.now (option_map (moved_to to) (row_at self.old control.now)) }
+        ensures { Sets self.old self.new control.now
+            (option_map (moved_to to) (row_at self.old control.now)) }
     {
         if let Some(home) = self.rows.get_mut(control) {
             *home = to.of(*home);

@@ -85,7 +85,8 @@ impl HomeTable {
     /// Puts a home under an id that has none. Returns `Memory` if allocation fails; the homes are as before then.
     pub fn insert(&mut self, alloc: Global, id: RecordId, home: Home) -> Result<(), Memory>
         requires { at_id self.old.entries id ≡ None }
-        ensures inserted { OnOk result (self.new.entries ≡ insert_entry id_cmp self.old.entries id home) }
+        ensures inserted { OnOk result (self.new.entries
+            ≡ insert_entry id_cmp self.old.entries id home) }
         ensures kept { OnErr result (self.new.entries ≡ self.old.entries) }
     {
         if self.count == u64::MAX {
@@ -107,14 +108,16 @@ impl HomeTable {
 
     /// Has the home under the id, where there is one, say that the record was loaded at that place. Takes no memory.
     pub fn set_place(&mut self, id: &RecordId, place: Place)
-        ensures { self.new.entries ≡ change_at id.now (λ home. record { place = place; block = home.block }) self.old.entries }
+        ensures { self.new.entries ≡ change_at id.now
+            (λ home. record { place = place; block = home.block }) self.old.entries }
     {
         change(&mut self.libraries, id, MoveTo::Place(place));
     }
 
     /// Has the home under the id, where there is one, say that the record is in the block under that number. Takes no memory.
     pub fn set_block(&mut self, id: &RecordId, number: u64)
-        ensures { self.new.entries ≡ change_at id.now (λ home. record { place = home.place; block = number }) self.old.entries }
+        ensures { self.new.entries ≡ change_at id.now
+            (λ home. record { place = home.place; block = number }) self.old.entries }
     {
         change(&mut self.libraries, id, MoveTo::Block(number));
     }
@@ -130,7 +133,8 @@ fn put(
     ensures ordered { AreInOrder libraries.new.entries }
     ensures set { OnOk result ((q : RecordModel) → home_at libraries.new.entries q
         ≡ (if is_at (id_cmp id) q then Some home else home_at libraries.old.entries q)) }
-    ensures kept { OnErr result ((q : RecordModel) → home_at libraries.new.entries q ≡ home_at libraries.old.entries q) }
+    ensures kept { OnErr result ((q : RecordModel)
+        → home_at libraries.new.entries q ≡ home_at libraries.old.entries q) }
 {
     let RecordId { library, control } = id;
     match libraries.get_mut(&library) {
@@ -161,7 +165,8 @@ fn take(libraries: &mut BTreeMap<LibraryCode, LibraryHomes>, id: &RecordId) -> b
 fn change(libraries: &mut BTreeMap<LibraryCode, LibraryHomes>, id: &RecordId, to: MoveTo)
     ensures ordered { AreInOrder libraries.new.entries }
     ensures set { (q : RecordModel) → home_at libraries.new.entries q
-        ≡ (if is_at (id_cmp id.now) q then option_map (moved_to to) (home_at libraries.old.entries id.now)
+        ≡ (if is_at (id_cmp id.now) q then option_map (moved_to to)
+        (home_at libraries.old.entries id.now)
         else home_at libraries.old.entries q) }
 {
     if let Some(homes) = libraries.get_mut(&id.library) {

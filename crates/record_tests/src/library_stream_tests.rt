@@ -23,10 +23,12 @@ fn count_frames<S: Source>(alloc: Global, limit: u64, source: &mut S) -> Result<
     requires { limit ≤ LARGEST_SOURCE }
     ensures name { S.name source.new ≡ S.name source.old }
     ensures all { IfOk result (λ counted. counted.1 ≡ Next.End
-        → IfSome (S.left source.old) (λ bytes. (length bytes ≤ limit) × (counted.0 ≡ length (frames bytes)))) }
+        → IfSome (S.left source.old) (λ bytes. (length bytes ≤ limit)
+        × (counted.0 ≡ length (frames bytes)))) }
     ensures passes { IfOk result (λ counted. counted.1 ≡ Next.TooLong
         → IfSome (S.left source.old) (λ bytes. limit < length bytes)) }
-    ensures calm { IfOk result (λ counted. counted.1 ≢ Next.Failed → S.faults source.new ≡ S.faults source.old) }
+    ensures calm { IfOk result (λ counted. counted.1 ≢ Next.Failed
+        → S.faults source.new ≡ S.faults source.old) }
 {
     let mut reader = FrameReader::open(alloc, limit)?;
     let mut count = 0;

@@ -20,7 +20,8 @@ fn apply_by<L: Ledger>(
     requires name { blank.name ≡ L.name }
     requires parts { blank.parts ≡ L.parts }
     requires some { 0 < L.parts }
-    ensures appended { OnOk result (catalogue.new.history ≡ catalogue.old.history ++ record { pass = pass; batch = batch } ∷ []) }
+    ensures appended { OnOk result (catalogue.new.history ≡ catalogue.old.history
+        ++ record { pass = pass; batch = batch } ∷ []) }
     ensures names { catalogue.new.names ≡ catalogue.old.names }
     ensures kept { OnErr result (catalogue.new ≡ catalogue.old) }
 {
@@ -38,7 +39,8 @@ pub fn apply_batch(
     pass: u32,
     batch: Batch,
 ) -> Result<(), Memory>
-    ensures appended { OnOk result (catalogue.new.history ≡ catalogue.old.history ++ record { pass = pass; batch = batch } ∷ []) }
+    ensures appended { OnOk result (catalogue.new.history ≡ catalogue.old.history
+        ++ record { pass = pass; batch = batch } ∷ []) }
     ensures names { catalogue.new.names ≡ catalogue.old.names }
     ensures kept { OnErr result (catalogue.new ≡ catalogue.old) }
 {

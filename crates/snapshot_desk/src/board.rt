@@ -93,7 +93,8 @@ fn copied(alloc: Global, posted: &Posted) -> Result<Next, Memory>
 /// Returns `Memory` if allocation fails.
 pub fn posted_at(alloc: Global, board: &Board, place: u64) -> Result<Option<Next>, Memory>
     ensures place { IfOk result (λ found. IfSome found (λ next. next.place ≡ place)) }
-    ensures log { IfOk result (λ found. IfSome found (λ next. board.now.tag ≡ numbers_of next.reached.book)) }
+    ensures log { IfOk result (λ found. IfSome found
+        (λ next. board.now.tag ≡ numbers_of next.reached.book)) }
 {
     match board.get(place as usize) {
         Some(posted) if posted.place == place => Ok(Some(copied(alloc, posted)?)),

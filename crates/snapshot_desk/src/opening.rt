@@ -16,8 +16,10 @@ use union_base::memory::Memory;
 ///
 /// Returns `Memory` if allocation fails.
 pub fn open(alloc: Global) -> Result<(Publisher, Viewer), Memory>
-    ensures publisher { IfOk result (λ opened. (opened.0.published ≡ []) × (opened.0.pending ≡ [])) }
-    ensures viewer { IfOk result (λ opened. opened.1 ≡ record { book = opened.0.book; seen = []; learnt = [] }) }
+    ensures publisher { IfOk result (λ opened. (opened.0.published ≡ [])
+        × (opened.0.pending ≡ [])) }
+    ensures viewer { IfOk result (λ opened. opened.1
+        ≡ record { book = opened.0.book; seen = []; learnt = [] }) }
 {
     let mut catalogue = Catalogue::empty(alloc)?;
     catalogue.keep_works(alloc)?;

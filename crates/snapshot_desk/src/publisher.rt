@@ -108,7 +108,8 @@ impl Publisher {
     ///
     /// Returns `Memory` if allocation fails; nothing is changed then.
     pub fn add(&mut self, entry: HistoryEntry) -> Result<(), Memory>
-        ensures added { OnOk result (self.new ≡ record self.old { pending = self.old.pending ++ entry ∷ [] }) }
+        ensures added { OnOk result (self.new ≡ record
+            self.old { pending = self.old.pending ++ entry ∷ [] }) }
         ensures kept { OnErr result (self.new ≡ self.old) }
     {
         self.pending.push_back(entry)?;
@@ -121,7 +122,8 @@ impl Publisher {
     fn publish_next<R: Wait>(&mut self, rt: &R) -> Result<(), Memory>
         requires { 0 < length self.old.pending }
         ensures book { self.new.book ≡ self.old.book }
-        ensures moved { OnOk result ((next : Entry) × (self.old.pending ≡ next ∷ self.new.pending) × (self.new.published ≡ self.old.published ++ next ∷ [])) }
+        ensures moved { OnOk result ((next : Entry) × (self.old.pending ≡ next ∷ self.new.pending)
+            × (self.new.published ≡ self.old.published ++ next ∷ [])) }
         ensures kept { OnErr result (self.new ≡ self.old) }
     {
         if self.count == u64::MAX {
@@ -149,7 +151,8 @@ impl Publisher {
     pub fn publish<R: Wait>(&mut self, rt: &R) -> Result<u64, Memory>
         ensures book { self.new.book ≡ self.old.book }
         ensures count { IfOk result (λ count. count ≡ length self.new.published) }
-        ensures moved { (more : List Entry) × (self.new.published ≡ self.old.published ++ more) × (more ++ self.new.pending ≡ self.old.pending) }
+        ensures moved { (more : List Entry) × (self.new.published ≡ self.old.published ++ more)
+            × (more ++ self.new.pending ≡ self.old.pending) }
         ensures all { OnOk result (self.new.pending ≡ []) }
     {
         while !self.pending.is_empty() {

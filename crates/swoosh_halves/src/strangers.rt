@@ -21,10 +21,13 @@ fn see<K: Eq + Hash + Drop>(
     shared: &mut IndexSet<K>,
     key: K,
 ) -> Result<(), Memory>
-    ensures seen { OnOk result ((k : K) → contains K.eq seen.old k ≡ true → contains K.eq seen.new k ≡ true) }
-    ensures shared { OnOk result ((k : K) → contains K.eq shared.old k ≡ true → contains K.eq shared.new k ≡ true) }
+    ensures seen { OnOk result ((k : K) → contains K.eq seen.old k ≡ true
+        → contains K.eq seen.new k ≡ true) }
+    ensures shared { OnOk result ((k : K) → contains K.eq shared.old k ≡ true
+        → contains K.eq shared.new k ≡ true) }
     ensures added { OnOk result (contains K.eq seen.new key ≡ true) }
-    ensures again { OnOk result (contains K.eq seen.old key ≡ true → contains K.eq shared.new key ≡ true) }
+    ensures again { OnOk result (contains K.eq seen.old key ≡ true
+        → contains K.eq shared.new key ≡ true) }
 {
     if seen.contains(&key) {
         shared.insert(key)?;
@@ -40,9 +43,12 @@ fn see_all<K: Eq + Hash + Drop>(
     shared: &mut IndexSet<K>,
     keys: Vec<K>,
 ) -> Result<(), Memory>
-    ensures seen { OnOk result ((k : K) → contains K.eq seen.old k ≡ true → contains K.eq seen.new k ≡ true) }
-    ensures shared { OnOk result ((k : K) → contains K.eq shared.old k ≡ true → contains K.eq shared.new k ≡ true) }
-    ensures added { OnOk result ((k : K) → Contains keys.items k → contains K.eq seen.new k ≡ true) }
+    ensures seen { OnOk result ((k : K) → contains K.eq seen.old k ≡ true
+        → contains K.eq seen.new k ≡ true) }
+    ensures shared { OnOk result ((k : K) → contains K.eq shared.old k ≡ true
+        → contains K.eq shared.new k ≡ true) }
+    ensures added { OnOk result ((k : K) → Contains keys.items k
+        → contains K.eq seen.new k ≡ true) }
     ensures again { OnOk result ((k : K) → Contains keys.items k → contains K.eq seen.old k ≡ true
         → contains K.eq shared.new k ≡ true) }
 {
@@ -79,10 +85,13 @@ fn parted<R: Resolvable>(
 ) -> Result<(Vec<R>, Vec<R>), Memory>
     requires { AreShared R.has_key (contains R.Key.eq shared.now) list.items }
     ensures strangers { IfOk result (λ parted. AreApart R.meets parted.0.items) }
-    ensures apart { IfOk result (λ parted. (x y : R) → Contains parted.0.items x → Contains parted.1.items y
+    ensures apart { IfOk result (λ parted. (x y : R) → Contains parted.0.items x
+        → Contains parted.1.items y
         → ShareNoKey R.has_key x y) }
-    ensures kept { IfOk result (λ parted. (x : R) → Contains list.items x → Contains (parted.0.items ++ parted.1.items) x) }
-    ensures own { IfOk result (λ parted. (x : R) → Contains (parted.0.items ++ parted.1.items) x → Contains list.items x) }
+    ensures kept { IfOk result (λ parted. (x : R) → Contains list.items x
+        → Contains (parted.0.items ++ parted.1.items) x) }
+    ensures own { IfOk result (λ parted. (x : R) → Contains (parted.0.items ++ parted.1.items) x
+        → Contains list.items x) }
 {
     let mut strangers = Vec::with_capacity(alloc, list.len())?;
     let mut others = Vec::new(alloc);
@@ -102,10 +111,13 @@ fn parted<R: Resolvable>(
 // That the others are few where few values share a key, no clause says: with no strangers at all it would hold too.
 pub(crate) fn parted_by_keys<R: Resolvable>(list: Vec<R>) -> Result<(Vec<R>, Vec<R>), Memory>
     ensures strangers { IfOk result (λ parted. AreApart R.meets parted.0.items) }
-    ensures apart { IfOk result (λ parted. (x y : R) → Contains parted.0.items x → Contains parted.1.items y
+    ensures apart { IfOk result (λ parted. (x y : R) → Contains parted.0.items x
+        → Contains parted.1.items y
         → ShareNoKey R.has_key x y) }
-    ensures kept { IfOk result (λ parted. (x : R) → Contains list.items x → Contains (parted.0.items ++ parted.1.items) x) }
-    ensures own { IfOk result (λ parted. (x : R) → Contains (parted.0.items ++ parted.1.items) x → Contains list.items x) }
+    ensures kept { IfOk result (λ parted. (x : R) → Contains list.items x
+        → Contains (parted.0.items ++ parted.1.items) x) }
+    ensures own { IfOk result (λ parted. (x : R) → Contains (parted.0.items ++ parted.1.items) x
+        → Contains list.items x) }
 {
     let alloc = *list.allocator();
     let shared = shared_keys(alloc, list.as_slice())?;

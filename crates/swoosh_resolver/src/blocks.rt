@@ -67,7 +67,8 @@ impl<R: Resolvable> Blocks<R> {
 
     /// The blocks in the order of their numbers. Returns `Memory` if allocation fails.
     pub fn values(&self, alloc: Global) -> Result<Vec<&R>, Memory>
-        ensures { IfOk result (λ found. map (λ r. r.now) found.items ≡ values_of (blocks_in self.now.blocks)) }
+        ensures { IfOk result (λ found. map (λ r. r.now) found.items
+            ≡ values_of (blocks_in self.now.blocks)) }
     {
         let mut found = Vec::with_capacity(alloc, self.count)?;
         for block in self.blocks.as_slice() {
@@ -82,14 +83,16 @@ impl<R: Resolvable> Blocks<R> {
     pub fn with_key(&self, key: &R::Key) -> &[u64]
         ensures ascending { Ascends result.now }
         ensures members { (n : ℕ) → Contains result.now n
-            ↔ ((e : Entry R R.Key) × (block_at self.now.blocks n ≡ Some e) × R.is_posted e.value key.now) }
+            ↔ ((e : Entry R R.Key) × (block_at self.now.blocks n ≡ Some e)
+            × R.is_posted e.value key.now) }
     {
         self.postings.of(key)
     }
 
     /// The block under the number. None exactly where no block has it. Takes no memory.
     pub fn block(&self, number: u64) -> Option<&R>
-        ensures { option_copied result ≡ option_map (λ e. e.value) (block_at self.now.blocks number) }
+        ensures { option_copied result ≡ option_map (λ e. e.value)
+            (block_at self.now.blocks number) }
     {
         match self.blocks.get(number as usize) {
             Some(Some(keyed)) => Some(&keyed.value),
@@ -99,7 +102,8 @@ impl<R: Resolvable> Blocks<R> {
 
     /// The block under the number, where this is none of the closed numbers. Takes no memory.
     pub(crate) fn open_block(&self, closed: &[u64], number: u64) -> Option<&R>
-        ensures { option_copied result ≡ option_map (λ e. e.value) (block_at (without self.now.blocks closed.now) number) }
+        ensures { option_copied result ≡ option_map (λ e. e.value)
+            (block_at (without self.now.blocks closed.now) number) }
     {
         if closed.contains(&number) {
             None

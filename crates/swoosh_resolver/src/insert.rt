@@ -26,10 +26,12 @@ impl<R: Resolvable> Blocks<R> {
         value: &Seeker<R>,
         steps: &mut Steps<L>,
     ) -> Option<&R>
-        ensures some { IfSome result (λ b. IsMatchAt R.meets (without self.now.blocks closed.now) value.now.value number b.now) }
+        ensures some { IfSome result (λ b. IsMatchAt R.meets (without self.now.blocks closed.now)
+            value.now.value number b.now) }
         ensures none { IfNone result (passes (λ e. R.meets value.now.value e.value) (block_at
             (without self.now.blocks closed.now) number) ≡ false) }
-        ensures cost { steps.new ≤ steps.old + (if is_some (block_at (without self.now.blocks closed.now) number) then 1 else 0) }
+        ensures cost { steps.new ≤ steps.old + (if is_some
+            (block_at (without self.now.blocks closed.now) number) then 1 else 0) }
     {
         let block = self.open_block(closed, number)?;
         if value.value.matches(block, steps) {
@@ -49,9 +51,11 @@ impl<R: Resolvable> Blocks<R> {
     ) -> Result<Option<(u64, &R)>, Memory>
         ensures found { IfOk result (λ o. IfSome o (λ p. IsMatchAt R.meets
             (without self.now.blocks closed.now) value.now.value p.0 p.1.now)) }
-        ensures none { IfOk result (λ o. IfNone o (All (λ e. R.meets value.now.value e.value ≡ false) (blocks_in
+        ensures none { IfOk result (λ o. IfNone o
+            (All (λ e. R.meets value.now.value e.value ≡ false) (blocks_in
             (without self.now.blocks closed.now)))) }
-        ensures cost { steps.new ≤ steps.old + count_by (λ e. R.shares e.value value.now.value) (blocks_in
+        ensures cost { steps.new ≤ steps.old + count_by (λ e. R.shares e.value value.now.value)
+            (blocks_in
             (without self.now.blocks closed.now)) }
     {
         let numbers = candidates::<R>(alloc, &self.postings, value.sought.as_slice())?;
@@ -73,15 +77,20 @@ impl<R: Resolvable> Blocks<R> {
         steps: &mut Steps<L>,
     ) -> Result<Option<R>, Memory>
         requires { Fits R.meets self.now.blocks change.old.closed.items change.old.opened.items }
-        ensures merged { IfOk result (λ o. IfSome o (λ merged. Merges R.meets R.join self.now.blocks change.old.closed.items
-            change.old.opened.items value.now.value change.new.closed.items change.new.opened.items merged)) }
-        ensures fits { OnOk result (Fits R.meets self.now.blocks change.new.closed.items change.new.opened.items) }
-        ensures none { IfOk result (λ o. IfNone o ((change.new.closed.items ≡ change.old.closed.items) ×
+        ensures merged { IfOk result (λ o. IfSome o
+            (λ merged. Merges R.meets R.join self.now.blocks change.old.closed.items
+            change.old.opened.items value.now.value change.new.closed.items change.new.opened.items
+            merged)) }
+        ensures fits { OnOk result (Fits R.meets self.now.blocks change.new.closed.items
+            change.new.opened.items) }
+        ensures none { IfOk result (λ o. IfNone o
+            ((change.new.closed.items ≡ change.old.closed.items) ×
             (change.new.opened.items ≡ change.old.opened.items)
             × All (λ w. R.meets value.now.value w ≡ false)
             (view_of self.now.blocks change.old.closed.items change.old.opened.items))) }
         ensures cost { steps.new ≤ steps.old + near R.shares
-            (view_of self.now.blocks change.old.closed.items change.old.opened.items) value.now.value }
+            (view_of self.now.blocks change.old.closed.items change.old.opened.items)
+            value.now.value }
     {
         if let Some((number, block)) = self.first_kept(
             alloc,
@@ -113,16 +122,19 @@ impl<R: Resolvable> Blocks<R> {
         steps: &mut Steps<L>,
     ) -> Result<Change<R>, Memory>
         requires { Fits R.meets self.now.blocks change.closed.items change.opened.items }
-        ensures fits { IfOk result (λ new. Fits R.meets self.now.blocks new.closed.items new.opened.items) }
+        ensures fits { IfOk result (λ new. Fits R.meets self.now.blocks new.closed.items
+            new.opened.items) }
         ensures resolved { IfOk result (λ new. IsResolution R.meets R.join
             (view_of self.now.blocks change.closed.items change.opened.items ++ value ∷ [])
             (view_of self.now.blocks new.closed.items new.opened.items)) }
         ensures inserts { IfOk result
-            (λ new. Inserts R.meets R.join self.now.blocks change.closed.items change.opened.items value new.closed.items new.opened.items) }
+            (λ new. Inserts R.meets R.join self.now.blocks change.closed.items change.opened.items
+            value new.closed.items new.opened.items) }
         ensures cost { (all : List R) (x : R) → IsResolution R.meets R.join
             (view_of self.now.blocks change.closed.items change.opened.items ++ value ∷ []) all
             → Contains all x → IsDominated R.meets R.join value x
-            → steps.new ≤ steps.old + reach R.meets R.shares (view_of self.now.blocks change.closed.items change.opened.items) x }
+            → steps.new ≤ steps.old + reach R.meets R.shares
+            (view_of self.now.blocks change.closed.items change.opened.items) x }
     {
         let mut change = change;
         let mut value = Seeker::of(alloc, value)?;

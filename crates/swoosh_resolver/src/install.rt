@@ -38,7 +38,8 @@ fn close<R: Resolvable>(
     requires posted { ArePosted R.Key.eq R.is_posted blocks.old.items postings.old }
     ensures blocks { blocks.new.items ≡ slice_set blocks.old.items number None }
     ensures posted { ArePosted R.Key.eq R.is_posted blocks.new.items postings.new }
-    ensures spares { (k : R.Key) → spare_of R.Key.eq postings.new k ≡ spare_of R.Key.eq postings.old k }
+    ensures spares { (k : R.Key) → spare_of R.Key.eq postings.new k
+        ≡ spare_of R.Key.eq postings.old k }
     ensures capacity { vec_capacity blocks.new ≡ vec_capacity blocks.old }
 {
     if let Some(keyed) = blocks[number as usize].take() {
@@ -56,11 +57,13 @@ fn open<R: Resolvable>(
     requires free { block_at blocks.old.items number ≡ None }
     requires within { number ≤ length blocks.old.items }
     requires place { number < vec_capacity blocks.old }
-    requires room { (k : R.Key) → count_by (R.Key.eq k) keyed.keys ≤ spare_of R.Key.eq postings.old k }
+    requires room { (k : R.Key) → count_by (R.Key.eq k) keyed.keys
+        ≤ spare_of R.Key.eq postings.old k }
     requires posted { ArePosted R.Key.eq R.is_posted blocks.old.items postings.old }
     ensures blocks { blocks.new.items ≡ put_block blocks.old.items number keyed }
     ensures posted { ArePosted R.Key.eq R.is_posted blocks.new.items postings.new }
-    ensures spares { (k : R.Key) → spare_of R.Key.eq postings.old k ≤ spare_of R.Key.eq postings.new k + count_by
+    ensures spares { (k : R.Key) → spare_of R.Key.eq postings.old k
+        ≤ spare_of R.Key.eq postings.new k + count_by
         (R.Key.eq k) keyed.keys }
     ensures capacity { vec_capacity blocks.old ≤ vec_capacity blocks.new }
 {
@@ -84,7 +87,8 @@ fn close_all<R: Resolvable>(
     requires posted { ArePosted R.Key.eq R.is_posted blocks.old.items postings.old }
     ensures blocks { blocks.new.items ≡ without blocks.old.items closed.now }
     ensures posted { ArePosted R.Key.eq R.is_posted blocks.new.items postings.new }
-    ensures spares { (k : R.Key) → spare_of R.Key.eq postings.new k ≡ spare_of R.Key.eq postings.old k }
+    ensures spares { (k : R.Key) → spare_of R.Key.eq postings.new k
+        ≡ spare_of R.Key.eq postings.old k }
     ensures capacity { vec_capacity blocks.new ≡ vec_capacity blocks.old }
 {
     for number in closed.iter() {
@@ -100,12 +104,17 @@ fn open_all<R: Resolvable>(
     opened: Vec<Keyed<R>>,
 )
     requires distinct { AllPairs (λ m n. m ≢ n) closed.now }
-    requires free { (n : ℕ) → Contains closed.now n → (n < length blocks.old.items) × (block_at blocks.old.items n ≡ None) }
-    requires places { length opened.items + length blocks.old.items ≤ length closed.now + vec_capacity blocks.old }
-    requires room { (k : R.Key) → count_by (R.Key.eq k) (keys_in opened.items) ≤ spare_of R.Key.eq postings.old k }
+    requires free { (n : ℕ) → Contains closed.now n
+        → (n < length blocks.old.items) × (block_at blocks.old.items n ≡ None) }
+    requires places { length opened.items + length blocks.old.items
+        ≤ length closed.now + vec_capacity blocks.old }
+    requires room { (k : R.Key) → count_by (R.Key.eq k) (keys_in opened.items)
+        ≤ spare_of R.Key.eq postings.old k }
     requires posted { ArePosted R.Key.eq R.is_posted blocks.old.items postings.old }
-    ensures opened { AreOpened blocks.old.items closed.now (length blocks.old.items) opened.items blocks.new.items }
-    ensures view { IsPermutation (blocks_in blocks.old.items ++ opened.items) (blocks_in blocks.new.items) }
+    ensures opened { AreOpened blocks.old.items closed.now (length blocks.old.items) opened.items
+        blocks.new.items }
+    ensures view { IsPermutation (blocks_in blocks.old.items ++ opened.items)
+        (blocks_in blocks.new.items) }
     ensures posted { ArePosted R.Key.eq R.is_posted blocks.new.items postings.new }
 {
     let first = blocks.len();
@@ -151,11 +160,14 @@ impl<R: Resolvable> Blocks<R> {
     pub fn make_room(&mut self, alloc: Global, change: &Change<R>) -> Result<Vec<u64>, Memory>
         requires { Fits R.meets self.old.blocks change.now.closed.items change.now.opened.items }
         ensures blocks { self.new.blocks ≡ self.old.blocks }
-        ensures room { OnOk result (HasRoom R.Key.eq self.new change.now.closed.items change.now.opened.items) }
-        ensures numbers { IfOk result (λ numbers. AreNumbers change.now.closed.items (length self.old.blocks)
+        ensures room { OnOk result (HasRoom R.Key.eq self.new change.now.closed.items
+            change.now.opened.items) }
+        ensures numbers { IfOk result (λ numbers. AreNumbers change.now.closed.items
+            (length self.old.blocks)
             (length change.now.opened.items) numbers.items) }
         ensures distinct { IfOk result (λ numbers. AllPairs (λ m n. m ≢ n) numbers.items) }
-        ensures free { IfOk result (λ numbers. (n : ℕ) → Contains numbers.items n → Contains change.now.closed.items n ⊎
+        ensures free { IfOk result (λ numbers. (n : ℕ) → Contains numbers.items n
+            → Contains change.now.closed.items n ⊎
             (block_at self.old.blocks n ≡ None)) }
     {
         let keys = copies_of_keys(alloc, change.opened.as_slice())?;
@@ -175,11 +187,13 @@ impl<R: Resolvable> Blocks<R> {
     pub fn install(&mut self, change: Change<R>)
         requires fits { Fits R.meets self.old.blocks change.closed.items change.opened.items }
         requires room { HasRoom R.Key.eq self.old change.closed.items change.opened.items }
-        ensures kept { (n : ℕ) (e : Entry R R.Key) → block_at self.old.blocks n ≡ Some e → (Contains change.closed.items n
+        ensures kept { (n : ℕ) (e : Entry R R.Key) → block_at self.old.blocks n ≡ Some e
+            → (Contains change.closed.items n
             → ⊥) → block_at self.new.blocks n ≡ Some e }
         ensures opened { AreOpened (without self.old.blocks change.closed.items) change.closed.items
             (length self.old.blocks) change.opened.items self.new.blocks }
-        ensures view { IsPermutation (view_of self.old.blocks change.closed.items change.opened.items) (values_of
+        ensures view { IsPermutation (view_of self.old.blocks change.closed.items
+            change.opened.items) (values_of
             (blocks_in self.new.blocks)) }
     {
         let Change { closed, opened } = change;

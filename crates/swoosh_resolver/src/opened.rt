@@ -37,9 +37,11 @@ impl<R: Resolvable> Model for Opened<R> {
 fn unlist<R: Resolvable>(places: &mut Postings<R::Key>, values: &[Keyed<R>], place: usize)
     requires within { place < length values.now }
     requires listed { AreListed R.Key.eq R.is_posted values.now places.old }
-    requires room { (k : R.Key) (d : Entry R R.Key) → count_by (R.Key.eq k) (slice_index_or values.now
+    requires room { (k : R.Key) (d : Entry R R.Key)
+        → count_by (R.Key.eq k) (slice_index_or values.now
         (length values.now - 1) d).keys ≤ spare_of R.Key.eq places.old k }
-    ensures { (d : Entry R R.Key) → AreListed R.Key.eq R.is_posted (swap_remove values.now place d) places.new }
+    ensures { (d : Entry R R.Key) → AreListed R.Key.eq R.is_posted (swap_remove values.now place d)
+        places.new }
 {
     let last = values.len() - 1;
     unpost(places, &values[place], place as u64);
@@ -107,8 +109,10 @@ impl<R: Resolvable> Opened<R> {
 
     /// Whether the value matches the one at the place. Takes no memory.
     fn matches_at<L: Ledger>(&self, place: u64, value: &Seeker<R>, steps: &mut Steps<L>) -> bool
-        ensures answer { result ≡ passes (λ e. R.meets value.now.value e.value) (block_at (map Some self.now.items) place) }
-        ensures cost { steps.new ≤ steps.old + (if is_some (block_at (map Some self.now.items) place) then 1 else 0) }
+        ensures answer { result ≡ passes (λ e. R.meets value.now.value e.value)
+            (block_at (map Some self.now.items) place) }
+        ensures cost { steps.new ≤ steps.old + (if is_some
+            (block_at (map Some self.now.items) place) then 1 else 0) }
     {
         match self.values.get(place as usize) {
             Some(other) => value.value.matches(&other.value, steps),
@@ -125,10 +129,13 @@ impl<R: Resolvable> Opened<R> {
         steps: &mut Steps<L>,
     ) -> Result<Option<usize>, Memory>
         ensures within { IfOk result (λ o. IfSome o (λ i. i < length self.now.items)) }
-        ensures found { IfOk result (λ o. IfSome o (λ i. (d : Entry R R.Key) → IsTrue (R.meets value.now.value
+        ensures found { IfOk result (λ o. IfSome o
+            (λ i. (d : Entry R R.Key) → IsTrue (R.meets value.now.value
             (slice_index_or self.now.items i d).value))) }
-        ensures none { IfOk result (λ o. IfNone o (All (λ e. R.meets value.now.value e.value ≡ false) self.now.items)) }
-        ensures cost { steps.new ≤ steps.old + count_by (λ e. R.shares e.value value.now.value) self.now.items }
+        ensures none { IfOk result (λ o. IfNone o
+            (All (λ e. R.meets value.now.value e.value ≡ false) self.now.items)) }
+        ensures cost { steps.new ≤ steps.old + count_by (λ e. R.shares e.value value.now.value)
+            self.now.items }
     {
         let numbers = candidates::<R>(alloc, &self.places, value.sought.as_slice())?;
         for number in numbers.iter() {

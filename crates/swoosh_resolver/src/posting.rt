@@ -11,11 +11,15 @@ use union_base::memory::Memory;
 
 /// Puts the number under each key of the value, in the room that was made. Takes no memory.
 pub(crate) fn post<R: Resolvable>(postings: &mut Postings<R::Key>, keyed: &Keyed<R>, number: u64)
-    requires room { (k : R.Key) → count_by (R.Key.eq k) keyed.now.keys ≤ spare_of R.Key.eq postings.old k }
-    requires absent { (k : R.Key) → R.is_posted keyed.now.value k → Contains (numbers_of R.Key.eq postings.old k) number → ⊥ }
+    requires room { (k : R.Key) → count_by (R.Key.eq k) keyed.now.keys
+        ≤ spare_of R.Key.eq postings.old k }
+    requires absent { (k : R.Key) → R.is_posted keyed.now.value k
+        → Contains (numbers_of R.Key.eq postings.old k) number → ⊥ }
     ensures numbers { (k : R.Key) (n : ℕ) → Contains (numbers_of R.Key.eq postings.new k) n
-        ↔ (Contains (numbers_of R.Key.eq postings.old k) n ⊎ (R.is_posted keyed.now.value k × (n ≡ number))) }
-    ensures spares { (k : R.Key) → spare_of R.Key.eq postings.old k ≤ spare_of R.Key.eq postings.new k + count_by
+        ↔ (Contains (numbers_of R.Key.eq postings.old k) n
+        ⊎ (R.is_posted keyed.now.value k × (n ≡ number))) }
+    ensures spares { (k : R.Key) → spare_of R.Key.eq postings.old k
+        ≤ spare_of R.Key.eq postings.new k + count_by
         (R.Key.eq k) keyed.now.keys }
 {
     for key in keyed.keys.iter() {
@@ -25,10 +29,13 @@ pub(crate) fn post<R: Resolvable>(postings: &mut Postings<R::Key>, keyed: &Keyed
 
 /// Takes the number from under each key of the value. Takes no memory.
 pub(crate) fn unpost<R: Resolvable>(postings: &mut Postings<R::Key>, keyed: &Keyed<R>, number: u64)
-    requires { (k : R.Key) → R.is_posted keyed.now.value k → Contains (numbers_of R.Key.eq postings.old k) number }
+    requires { (k : R.Key) → R.is_posted keyed.now.value k
+        → Contains (numbers_of R.Key.eq postings.old k) number }
     ensures numbers { (k : R.Key) (n : ℕ) → Contains (numbers_of R.Key.eq postings.new k) n
-        ↔ (Contains (numbers_of R.Key.eq postings.old k) n × (R.is_posted keyed.now.value k → n ≢ number)) }
-    ensures spares { (k : R.Key) → spare_of R.Key.eq postings.new k ≡ spare_of R.Key.eq postings.old k }
+        ↔ (Contains (numbers_of R.Key.eq postings.old k) n
+        × (R.is_posted keyed.now.value k → n ≢ number)) }
+    ensures spares { (k : R.Key) → spare_of R.Key.eq postings.new k
+        ≡ spare_of R.Key.eq postings.old k }
 {
     for key in keyed.keys.iter() {
         postings.remove(key, number);
@@ -55,8 +62,10 @@ pub(crate) fn make_room_for<R: Resolvable>(
     postings: &mut Postings<R::Key>,
     keyed: &Keyed<R>,
 ) -> Result<(), Memory>
-    ensures numbers { (k : R.Key) → numbers_of R.Key.eq postings.new k ≡ numbers_of R.Key.eq postings.old k }
-    ensures room { OnOk result ((k : R.Key) → count_by (R.Key.eq k) keyed.now.keys ≤ spare_of R.Key.eq postings.new k) }
+    ensures numbers { (k : R.Key) → numbers_of R.Key.eq postings.new k
+        ≡ numbers_of R.Key.eq postings.old k }
+    ensures room { OnOk result ((k : R.Key) → count_by (R.Key.eq k) keyed.now.keys
+        ≤ spare_of R.Key.eq postings.new k) }
 {
     let mut keys = Vec::new(alloc);
     push_copies(alloc, keyed, &mut keys)?;

@@ -48,8 +48,10 @@ impl<R: Resolvable> Blocks<R> {
     /// The change without the member at the place. Returns `Memory` if allocation fails.
     fn taken_out(&self, alloc: Global, change: Change<R>, at: Place) -> Result<Change<R>, Memory>
         requires { IsSome (member_at self.now.blocks change.closed.items change.opened.items at) }
-        ensures closed { IfOk result (λ new. new.closed.items ≡ closed_after change.closed.items at) }
-        ensures opened { IfOk result (λ new. IsPermutation (opened_after change.opened.items at) new.opened.items) }
+        ensures closed { IfOk result (λ new. new.closed.items
+            ≡ closed_after change.closed.items at) }
+        ensures opened { IfOk result (λ new. IsPermutation (opened_after change.opened.items at)
+            new.opened.items) }
     {
         let mut change = change;
         match at {
@@ -74,13 +76,19 @@ impl<R: Resolvable> Blocks<R> {
         parts: Vec<R>,
     ) -> Result<Change<R>, Memory>
         requires fits { Fits R.meets self.now.blocks change.closed.items change.opened.items }
-        requires stands { IsSome (member_at self.now.blocks change.closed.items change.opened.items at) }
-        requires apart { AreApart R.meets (others_of self.now.blocks change.closed.items change.opened.items at
+        requires stands { IsSome (member_at self.now.blocks change.closed.items change.opened.items
+            at) }
+        requires apart { AreApart R.meets (others_of self.now.blocks change.closed.items
+            change.opened.items at
             ++ parts.items) }
-        ensures fits { IfOk result (λ new. Fits R.meets self.now.blocks new.closed.items new.opened.items) }
-        ensures view { IfOk result (λ new. IsPermutation (others_of self.now.blocks change.closed.items
-            change.opened.items at ++ parts.items) (view_of self.now.blocks new.closed.items new.opened.items)) }
-        ensures splits { IfOk result (λ new. Splits change.closed.items change.opened.items at parts.items
+        ensures fits { IfOk result (λ new. Fits R.meets self.now.blocks new.closed.items
+            new.opened.items) }
+        ensures view { IfOk result (λ new. IsPermutation
+            (others_of self.now.blocks change.closed.items
+            change.opened.items at ++ parts.items) (view_of self.now.blocks new.closed.items
+            new.opened.items)) }
+        ensures splits { IfOk result (λ new. Splits change.closed.items change.opened.items at
+            parts.items
             new.closed.items new.opened.items) }
     {
         let mut change = self.taken_out(alloc, change, at)?;

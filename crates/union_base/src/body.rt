@@ -148,7 +148,8 @@ impl Body {
 
 /// Whether these are two indicators and subfields, one at least.
 fn is_data(ind1: u8, ind2: u8, subfields: Subfields<'_>) -> bool
-    ensures { result ≡ ((is_indicator ind1 && is_indicator ind2) && (nat_le 1 (length subfields.entry) && list_all is_subfield subfields.entry)) }
+    ensures { result ≡ ((is_indicator ind1 && is_indicator ind2)
+        && (nat_le 1 (length subfields.entry) && list_all is_subfield subfields.entry)) }
 {
     (is_indicator(ind1) && is_indicator(ind2))
         && (!subfields.spelling().is_empty() && have_form(subfields))

@@ -25,7 +25,8 @@ pub fn union_is_associative<K: Element>()
 
 /// A union is in order and without repeats.
 pub fn union_is_ascending<K: Element>()
-    ensures { (xs ys : List K) → IsTrue (is_ascending K.cmp xs) → IsTrue (is_ascending K.cmp (union K.cmp xs ys)) }
+    ensures { (xs ys : List K) → IsTrue (is_ascending K.cmp xs)
+        → IsTrue (is_ascending K.cmp (union K.cmp xs ys)) }
 {}
 
 /// Two lists have a common value in either order, or in neither.
@@ -40,5 +41,6 @@ pub fn common_value_is_reflexive<K: Element>()
 
 /// A list has a common value with a union exactly where it has one with either side.
 pub fn common_value_with_union<K: Element>()
-    ensures { (xs ys zs : List K) → have_common K.cmp xs (union K.cmp ys zs) ≡ (have_common K.cmp xs ys || have_common K.cmp xs zs) }
+    ensures { (xs ys zs : List K) → have_common K.cmp xs (union K.cmp ys zs)
+        ≡ (have_common K.cmp xs ys || have_common K.cmp xs zs) }
 {}

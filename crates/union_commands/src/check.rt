@@ -39,7 +39,11 @@ struct Findings {
 /// Counts the frames of a source.
 fn count_frames<S: Source>(alloc: Global, source: &mut S) -> Result<Tally, Stop>
     ensures name { S.name source.new ≡ S.name source.old }
-    ensures reads { Reads result (record { told = S.left source.old; before = S.faults source.old; after = S.faults source.new })
+    ensures reads { Reads result (record {
+      told = S.left source.old;
+      before = S.faults source.old;
+      after = S.faults source.new;
+    })
         (λ tally bytes. IsTally (frames bytes) tally) }
 {
     let mut reader = FrameReader::open(alloc, LARGEST_SOURCE)?;
@@ -57,7 +61,8 @@ fn count_frames<S: Source>(alloc: Global, source: &mut S) -> Result<Tally, Stop>
 /// Adds `LIB frames F load L withdraw W refused N`.
 fn add_check_line(text: &mut Vec<u8>, library: &[u8], tally: &Tally) -> Result<(), AllocError>
     ensures { OnOk result (text.new.items ≡ text.old.items
-        ++ check_line library.now tally.now.frames tally.now.loads tally.now.withdrawals (length tally.now.refused.items)) }
+        ++ check_line library.now tally.now.frames tally.now.loads tally.now.withdrawals
+        (length tally.now.refused.items)) }
 {
     text.extend_from_slice(library)?;
     add_counted(text, b"frames", tally.frames)?;
@@ -70,7 +75,8 @@ fn add_check_line(text: &mut Vec<u8>, library: &[u8], tally: &Tally) -> Result<(
 
 /// The text of a check by which these frames were counted.
 fn check_text(alloc: Global, library: &[u8], tally: &Tally) -> Result<Vec<u8>, AllocError>
-    ensures { IfOk result (λ text. (all : List Frame) → IsTally all tally.now → text.items ≡ check_text library.now all) }
+    ensures { IfOk result (λ text. (all : List Frame) → IsTally all tally.now
+        → text.items ≡ check_text library.now all) }
 {
     let mut text = Vec::new(alloc);
     add_refused_lines(&mut text, library, tally.refused.as_slice())?;
@@ -97,8 +103,13 @@ fn check_source<S: Source>(
     source: &mut S,
 ) -> Result<Findings, Stop>
     ensures name { S.name source.new ≡ S.name source.old }
-    ensures reads { Reads result (record { told = S.left source.old; before = S.faults source.old; after = S.faults source.new })
-        (λ found bytes. (found.text.items ≡ check_text library.now (frames bytes)) × (found.end ≡ end_of bytes)) }
+    ensures reads { Reads result (record {
+      told = S.left source.old;
+      before = S.faults source.old;
+      after = S.faults source.new;
+    })
+        (λ found bytes. (found.text.items ≡ check_text library.now (frames bytes))
+        × (found.end ≡ end_of bytes)) }
     ensures end { IfOk result (λ found. IsTrue (is_done found.end)) }
 {
     match count_frames(alloc, source) {
@@ -127,8 +138,19 @@ pub fn check_run<S: Source, O: Sink>(
 ) -> Status
     ensures name { S.name source.new ≡ S.name source.old }
     ensures run { IsCheck library.now
-        (record { told = S.left source.old; before = S.faults source.old; after = S.faults source.new })
-        (record { old = O.written out.old; new = O.written out.new; before = O.faults out.old; after = O.faults out.new })
+        (record {
+          told = S.left source.old;
+          before = S.faults source.old;
+          after = S.faults
+              source.new;
+        })
+        (record {
+          old = O.written out.old;
+          new = O.written out.new;
+          before = O.faults out.old;
+          after
+              = O.faults out.new;
+        })
         result }
     ensures open { (input : InputModel) → result ≢ Status.OpenFault input }
 {

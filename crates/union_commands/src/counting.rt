@@ -30,7 +30,8 @@ impl Tally {
     /// Counts an accepted frame with that status. Takes no memory.
     pub fn accept(&mut self, status: u8)
         requires { self.old.frames < u64.MAX }
-        ensures counted { (all : List Frame) (frame : Frame) → IsTally all self.old → failure_of frame ≡ None
+        ensures counted { (all : List Frame) (frame : Frame) → IsTally all self.old
+            → failure_of frame ≡ None
             → status_of frame.1 ≡ status → IsTally (all ++ frame ∷ []) self.new }
         ensures frames { self.new.frames ≡ self.old.frames + 1 }
     {
@@ -46,7 +47,8 @@ impl Tally {
     pub fn refuse(&mut self, rule: Rule, place: u32) -> Result<(), AllocError>
         requires { self.old.frames < u64.MAX }
         ensures counted { OnOk result ((all : List Frame) (frame : Frame) → IsTally all self.old
-            → failure_of frame ≡ Some (record { rule = rule; place = place }) → IsTally (all ++ frame ∷ []) self.new) }
+            → failure_of frame ≡ Some (record { rule = rule; place = place })
+            → IsTally (all ++ frame ∷ []) self.new) }
         ensures frames { OnOk result (self.new.frames ≡ self.old.frames + 1) }
     {
         self.frames += 1;
@@ -63,7 +65,8 @@ impl Tally {
 pub fn count_frame(alloc: Global, tally: &mut Tally, cut: Cut, frame: &[u8]) -> Result<(), Memory>
     requires whole { cut ≡ Cut.Whole → IsWhole frame.now }
     requires room { tally.old.frames < u64.MAX }
-    ensures counted { OnOk result ((all : List Frame) → IsTally all tally.old → IsTally (all ++ (cut, frame.now) ∷ []) tally.new) }
+    ensures counted { OnOk result ((all : List Frame) → IsTally all tally.old
+        → IsTally (all ++ (cut, frame.now) ∷ []) tally.new) }
     ensures frames { OnOk result (tally.new.frames ≡ tally.old.frames + 1) }
 {
     match accepted_status(alloc, cut, frame) {

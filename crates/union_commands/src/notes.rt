@@ -12,7 +12,13 @@ use union_words::status::Status;
 
 /// Writes the one line of a run that ended early. Whether that could be written changes nothing else.
 pub fn put_early<N: Sink>(notes: &mut N, status: &Status)
-    ensures { IsNoted (record { old = N.written notes.old; new = N.written notes.new; before = N.faults notes.old; after = N.faults notes.new })
+    ensures { IsNoted (record {
+      old = N.written notes.old;
+      new = N.written notes.new;
+      before =
+          N.faults notes.old;
+      after = N.faults notes.new;
+    })
         (early_text status.now) }
 {
     let (front, name, end) = status.early_parts();
@@ -21,8 +27,10 @@ pub fn put_early<N: Sink>(notes: &mut N, status: &Status)
 
 /// Writes three texts one after the other.
 fn put_parts<N: Sink>(notes: &mut N, one: &[u8], two: &[u8], three: &[u8]) -> Result<(), Failed>
-    ensures all { OnOk result (Appends (N.written notes.old) (N.written notes.new) (one.now ++ (two.now ++ three.now))) }
-    ensures front { OnErr result (AppendsFront (N.written notes.old) (N.written notes.new) (one.now ++ (two.now ++ three.now))) }
+    ensures all { OnOk result (Appends (N.written notes.old) (N.written notes.new)
+        (one.now ++ (two.now ++ three.now))) }
+    ensures front { OnErr result (AppendsFront (N.written notes.old) (N.written notes.new)
+        (one.now ++ (two.now ++ three.now))) }
     ensures cause { HasCause (N.faults notes.old) (N.faults notes.new) result }
 {
     put_all(notes, one)?;
@@ -30,8 +38,10 @@ fn put_parts<N: Sink>(notes: &mut N, one: &[u8], two: &[u8], three: &[u8]) -> Re
 }
 
 fn put_both<N: Sink>(notes: &mut N, one: &[u8], two: &[u8]) -> Result<(), Failed>
-    ensures all { OnOk result (Appends (N.written notes.old) (N.written notes.new) (one.now ++ two.now)) }
-    ensures front { OnErr result (AppendsFront (N.written notes.old) (N.written notes.new) (one.now ++ two.now)) }
+    ensures all { OnOk result (Appends (N.written notes.old) (N.written notes.new)
+        (one.now ++ two.now)) }
+    ensures front { OnErr result (AppendsFront (N.written notes.old) (N.written notes.new)
+        (one.now ++ two.now)) }
     ensures cause { HasCause (N.faults notes.old) (N.faults notes.new) result }
 {
     put_all(notes, one)?;

@@ -21,8 +21,19 @@ pub fn check_file<F: Shelf, O: Sink>(
     out: &mut O,
 ) -> Status
     ensures run { IsCheck library.now
-        (record { told = told_file (F.files shelf.old) path.now; before = F.faults shelf.old path.now; after = F.faults shelf.new path.now })
-        (record { old = O.written out.old; new = O.written out.new; before = O.faults out.old; after = O.faults out.new })
+        (record {
+          told = told_file (F.files shelf.old) path.now;
+          before = F.faults shelf.old
+              path.now;
+          after = F.faults shelf.new path.now;
+        })
+        (record {
+          old = O.written out.old;
+          new = O.written out.new;
+          before = O.faults out.old;
+          after
+              = O.faults out.new;
+        })
         result }
     ensures others { SameElsewhere (F.faults shelf.old) (F.faults shelf.new) path.now }
 {

@@ -26,7 +26,11 @@ use union_words::status::Status;
 pub fn read_asks<F: Shelf>(alloc: Global, path: &[u8], shelf: &mut F) -> Result<Vec<u8>, Status>
     ensures files { F.files shelf.new ≡ F.files shelf.old }
     ensures reads { ReadsFile result (record { input = Input.Asks; path = path.now })
-        (record { files = F.files shelf.old; before = F.faults shelf.old; after = F.faults shelf.new })
+        (record {
+          files = F.files shelf.old;
+          before = F.faults shelf.old;
+          after = F.faults shelf.new;
+        })
         (λ text bytes. text.items ≡ bytes) }
 {
     match Bytes::of(alloc, path) {
@@ -52,10 +56,24 @@ pub fn write_answered<O: Sink, N: Sink>(
     out: &mut O,
     notes: &mut N,
 ) -> Status
-    ensures { Written (watch_text answered.entry.loaded.catalogue.history (told_of (map line_meaning answered.entry.lines.items) (answered.entry.beside.items ++ answered.entry.late.items)))
-        answered.entry.loaded.reports.items (end_by (answered.entry.loaded.refused || answered.entry.refused))
-        (record { old = O.written out.old; new = O.written out.new; before = O.faults out.old; after = O.faults out.new })
-        (record { old = N.written notes.old; new = N.written notes.new; before = N.faults notes.old; after = N.faults notes.new })
+    ensures { Written (watch_text answered.entry.loaded.catalogue.history
+        (told_of (map line_meaning answered.entry.lines.items)
+        (answered.entry.beside.items ++ answered.entry.late.items)))
+        answered.entry.loaded.reports.items (end_by
+        (answered.entry.loaded.refused || answered.entry.refused))
+        (record {
+          old = O.written out.old;
+          new = O.written out.new;
+          before = O.faults out.old;
+          after
+              = O.faults out.new;
+        })
+        (record {
+          old = N.written notes.old;
+          new = N.written notes.new;
+          before = N.faults notes.old;
+          after = N.faults notes.new;
+        })
         result }
 {
     let Answered {

@@ -57,8 +57,14 @@ pub fn write_reports<N: Sink>(
     left: &[(RecordId, usize)],
     notes: &mut N,
 ) -> Status
-    ensures { IsReported (loaded.reports.items ++ flat_map left_line left.now) (end_by loaded.refused)
-        (record { old = N.written notes.old; new = N.written notes.new; before = N.faults notes.old; after = N.faults notes.new })
+    ensures { IsReported (loaded.reports.items ++ flat_map left_line left.now)
+        (end_by loaded.refused)
+        (record {
+          old = N.written notes.old;
+          new = N.written notes.new;
+          before = N.faults notes.old;
+          after = N.faults notes.new;
+        })
         result }
 {
     let (catalogue, reports, refused) = loaded.into_parts();
@@ -85,8 +91,19 @@ fn write_export<O: Sink, N: Sink>(
     notes: &mut N,
 ) -> Status
     ensures { Shows exported loaded
-        (record { old = O.written out.old; new = O.written out.new; before = O.faults out.old; after = O.faults out.new })
-        (record { old = N.written notes.old; new = N.written notes.new; before = N.faults notes.old; after = N.faults notes.new })
+        (record {
+          old = O.written out.old;
+          new = O.written out.new;
+          before = O.faults out.old;
+          after
+              = O.faults out.new;
+        })
+        (record {
+          old = N.written notes.old;
+          new = N.written notes.new;
+          before = N.faults notes.old;
+          after = N.faults notes.new;
+        })
         result }
 {
     let mut left = Vec::new(alloc);
@@ -108,8 +125,19 @@ fn write_json_export<O: Sink, N: Sink>(
     notes: &mut N,
 ) -> Status
     ensures { Shows exported_in_json loaded
-        (record { old = O.written out.old; new = O.written out.new; before = O.faults out.old; after = O.faults out.new })
-        (record { old = N.written notes.old; new = N.written notes.new; before = N.faults notes.old; after = N.faults notes.new })
+        (record {
+          old = O.written out.old;
+          new = O.written out.new;
+          before = O.faults out.old;
+          after
+              = O.faults out.new;
+        })
+        (record {
+          old = N.written notes.old;
+          new = N.written notes.new;
+          before = N.faults notes.old;
+          after = N.faults notes.new;
+        })
         result }
 {
     let mut left = Vec::new(alloc);
@@ -131,8 +159,19 @@ fn write_works<O: Sink, N: Sink>(
     notes: &mut N,
 ) -> Status
     ensures { Shows listed loaded
-        (record { old = O.written out.old; new = O.written out.new; before = O.faults out.old; after = O.faults out.new })
-        (record { old = N.written notes.old; new = N.written notes.new; before = N.faults notes.old; after = N.faults notes.new })
+        (record {
+          old = O.written out.old;
+          new = O.written out.new;
+          before = O.faults out.old;
+          after
+              = O.faults out.new;
+        })
+        (record {
+          old = N.written notes.old;
+          new = N.written notes.new;
+          before = N.faults notes.old;
+          after = N.faults notes.new;
+        })
         result }
 {
     match works_text(alloc, &loaded.catalogue, out) {
@@ -154,8 +193,19 @@ pub fn write_shown<O: Sink, N: Sink>(
     notes: &mut N,
 ) -> Status
     ensures { Shows (showing_of shown) loaded
-        (record { old = O.written out.old; new = O.written out.new; before = O.faults out.old; after = O.faults out.new })
-        (record { old = N.written notes.old; new = N.written notes.new; before = N.faults notes.old; after = N.faults notes.new })
+        (record {
+          old = O.written out.old;
+          new = O.written out.new;
+          before = O.faults out.old;
+          after
+              = O.faults out.new;
+        })
+        (record {
+          old = N.written notes.old;
+          new = N.written notes.new;
+          before = N.faults notes.old;
+          after = N.faults notes.new;
+        })
         result }
 {
     match shown {

@@ -66,7 +66,8 @@ impl ByteReader {
         ensures name { S.name source.new ≡ S.name source.old }
         ensures at { self.new.at ≡ self.old.at }
         ensures within { self.new.at ≤ 2 ^ 40 }
-        ensures fills { IfOk result (λ some. Fills (ahead self.old.unread (S.left source.old)) (ahead self.new.unread (S.left source.new)) some) }
+        ensures fills { IfOk result (λ some. Fills (ahead self.old.unread (S.left source.old))
+            (ahead self.new.unread (S.left source.new)) some) }
         ensures some { IfOk result (λ some. IsTrue some → 0 < length self.new.unread) }
         ensures cause { HasCause (S.faults source.old) (S.faults source.new) result }
     {
@@ -85,8 +86,10 @@ impl ByteReader {
     pub fn next<S: Source>(&mut self, source: &mut S) -> Result<Option<u8>, Stop>
         ensures name { S.name source.new ≡ S.name source.old }
         ensures gives { IfOk result (λ byte.
-            Gives (ahead self.old.unread (S.left source.old)) (ahead self.new.unread (S.left source.new)) byte) }
-        ensures at { IfOk result (λ byte. self.new.at ≡ self.old.at + length (option_to_list byte)) }
+            Gives (ahead self.old.unread (S.left source.old))
+            (ahead self.new.unread (S.left source.new)) byte) }
+        ensures at { IfOk result (λ byte. self.new.at
+            ≡ self.old.at + length (option_to_list byte)) }
         ensures within { IfOk result (λ _. self.new.at ≤ 2 ^ 40) }
         ensures too_long { result ≡ Err Stop.TooLong → self.old.at ≡ 2 ^ 40 }
         ensures faults { MatchResult result (λ _. S.faults source.new ≡ S.faults source.old)

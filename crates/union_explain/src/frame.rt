@@ -75,7 +75,8 @@ impl Frame {
     /// Adds the next byte of the piece.
     pub fn add(&mut self, byte: u8) -> Result<(), Memory>
         requires { self.old.first + self.old.size ≤ 2 ^ 40 }
-        ensures { OnOk result ((at : ℕ) (front : List ℕ) → self.old ≡ frame_at at front → self.new ≡ frame_at at (front ++ byte ∷ [])) }
+        ensures { OnOk result ((at : ℕ) (front : List ℕ) → self.old ≡ frame_at at front
+            → self.new ≡ frame_at at (front ++ byte ∷ [])) }
     {
         if self.size == 0 && is_break(byte) {
             self.first += 1;

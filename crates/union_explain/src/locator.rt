@@ -51,7 +51,8 @@ impl Locator {
     /// Whether there is a next frame, which is handed out then.
     pub fn next<S: Source>(&mut self, source: &mut S) -> Result<bool, Stop>
         ensures name { S.name source.new ≡ S.name source.old }
-        ensures gives { IfOk result (λ some. Gives (located_ahead self.old.at (ahead self.old.unread (S.left source.old)))
+        ensures gives { IfOk result (λ some. Gives
+            (located_ahead self.old.at (ahead self.old.unread (S.left source.old)))
             (located_ahead self.new.at (ahead self.new.unread (S.left source.new)))
             (if some then Some self.new.frame else None)) }
         ensures faults { MatchResult result (λ _. S.faults source.new ≡ S.faults source.old)
@@ -74,7 +75,8 @@ impl Locator {
     /// Whether there is a frame behind so many, which is handed out then.
     pub fn nth<S: Source>(&mut self, count: u64, source: &mut S) -> Result<bool, Stop>
         ensures name { S.name source.new ≡ S.name source.old }
-        ensures finds { IfOk result (λ some. Finds count (located_ahead self.old.at (ahead self.old.unread (S.left source.old)))
+        ensures finds { IfOk result (λ some. Finds count
+            (located_ahead self.old.at (ahead self.old.unread (S.left source.old)))
             (located_ahead self.new.at (ahead self.new.unread (S.left source.new)))
             (if some then Some self.new.frame else None)) }
         ensures faults { MatchResult result (λ _. S.faults source.new ≡ S.faults source.old)

@@ -82,7 +82,8 @@ pub fn refused_by(library: &[u8], line: &[u8]) -> Option<Reported>
 /// The refused records of the library that the report tells of, in its order. One whose number is not greater than that of
 /// the one before it is passed over: `check` and `export` write none.
 pub fn refused_of(alloc: Global, library: &[u8], report: &[u8]) -> Result<Vec<Reported>, Memory>
-    ensures value { IfOk result (λ found. found.items ≡ rising 0 (filter_map (refused_by library.now) (lines_of report.now))) }
+    ensures value { IfOk result (λ found. found.items
+        ≡ rising 0 (filter_map (refused_by library.now) (lines_of report.now))) }
     ensures rising { IfOk result (λ found. IsRising 0 found.items) }
 {
     let mut found = Vec::new(alloc);

@@ -102,7 +102,8 @@ impl<'a> Request<'a> {
 
 /// The request, where no word follows it.
 fn alone<'a>(request: Request<'a>, rest: &[Bytes]) -> Option<Request<'a>>
-    ensures { option_map request_meaning result ≡ alone_of (request_meaning request.entry) rest.now }
+    ensures { option_map request_meaning result
+        ≡ alone_of (request_meaning request.entry) rest.now }
 {
     match rest {
         [] => Some(request),

@@ -34,7 +34,8 @@ use union_words::status::Status;
 /// than 2^40 bytes.
 pub fn read_all<S: Source>(alloc: Global, source: &mut S) -> Result<Vec<u8>, Stop>
     ensures name { S.name source.new ≡ S.name source.old }
-    ensures text { IfOk result (λ text. (bytes : List ℕ) → S.left source.old ≡ Some bytes → text.items ≡ bytes) }
+    ensures text { IfOk result (λ text. (bytes : List ℕ) → S.left source.old ≡ Some bytes
+        → text.items ≡ bytes) }
 {
     let mut reader = ByteReader::open(alloc)?;
     let mut text = Vec::new(alloc);
@@ -68,9 +69,11 @@ fn read_file<F: Shelf>(
     requires { IsRising 0 refused.now }
     ensures files { F.files shelf.new ≡ F.files shelf.old }
     ensures text { OnOk result ((contents : List ℕ → List ℕ) → F.files shelf.old ≡ Some contents
-        → table.new.text ≡ table.old.text ++ rows_of form file.now.library (located (contents file.now.path.now)) refused.now) }
+        → table.new.text ≡ table.old.text ++ rows_of form file.now.library
+        (located (contents file.now.path.now)) refused.now) }
     ensures rows { OnOk result ((contents : List ℕ → List ℕ) → F.files shelf.old ≡ Some contents
-        → table.new.rows ≡ table.old.rows + row_count (located (contents file.now.path.now)) refused.now) }
+        → table.new.rows ≡ table.old.rows + row_count (located (contents file.now.path.now))
+        refused.now) }
     ensures early { IfErr result (λ status. IsTrue (is_early status)) }
     ensures calm { OnOk result (SameCounts (F.faults shelf.old) (F.faults shelf.new)) }
     ensures fault { IfErr result (λ status. IsTrue (is_input_fault status)
@@ -110,9 +113,11 @@ pub fn table_of<F: Shelf>(
     shelf: &mut F,
 ) -> Result<Table, Status>
     ensures files { F.files shelf.new ≡ F.files shelf.old }
-    ensures text { IfOk result (λ table. (contents : List ℕ → List ℕ) → F.files shelf.old ≡ Some contents
+    ensures text { IfOk result (λ table. (contents : List ℕ → List ℕ)
+        → F.files shelf.old ≡ Some contents
         → table.text ≡ table_text form report.now contents (libraries_meaning libraries.now)) }
-    ensures rows { IfOk result (λ table. (contents : List ℕ → List ℕ) → F.files shelf.old ≡ Some contents
+    ensures rows { IfOk result (λ table. (contents : List ℕ → List ℕ)
+        → F.files shelf.old ≡ Some contents
         → table.rows ≡ table_rows report.now contents (libraries_meaning libraries.now)) }
     ensures early { IfErr result (λ status. IsTrue (is_early status)) }
     ensures calm { OnOk result (SameCounts (F.faults shelf.old) (F.faults shelf.new)) }
@@ -157,7 +162,8 @@ fn add_count(text: &mut Vec<u8>, word: &[u8], number: u64) -> Result<(), AllocEr
 /// The line of the report's counts, `lines L explained E passed P`: the lines that are not empty, those that have a row, and all
 /// others.
 pub fn counts_text(alloc: Global, report: &[u8], rows: u64) -> Result<Vec<u8>, AllocError>
-    ensures { IfOk result (λ text. text.items ≡ counts_text (min (told_lines (lines_of report.now)) (2 ^ 64 - 1)) rows) }
+    ensures { IfOk result (λ text. text.items
+        ≡ counts_text (min (told_lines (lines_of report.now)) (2 ^ 64 - 1)) rows) }
 {
     let lines = told_lines(report);
     let mut text = Vec::new(alloc);

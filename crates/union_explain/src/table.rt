@@ -36,7 +36,8 @@ fn add_place(
     number: u64,
     frame: &Frame,
 ) -> Result<(), AllocError>
-    ensures { OnOk result (text.new.items ≡ text.old.items ++ place_cells form library.now number frame.now) }
+    ensures { OnOk result (text.new.items ≡ text.old.items
+        ++ place_cells form library.now number frame.now) }
 {
     form.add_cell(text, library)?;
     form.add_number(text, number)?;
@@ -64,7 +65,8 @@ fn add_names(
     place: u64,
     bytes: &[u8],
 ) -> Result<(), AllocError>
-    ensures { OnOk result (text.new.items ≡ text.old.items ++ name_cells form rule place bytes.now) }
+    ensures { OnOk result (text.new.items ≡ text.old.items
+        ++ name_cells form rule place bytes.now) }
 {
     form.add_next(text, control_number(bytes))?;
     form.add_next(text, tag_at(rule, place, bytes))?;
@@ -136,7 +138,8 @@ impl Table {
         told: &Reported,
         frame: &Frame,
     ) -> Result<(), AllocError>
-        ensures text { OnOk result (self.new.text ≡ self.old.text ++ row form library.now told.now frame.now) }
+        ensures text { OnOk result (self.new.text ≡ self.old.text
+            ++ row form library.now told.now frame.now) }
         ensures rows { OnOk result (self.new.rows ≡ self.old.rows + 1) }
         ensures err { OnErr result (self.new ≡ self.old) }
     {

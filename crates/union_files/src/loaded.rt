@@ -31,7 +31,8 @@ impl Loaded {
     /// allocation fails.
     pub fn behind(self, text: Vec<u8>, refused: bool) -> Result<Loaded, AllocError>
         ensures catalogue { IfOk result (λ all. all.catalogue ≡ self.catalogue) }
-        ensures reports { IfOk result (λ all. all.reports.items ≡ text.items ++ self.reports.items) }
+        ensures reports { IfOk result (λ all. all.reports.items ≡ text.items
+            ++ self.reports.items) }
         ensures refused { IfOk result (λ all. all.refused ≡ (refused || self.refused)) }
     {
         let Loaded {

@@ -23,7 +23,8 @@ use union_words::status::Status;
 
 /// Gives back opened files of which nothing was read. Takes no memory.
 pub fn give_back_all<F: Shelf>(opened: &mut VecDeque<OpenedFile<F::Src>>, shelf: &mut F)
-    requires { AreFresh (F.files shelf.old) (F.opened shelf.old) (states_of F.Src.name F.Src.left F.Src.faults opened.old.items) }
+    requires { AreFresh (F.files shelf.old) (F.opened shelf.old)
+        (states_of F.Src.name F.Src.left F.Src.faults opened.old.items) }
     ensures files { F.files shelf.new ≡ F.files shelf.old }
     ensures names { F.opened shelf.new ≡ F.opened shelf.old }
     ensures calm { SameCounts (F.faults shelf.old) (F.faults shelf.new) }
@@ -41,15 +42,25 @@ fn open_file<F: Shelf>(
     shelf: &mut F,
 ) -> Result<OpenedFile<F::Src>, Status>
     ensures files { F.files shelf.new ≡ F.files shelf.old }
-    ensures kept { (name : List ℕ) → IsTrue (is_among name (F.opened shelf.old)) → IsTrue (is_among name (F.opened shelf.new)) }
-    ensures file { IfOk result (λ opened. file_of (state_of F.Src.name F.Src.left F.Src.faults opened) ≡ file_meaning file.now) }
-    ensures fresh { IfOk result (λ opened. IsFresh (F.files shelf.new) (F.opened shelf.new) (state_of F.Src.name F.Src.left F.Src.faults opened)) }
+    ensures kept { (name : List ℕ) → IsTrue (is_among name (F.opened shelf.old))
+        → IsTrue (is_among name (F.opened shelf.new)) }
+    ensures file { IfOk result (λ opened. file_of
+        (state_of F.Src.name F.Src.left F.Src.faults opened) ≡ file_meaning file.now) }
+    ensures fresh { IfOk result (λ opened. IsFresh (F.files shelf.new) (F.opened shelf.new)
+        (state_of F.Src.name F.Src.left F.Src.faults opened)) }
     ensures calm { OnOk result (SameCounts (F.faults shelf.old) (F.faults shelf.new)) }
-    ensures opened { IfOk result (λ _. AddsName (F.opened shelf.old) (F.opened shelf.new) (file_meaning file.now).path) }
+    ensures opened { IfOk result (λ _. AddsName (F.opened shelf.old) (F.opened shelf.new)
+        (file_meaning file.now).path) }
     ensures in_order { IfErr result (λ status. (rest : List Words.LibraryFile)
-        → OpensInOrder status (file_meaning file.now ∷ rest) (F.opened shelf.old) (F.opened shelf.new)) }
-    ensures stops { IfErr result (λ status. (rest : List Words.LibraryFile) → StopsOpening status (file_meaning file.now ∷ rest)
-        (record { files = F.files shelf.old; before = F.faults shelf.old; after = F.faults shelf.new })) }
+        → OpensInOrder status (file_meaning file.now ∷ rest) (F.opened shelf.old)
+        (F.opened shelf.new)) }
+    ensures stops { IfErr result (λ status. (rest : List Words.LibraryFile)
+        → StopsOpening status (file_meaning file.now ∷ rest)
+        (record {
+          files = F.files shelf.old;
+          before = F.faults shelf.old;
+          after = F.faults shelf.new;
+        })) }
 {
     let Ok(path) = Bytes::of(alloc, file.path) else {
         return Err(Status::Memory);
@@ -70,8 +81,10 @@ fn put_first<F: Shelf>(
     mut opened: VecDeque<OpenedFile<F::Src>>,
     shelf: &mut F,
 ) -> Result<VecDeque<OpenedFile<F::Src>>, Status>
-    requires file { IsFresh (F.files shelf.old) (F.opened shelf.old) (state_of F.Src.name F.Src.left F.Src.faults file) }
-    requires others { AreFresh (F.files shelf.old) (F.opened shelf.old) (states_of F.Src.name F.Src.left F.Src.faults opened.items) }
+    requires file { IsFresh (F.files shelf.old) (F.opened shelf.old)
+        (state_of F.Src.name F.Src.left F.Src.faults file) }
+    requires others { AreFresh (F.files shelf.old) (F.opened shelf.old)
+        (states_of F.Src.name F.Src.left F.Src.faults opened.items) }
     ensures files { F.files shelf.new ≡ F.files shelf.old }
     ensures names { F.opened shelf.new ≡ F.opened shelf.old }
     ensures calm { SameCounts (F.faults shelf.old) (F.faults shelf.new) }
@@ -102,14 +115,24 @@ pub fn open_rest<F: Shelf>(
 ) -> Result<VecDeque<OpenedFile<F::Src>>, Status>
     requires { place ≤ length (libraries_meaning libraries.now) }
     ensures files { F.files shelf.new ≡ F.files shelf.old }
-    ensures kept { (name : List ℕ) → IsTrue (is_among name (F.opened shelf.old)) → IsTrue (is_among name (F.opened shelf.new)) }
-    ensures opened { IfOk result (λ opened. files_of (states_of F.Src.name F.Src.left F.Src.faults opened.items) ≡ drop place (libraries_meaning libraries.now)) }
-    ensures fresh { IfOk result (λ opened. AreFresh (F.files shelf.new) (F.opened shelf.new) (states_of F.Src.name F.Src.left F.Src.faults opened.items)) }
+    ensures kept { (name : List ℕ) → IsTrue (is_among name (F.opened shelf.old))
+        → IsTrue (is_among name (F.opened shelf.new)) }
+    ensures opened { IfOk result (λ opened. files_of
+        (states_of F.Src.name F.Src.left F.Src.faults opened.items)
+        ≡ drop place (libraries_meaning libraries.now)) }
+    ensures fresh { IfOk result (λ opened. AreFresh (F.files shelf.new) (F.opened shelf.new)
+        (states_of F.Src.name F.Src.left F.Src.faults opened.items)) }
     ensures calm { OnOk result (SameCounts (F.faults shelf.old) (F.faults shelf.new)) }
-    ensures in_order { IfErr result (λ status. OpensInOrder status (drop place (libraries_meaning libraries.now))
+    ensures in_order { IfErr result (λ status. OpensInOrder status
+        (drop place (libraries_meaning libraries.now))
         (F.opened shelf.old) (F.opened shelf.new)) }
-    ensures stops { IfErr result (λ status. StopsOpening status (drop place (libraries_meaning libraries.now))
-        (record { files = F.files shelf.old; before = F.faults shelf.old; after = F.faults shelf.new })) }
+    ensures stops { IfErr result (λ status. StopsOpening status
+        (drop place (libraries_meaning libraries.now))
+        (record {
+          files = F.files shelf.old;
+          before = F.faults shelf.old;
+          after = F.faults shelf.new;
+        })) }
 {
     if place == libraries.len() {
         return match VecDeque::with_capacity(alloc, libraries.len()) {

@@ -54,7 +54,8 @@ fn ask_beside<R: Wait>(_rt: &R, alloc: Global, asking: &mut Asking) -> Result<()
     ensures book { asking.new.viewer.book ≡ asking.old.viewer.book }
     ensures replied { Replied empty (entries_of asking.new.viewer.seen) 0
         asking.old.questions.items asking.new.replies.items }
-    ensures all { OnOk result (length asking.new.replies.items ≡ length asking.old.questions.items) }
+    ensures all { OnOk result (length asking.new.replies.items
+        ≡ length asking.old.questions.items) }
 {
     view_all(
         alloc,
@@ -102,7 +103,8 @@ fn load_beside<R: Threads + Wait + Sync, S: Source + Send>(
     ensures questions { asking.new.questions ≡ asking.old.questions }
     ensures replied { Replied empty (entries_of asking.new.viewer.seen) 0
         asking.old.questions.items asking.new.replies.items }
-    ensures all { OnOk result.1 (length asking.new.replies.items ≡ length asking.old.questions.items) }
+    ensures all { OnOk result.1 (length asking.new.replies.items
+        ≡ length asking.old.questions.items) }
 {
     join_mut(
         rt,
@@ -134,7 +136,8 @@ fn gather<R: Threads + Wait + Sync, F: Shelf>(
     requires none { asking.old.replies.items ≡ [] }
     ensures book { running.new.load.publisher.book ≡ running.old.load.publisher.book }
     ensures viewer { asking.new.viewer.book ≡ asking.old.viewer.book }
-    ensures shown { OnOk result (IsShown running.new.load.catalogue.history running.new.load.publisher) }
+    ensures shown { OnOk result (IsShown running.new.load.catalogue.history
+        running.new.load.publisher) }
     ensures gathers { Gathers result (libraries_meaning libraries.now)
         (shelf_flow F.files F.faults shelf.old shelf.new)
         (λ done contents. AreTurnedFrom contents 0 (libraries_meaning libraries.now)
@@ -144,7 +147,8 @@ fn gather<R: Threads + Wait + Sync, F: Shelf>(
     ensures questions { asking.new.questions ≡ asking.old.questions }
     ensures replied { Replied empty (entries_of asking.new.viewer.seen) 0
         asking.old.questions.items asking.new.replies.items }
-    ensures all { OnOk result (length asking.new.replies.items ≡ length asking.old.questions.items) }
+    ensures all { OnOk result (length asking.new.replies.items
+        ≡ length asking.old.questions.items) }
 {
     let (loaded, asked) = load_beside(rt, alloc, running, asking);
     return_all(&mut running.opened, shelf);

@@ -79,7 +79,8 @@ pub fn return_all<F: Shelf>(opened: &mut VecDeque<OpenedFile<F::Src>>, shelf: &m
         → SameCounts (F.faults shelf.old) (F.faults shelf.new) }
     ensures failed { (place : ℕ) (state : OpenedState)
         → FailsOnly place (states_of F.Src.name F.Src.left F.Src.faults opened.old.items)
-        → slice_get (states_of F.Src.name F.Src.left F.Src.faults opened.old.items) place ≡ Some state
+        → slice_get (states_of F.Src.name F.Src.left F.Src.faults opened.old.items) place
+        ≡ Some state
         → Rose (F.faults shelf.old state.name) (F.faults shelf.new state.name)
         × SameElsewhere (F.faults shelf.old) (F.faults shelf.new) state.name }
 {

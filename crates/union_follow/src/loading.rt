@@ -37,10 +37,16 @@ fn load_batches<R: Wait, S: Source>(
     ensures name { S.name source.new ≡ S.name source.old }
     ensures book { load.new.publisher.book ≡ load.old.publisher.book }
     ensures reports { load.new.reports ≡ load.old.reports }
-    ensures turned { OnOk result (HasTurned pass load.old.catalogue.history load.new.catalogue.history) }
+    ensures turned { OnOk result (HasTurned pass load.old.catalogue.history
+        load.new.catalogue.history) }
     ensures shown { OnOk result (IsShown load.new.catalogue.history load.new.publisher) }
     ensures reads { Reads LARGEST_SOURCE result
-        (record { told = S.left source.old; before = S.faults source.old; after = S.faults source.new })
+        (record {
+          told = S.left source.old;
+          before = S.faults source.old;
+          after = S.faults
+              source.new;
+        })
         (λ counts bytes. AreTurned pass reader.old.library (frames bytes)
         load.old.catalogue.history load.new.catalogue.history reader.new counts) }
 {
@@ -81,7 +87,8 @@ pub fn load_file<R: Wait, S: Source>(
     ensures library { file.new.library ≡ file.old.library }
     ensures name { S.name file.new.source ≡ S.name file.old.source }
     ensures book { load.new.publisher.book ≡ load.old.publisher.book }
-    ensures turned { OnOk result (HasTurned pass load.old.catalogue.history load.new.catalogue.history) }
+    ensures turned { OnOk result (HasTurned pass load.old.catalogue.history
+        load.new.catalogue.history) }
     ensures shown { OnOk result (IsShown load.new.catalogue.history load.new.publisher) }
     ensures reads { Reads LARGEST_SOURCE result
         (record {

@@ -32,7 +32,8 @@ fn first_of(libraries: &Libraries<'_>, place: usize) -> LibraryCode
         × (slice_get (libraries_meaning libraries.now) first ≡ Some file)
         × (file.library ≡ result) × (file.path ≡ other.path)
         × ((earlier : ℕ) (before : LibraryFile) → earlier < first
-        → slice_get (libraries_meaning libraries.now) earlier ≡ Some before → before.path ≢ other.path) }
+        → slice_get (libraries_meaning libraries.now) earlier ≡ Some before
+        → before.path ≢ other.path) }
 {
     let path = libraries.at(place).path;
     for earlier in 0..place {

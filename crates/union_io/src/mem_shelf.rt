@@ -44,7 +44,8 @@ impl Model for MemFile {
 impl MemFile {
     /// The file, opened under that name.
     fn opened(&self, alloc: Global, name: &Bytes) -> Result<MemSource, Memory>
-        ensures { IfOk result (λ source. source ≡ new_source name.now self.now.content self.now.fails self.now.most) }
+        ensures { IfOk result (λ source. source ≡ new_source name.now self.now.content
+            self.now.fails self.now.most) }
     {
         Ok(MemSource::named(
             name.copied(alloc)?,
@@ -138,12 +139,14 @@ impl MemShelf {
     fn begin_open(&mut self, alloc: Global, path: &Bytes) -> Result<Option<MemSource>, Memory>
         ensures files { self.new.files ≡ self.old.files }
         ensures counts { SameCounts (count_in self.old.names) (count_in self.new.names) }
-        ensures names { OnOk result (AddsName (names_in self.old.names) (names_in self.new.names) path.now) }
+        ensures names { OnOk result (AddsName (names_in self.old.names) (names_in self.new.names)
+            path.now) }
         ensures script { OnOk result (self.new.script ≡ after_call self.old.script) }
         ensures err { OnErr result (self.new ≡ self.old) }
         ensures found { IfOk result (λ found. MatchOption found
             (IsTrue (open_fails self.old path.now))
-            (λ source. (open_fails self.old path.now ≡ false) × IsSomeAnd (at_name self.old.files path.now)
+            (λ source. (open_fails self.old path.now ≡ false)
+            × IsSomeAnd (at_name self.old.files path.now)
             (λ file. source ≡ new_source path.now file.content file.fails file.most))) }
     {
         let source = self.source_of(alloc, path)?;
@@ -170,21 +173,26 @@ impl Shelf for MemShelf {
         ensures files { Some (content_at self.new.files) ≡ Some (content_at self.old.files) }
 
         ensures name { IfOk result (λ source. source.name ≡ path.now) }
-        ensures left { IfOk result (λ source. Some source.left ≡ told_file (Some (content_at self.old.files)) path.now) }
+        ensures left { IfOk result (λ source. Some source.left
+            ≡ told_file (Some (content_at self.old.files)) path.now) }
         ensures fresh { IfOk result (λ source. source.faults ≡ 0) }
 
         ensures later { count_in self.old.names path.now ≤ count_in self.new.names path.now }
-        ensures counts { CountsOpen result (count_in self.old.names) (count_in self.new.names) path.now }
-        ensures others { SameElsewhere (count_in self.old.names) (count_in self.new.names) path.now }
+        ensures counts { CountsOpen result (count_in self.old.names) (count_in self.new.names)
+            path.now }
+        ensures others { SameElsewhere (count_in self.old.names) (count_in self.new.names)
+            path.now }
 
-        ensures names { ListsOpen result (names_in self.old.names) (names_in self.new.names) path.now }
+        ensures names { ListsOpen result (names_in self.old.names) (names_in self.new.names)
+            path.now }
 
         // exactly these opens fail, and each other gives the file from its beginning
         ensures fails { IsErrOf result OpenFail.Failed → IsTrue (open_fails self.old path.now) }
         ensures ok { IfOk result (λ source. (open_fails self.old path.now ≡ false)
             × IsSomeAnd (at_name self.old.files path.now)
             (λ file. source ≡ new_source path.now file.content file.fails file.most)) }
-        ensures counted { result ≢ Err OpenFail.Memory → self.new.script ≡ after_call self.old.script }
+        ensures counted { result ≢ Err OpenFail.Memory
+            → self.new.script ≡ after_call self.old.script }
         ensures uncounted { IsErrOf result OpenFail.Memory → self.new.script ≡ self.old.script }
     {
         match self.begin_open(alloc, path)? {

@@ -41,7 +41,13 @@ impl MemSink {
     /// An empty sink that writes into `room`, of which what it held is dropped. It takes at most `limit` bytes in all, and
     /// no more than the room was reserved for. The writes with the numbers `fails` fail, counted from 1. Takes no memory.
     pub fn new(fails: Vec<u64>, room: Vec<u8>, limit: usize) -> MemSink
-        ensures { result ≡ record { written = []; limit = min limit (vec_capacity room); script = new_script fails.items; faults = 0 } }
+        ensures { result ≡ record {
+          written = [];
+          limit = min limit (vec_capacity room);
+          script =
+              new_script fails.items;
+          faults = 0;
+        } }
     {
         let mut content = room;
         content.clear();
@@ -72,7 +78,8 @@ impl Sink for MemSink {
         requires { 0 < length piece.now }
         ensures some { IfOk result (λ count. 0 < count) }
         ensures bound { WritesAtMost result piece.now }
-        ensures bytes { WriteAppends (Some self.old.written) (Some self.new.written) result piece.now }
+        ensures bytes { WriteAppends (Some self.old.written) (Some self.new.written) result
+            piece.now }
         ensures cause { HasCause self.old.faults self.new.faults result }
 
         // exactly these writes fail, and each other takes all that it may

@@ -95,7 +95,8 @@ impl Source for MemSource {
 
         // exactly the reads of the script fail, and each other gives all that it may
         ensures fails { IsErr result ↔ IsTrue (fails_next self.old.script) }
-        ensures size { IfOk result (λ count. count ≡ piece_size self.old.left (length into.old) self.old.most) }
+        ensures size { IfOk result (λ count. count
+            ≡ piece_size self.old.left (length into.old) self.old.most) }
         ensures ok { IfOk result (λ count. self.new ≡ after_read self.old count) }
         ensures err { OnErr result (self.new ≡ after_failed_read self.old) }
     {

@@ -65,7 +65,8 @@ impl OpenedNames {
     pub fn take_back(&mut self, name: &Bytes, faults: u64)
         requires { IsTrue (is_among name.now (names_in self.old)) }
         ensures names { names_in self.new ≡ names_in self.old }
-        ensures raised { 0 < faults → count_in self.new name.now ≡ next_count (count_in self.old name.now) }
+        ensures raised { 0 < faults → count_in self.new name.now
+            ≡ next_count (count_in self.old name.now) }
         ensures calm { faults ≡ 0 → self.new ≡ self.old }
         ensures later { count_in self.old name.now ≤ count_in self.new name.now }
         ensures others { SameElsewhere (count_in self.old) (count_in self.new) name.now }

@@ -68,7 +68,8 @@ impl<R: Read + Drop> Source for ReaderSource<R> {
         ensures cause { HasCause (faults_of self.old) (faults_of self.new) result }
 
         // no byte of the reader is lost, repeated or changed
-        ensures passed { ReadConsumes (R.remaining (reader_of self.old)) (R.remaining (reader_of self.new)) result into.new }
+        ensures passed { ReadConsumes (R.remaining (reader_of self.old))
+            (R.remaining (reader_of self.new)) result into.new }
     {
         match self.reader.read(into) {
             Ok(count) => Ok(count),

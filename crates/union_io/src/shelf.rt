@@ -54,7 +54,8 @@ pub trait Shelf: Drop {
 
         // what an opened source is
         ensures name { IfOk result (λ source. Self.Src.name source ≡ path.now) }
-        ensures left { IfOk result (λ source. Self.Src.left source ≡ told_file (files self.old) path.now) }
+        ensures left { IfOk result (λ source. Self.Src.left source
+            ≡ told_file (files self.old) path.now) }
         ensures fresh { IfOk result (λ source. Self.Src.faults source ≡ 0) }
 
         // the counts
@@ -70,9 +71,11 @@ pub trait Shelf: Drop {
         requires { IsTrue (is_among (Self.Src.name source) (opened self.old)) }
         ensures files { files self.new ≡ files self.old }
         ensures names { opened self.new ≡ opened self.old }
-        ensures later { faults self.old (Self.Src.name source) ≤ faults self.new (Self.Src.name source) }
+        ensures later { faults self.old (Self.Src.name source)
+            ≤ faults self.new (Self.Src.name source) }
         ensures raised { 0 < Self.Src.faults source
-            → Rose (faults self.old (Self.Src.name source)) (faults self.new (Self.Src.name source)) }
+            → Rose (faults self.old (Self.Src.name source))
+            (faults self.new (Self.Src.name source)) }
         ensures calm { Self.Src.faults source ≡ 0 → SameCounts (faults self.old) (faults self.new) }
         ensures others { SameElsewhere (faults self.old) (faults self.new) (Self.Src.name source) };
 }

@@ -74,7 +74,8 @@ impl SureShelf {
     /// Stores a file, in place of one of that name. Its opened source gives at most `most` bytes per read.
     pub fn put(&mut self, name: Bytes, content: Bytes, most: usize) -> Result<(), Memory>
         requires { 0 < most }
-        ensures file { OnOk result (at_name self.new.files name ≡ Some (record { content = content; most = most })) }
+        ensures file { OnOk result (at_name self.new.files name
+            ≡ Some (record { content = content; most = most })) }
         ensures others { OnOk result ((other : List ℕ) → other ≢ name
             → at_name self.new.files other ≡ at_name self.old.files other) }
         ensures names { self.new.names ≡ self.old.names }
@@ -108,13 +109,17 @@ impl Shelf for SureShelf {
 
     /// Opens a copy of the file. It never answers that it failed.
     fn open(&mut self, alloc: Global, path: &Bytes) -> Result<SureSource, OpenFail>
-        ensures files { Some (sure_content_at self.new.files) ≡ Some (sure_content_at self.old.files) }
+        ensures files { Some (sure_content_at self.new.files)
+            ≡ Some (sure_content_at self.old.files) }
 
         ensures name { IfOk result (λ source. source.name ≡ path.now) }
-        ensures left { IfOk result (λ source. Some source.left ≡ told_file (Some (sure_content_at self.old.files)) path.now) }
-        ensures most { IfOk result (λ source. IfSome (at_name self.old.files path.now) (λ file. source.most ≡ file.most)) }
+        ensures left { IfOk result (λ source. Some source.left
+            ≡ told_file (Some (sure_content_at self.old.files)) path.now) }
+        ensures most { IfOk result (λ source. IfSome (at_name self.old.files path.now)
+            (λ file. source.most ≡ file.most)) }
 
-        ensures names { ListsOpen result (names_in self.old.names) (names_in self.new.names) path.now }
+        ensures names { ListsOpen result (names_in self.old.names) (names_in self.new.names)
+            path.now }
 
         ensures never_failed { result ≢ Err OpenFail.Failed }
     {

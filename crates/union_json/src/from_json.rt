@@ -37,7 +37,11 @@ fn take_source<S: Source>(
 ) -> Result<(), Stop>
     requires { converter.old.findings.lines ≡ 0 }
     ensures name { S.name source.new ≡ S.name source.old }
-    ensures reads { Reads result (record { told = S.left source.old; before = S.faults source.old; after = S.faults source.new })
+    ensures reads { Reads result (record {
+      told = S.left source.old;
+      before = S.faults source.old;
+      after = S.faults source.new;
+    })
         (λ _ bytes. HasTaken [] converter.old → HasTaken bytes converter.new) }
     ensures few { OnOk result (converter.new.findings.lines ≤ most_bytes) }
 {
@@ -61,7 +65,11 @@ fn take_source<S: Source>(
 /// What came of the lines of a source.
 fn convert<S: Source>(alloc: Global, source: &mut S) -> Result<Findings, Stop>
     ensures name { S.name source.new ≡ S.name source.old }
-    ensures reads { Reads result (record { told = S.left source.old; before = S.faults source.old; after = S.faults source.new })
+    ensures reads { Reads result (record {
+      told = S.left source.old;
+      before = S.faults source.old;
+      after = S.faults source.new;
+    })
         (λ found bytes. IsConverted bytes found) }
 {
     let mut converter = Converter::open(alloc)?;
@@ -88,7 +96,8 @@ fn end_with(refused: &[RefusedLine]) -> Status
 
 /// The notes on lines of which that came.
 fn notes_of(alloc: Global, library: &[u8], found: &Findings) -> Result<Vec<u8>, AllocError>
-    ensures { IfOk result (λ text. (all : List Ended) → AreCounted all found.now → text.items ≡ from_json_notes library.now all) }
+    ensures { IfOk result (λ text. (all : List Ended) → AreCounted all found.now
+        → text.items ≡ from_json_notes library.now all) }
 {
     let refused = found.refused.as_slice();
     let mut text = Vec::new(alloc);
@@ -124,7 +133,11 @@ fn made_of(alloc: Global, library: &[u8], found: Findings) -> Result<Made, Alloc
 /// What is made of a source.
 fn make<S: Source>(alloc: Global, library: &LibraryCode, source: &mut S) -> Result<Made, Stop>
     ensures name { S.name source.new ≡ S.name source.old }
-    ensures reads { Reads result (record { told = S.left source.old; before = S.faults source.old; after = S.faults source.new })
+    ensures reads { Reads result (record {
+      told = S.left source.old;
+      before = S.faults source.old;
+      after = S.faults source.new;
+    })
         (λ made bytes. IsFromJson library.now bytes (making_of made)) }
     ensures end { IfOk result (λ made. IsTrue (is_done made.end)) }
 {
@@ -152,9 +165,25 @@ pub fn from_json_run<S: Source, O: Sink, N: Sink>(
 ) -> Status
     ensures name { S.name source.new ≡ S.name source.old }
     ensures run { IsFromJsonRun library.now
-        (record { told = S.left source.old; before = S.faults source.old; after = S.faults source.new })
-        (record { old = O.written out.old; new = O.written out.new; before = O.faults out.old; after = O.faults out.new })
-        (record { old = N.written notes.old; new = N.written notes.new; before = N.faults notes.old; after = N.faults notes.new })
+        (record {
+          told = S.left source.old;
+          before = S.faults source.old;
+          after = S.faults
+              source.new;
+        })
+        (record {
+          old = O.written out.old;
+          new = O.written out.new;
+          before = O.faults out.old;
+          after
+              = O.faults out.new;
+        })
+        (record {
+          old = N.written notes.old;
+          new = N.written notes.new;
+          before = N.faults notes.old;
+          after = N.faults notes.new;
+        })
         result }
     // Whoever calls may write its own line on the notes then.
     ensures quiet { IsTrue (is_early result) → notes.new ≡ notes.old }

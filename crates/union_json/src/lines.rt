@@ -22,7 +22,8 @@ pub fn add_count_line(
     counts: Counted,
 ) -> Result<(), AllocError>
     ensures { OnOk result (text.new.items
-        ≡ text.old.items ++ count_line library.now word.now counts.all counts.written counts.refused) }
+        ≡ text.old.items ++ count_line library.now word.now counts.all counts.written
+        counts.refused) }
 {
     text.extend_from_slice(library)?;
     add_counted(text, word, counts.all)?;

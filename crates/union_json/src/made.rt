@@ -22,11 +22,23 @@ pub fn write_made<O: Sink, N: Sink>(made: &Made, out: &mut O, notes: &mut N) -> 
     requires { IsTrue (is_done made.now.end) }
     ensures kinds { (result ≡ made.now.end) ⊎ (result ≡ Status.WriteFault) }
     ensures late { is_early result ≡ false }
-    ensures done { IsTrue (is_done result) → Appends (O.written out.old) (O.written out.new) made.now.shown
+    ensures done { IsTrue (is_done result) → Appends (O.written out.old) (O.written out.new)
+        made.now.shown
         × Appends (N.written notes.old) (N.written notes.new) made.now.noted.items }
     ensures part { result ≡ Status.WriteFault → IsCutOff
-        (record { old = O.written out.old; new = O.written out.new; before = O.faults out.old; after = O.faults out.new })
-        (record { old = N.written notes.old; new = N.written notes.new; before = N.faults notes.old; after = N.faults notes.new })
+        (record {
+          old = O.written out.old;
+          new = O.written out.new;
+          before = O.faults out.old;
+          after
+              = O.faults out.new;
+        })
+        (record {
+          old = N.written notes.old;
+          new = N.written notes.new;
+          before = N.faults notes.old;
+          after = N.faults notes.new;
+        })
         made.now.shown made.now.noted.items }
 {
     match made.shown.put(out) {

@@ -50,8 +50,10 @@ impl Written {
     /// Counts an accepted frame, of which that line is written.
     fn accept(&mut self, line: &[u8]) -> Result<(), AllocError>
         requires { self.old.frames < u64.MAX }
-        ensures counted { OnOk result ((all : List Frame) (frame : Frame) (r : RecordModel) → AreWritten all self.old
-            → failure_of frame ≡ None → Spells frame.1 r → line.now ≡ json_line r → AreWritten (all ++ frame ∷ []) self.new) }
+        ensures counted { OnOk result ((all : List Frame) (frame : Frame) (r : RecordModel)
+            → AreWritten all self.old
+            → failure_of frame ≡ None → Spells frame.1 r → line.now ≡ json_line r
+            → AreWritten (all ++ frame ∷ []) self.new) }
         ensures frames { OnOk result (self.new.frames ≡ self.old.frames + 1) }
     {
         self.lines.add(line)?;
@@ -64,7 +66,8 @@ impl Written {
     fn refuse(&mut self, rule: Rule, place: u32) -> Result<(), AllocError>
         requires { self.old.frames < u64.MAX }
         ensures counted { OnOk result ((all : List Frame) (frame : Frame) → AreWritten all self.old
-            → failure_of frame ≡ Some (record { rule = rule; place = place }) → AreWritten (all ++ frame ∷ []) self.new) }
+            → failure_of frame ≡ Some (record { rule = rule; place = place })
+            → AreWritten (all ++ frame ∷ []) self.new) }
         ensures frames { OnOk result (self.new.frames ≡ self.old.frames + 1) }
     {
         let frame = self.frames + 1;
@@ -100,7 +103,11 @@ fn write_frame(alloc: Global, done: &mut Written, cut: Cut, frame: &[u8]) -> Res
 /// Writes the lines of the frames of a source.
 fn write_frames<S: Source>(alloc: Global, source: &mut S) -> Result<Written, Stop>
     ensures name { S.name source.new ≡ S.name source.old }
-    ensures reads { Reads result (record { told = S.left source.old; before = S.faults source.old; after = S.faults source.new })
+    ensures reads { Reads result (record {
+      told = S.left source.old;
+      before = S.faults source.old;
+      after = S.faults source.new;
+    })
         (λ done bytes. AreWritten (frames bytes) done) }
 {
     let mut reader = FrameReader::open(alloc, LARGEST_SOURCE)?;
@@ -117,7 +124,8 @@ fn write_frames<S: Source>(alloc: Global, source: &mut S) -> Result<Written, Sto
 
 /// The notes on frames of which lines were written.
 fn notes_of(alloc: Global, library: &[u8], done: &Written) -> Result<Vec<u8>, AllocError>
-    ensures { IfOk result (λ text. (all : List Frame) → AreWritten all done.now → text.items ≡ to_json_notes library.now all) }
+    ensures { IfOk result (λ text. (all : List Frame) → AreWritten all done.now
+        → text.items ≡ to_json_notes library.now all) }
 {
     let refused = done.refused.as_slice();
     let mut text = Vec::new(alloc);
@@ -153,7 +161,11 @@ fn made_of(alloc: Global, library: &[u8], done: Written) -> Result<Made, AllocEr
 /// What is made of a source.
 fn make<S: Source>(alloc: Global, library: &LibraryCode, source: &mut S) -> Result<Made, Stop>
     ensures name { S.name source.new ≡ S.name source.old }
-    ensures reads { Reads result (record { told = S.left source.old; before = S.faults source.old; after = S.faults source.new })
+    ensures reads { Reads result (record {
+      told = S.left source.old;
+      before = S.faults source.old;
+      after = S.faults source.new;
+    })
         (λ made bytes. IsToJson library.now bytes (making_of made)) }
     ensures end { IfOk result (λ made. IsTrue (is_done made.end)) }
 {
@@ -181,9 +193,25 @@ pub fn to_json_run<S: Source, O: Sink, N: Sink>(
 ) -> Status
     ensures name { S.name source.new ≡ S.name source.old }
     ensures run { IsToJsonRun library.now
-        (record { told = S.left source.old; before = S.faults source.old; after = S.faults source.new })
-        (record { old = O.written out.old; new = O.written out.new; before = O.faults out.old; after = O.faults out.new })
-        (record { old = N.written notes.old; new = N.written notes.new; before = N.faults notes.old; after = N.faults notes.new })
+        (record {
+          told = S.left source.old;
+          before = S.faults source.old;
+          after = S.faults
+              source.new;
+        })
+        (record {
+          old = O.written out.old;
+          new = O.written out.new;
+          before = O.faults out.old;
+          after
+              = O.faults out.new;
+        })
+        (record {
+          old = N.written notes.old;
+          new = N.written notes.new;
+          before = N.faults notes.old;
+          after = N.faults notes.new;
+        })
         result }
     // Whoever calls may write its own line on the notes then.
     ensures quiet { IsTrue (is_early result) → notes.new ≡ notes.old }

@@ -72,7 +72,8 @@ fn editions_in(alloc: Global, members: &[Standing]) -> Result<Vec<Edition>, Memo
 
 /// What the records resolve to. Returns `Memory` if allocation fails.
 fn resolved(alloc: Global, members: &[Standing]) -> Result<Vec<Edition>, Memory>
-    ensures { IfOk result (λ editions. IsOrderedResolution (editions_in members.now) editions.items) }
+    ensures { IfOk result (λ editions. IsOrderedResolution (editions_in members.now)
+        editions.items) }
 {
     sorted_resolution_is_ordered();
     let loaded = editions_in(alloc, members)?;

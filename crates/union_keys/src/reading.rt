@@ -60,7 +60,8 @@ fn add_refused_line(
     place: u32,
 ) -> Result<(), AllocError>
     ensures { OnOk result (text.new.items
-        ≡ text.old.items ++ refused_line library.now number (record { rule = rule; place = place })) }
+        ≡ text.old.items ++ refused_line library.now number
+        (record { rule = rule; place = place })) }
 {
     text.extend_from_slice(library)?;
     text.extend_from_slice(b" refused")?;

@@ -72,7 +72,8 @@ fn read_file<F: Shelf>(
 ) -> Result<(), Status>
     ensures files { F.files shelf.new ≡ F.files shelf.old }
     ensures taken { OnOk result ((contents : List ℕ → List ℕ) → F.files shelf.old ≡ Some contents
-        → TakesAll file.now.library 1 (placed (contents file.now.path.now)) reading.old reading.new) }
+        → TakesAll file.now.library 1 (placed (contents file.now.path.now)) reading.old
+        reading.new) }
     ensures early { IfErr result (λ status. IsTrue (is_early status)) }
 {
     let text = text_of(alloc, file, shelf)?;
@@ -91,7 +92,8 @@ pub fn read_files<F: Shelf>(
 ) -> Result<Reading, Status>
     ensures read { IfOk result (λ reading. (contents : List ℕ → List ℕ)
         → F.files shelf.old ≡ Some contents
-        → ReadsFiles contents (libraries_meaning libraries.now) (record { standings = []; notes = [] }) reading) }
+        → ReadsFiles contents (libraries_meaning libraries.now)
+        (record { standings = []; notes = [] }) reading) }
     ensures early { IfErr result (λ status. IsTrue (is_early status)) }
 {
     let mut reading = Reading::begun(alloc);

@@ -89,8 +89,10 @@ pub fn ask_late<R: Wait>(
     ensures desk { IsRootOf root.new desk.now }
     ensures made { (root_of root.new).made ≡ (root_of root.old).made + 1 }
     ensures setting { (root_of root.new).setting ≡ (root_of root.old).setting }
-    ensures asked { IfOk result (λ replies. (left : Ended Batch) × ((root_of root.new).ended ≡ (root_of root.old).ended ++ left ∷ [])
-        × HasAsked (root_of root.old).setting (root_of root.old).floor questions.items replies.items left) }
+    ensures asked { IfOk result (λ replies. (left : Ended Batch)
+        × ((root_of root.new).ended ≡ (root_of root.old).ended ++ left ∷ [])
+        × HasAsked (root_of root.old).setting (root_of root.old).floor questions.items replies.items
+        left) }
 {
     let mut asker = start_asker(alloc, desk, root, questions);
     ask_all(rt, alloc, desk, &mut asker);

@@ -30,7 +30,8 @@ fn fails_on<S: Source>(
     session: &Session<S>,
     path: &[u8],
 ) -> bool
-    requires { slice_get (libraries_meaning libraries.now) place ≡ Some (file_of_course (course_of S.name session.now)) }
+    requires { slice_get (libraries_meaning libraries.now) place
+        ≡ Some (file_of_course (course_of S.name session.now)) }
     ensures { result ≡ fails_on path.now (course_of S.name session.now) }
 {
     is_fault(session.end) && libraries.at(place).path == path
@@ -43,7 +44,8 @@ fn is_failed_in<S: Source>(
     sessions: &[Session<S>],
     path: &[u8],
 ) -> bool
-    requires libraries { map file_of_course (courses_of S.name sessions.now) ≡ drop place (libraries_meaning libraries.now) }
+    requires libraries { map file_of_course (courses_of S.name sessions.now)
+        ≡ drop place (libraries_meaning libraries.now) }
     ensures { result ≡ is_failed_in (courses_of S.name sessions.now) path.now }
 {
     match sessions {
@@ -60,8 +62,10 @@ pub fn first_failed<S: Source>(
     libraries: &Libraries<'_>,
     sessions: &[Session<S>],
 ) -> Option<LibraryCode>
-    requires { map file_of_course (courses_of S.name sessions.now) ≡ libraries_meaning libraries.now }
-    ensures { result ≡ option_map (λ file. file.library) (first_failed (courses_of S.name sessions.now) (libraries_meaning libraries.now)) }
+    requires { map file_of_course (courses_of S.name sessions.now)
+        ≡ libraries_meaning libraries.now }
+    ensures { result ≡ option_map (λ file. file.library)
+        (first_failed (courses_of S.name sessions.now) (libraries_meaning libraries.now)) }
 {
     for place in 0..libraries.len() {
         let file = libraries.at(place);

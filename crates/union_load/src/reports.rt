@@ -35,10 +35,12 @@ impl Reports {
 
     /// Adds the report of a library's session.
     pub fn add(&mut self, library: &LibraryCode, report: &Report) -> Result<(), Memory>
-        ensures text { OnOk result ((all : List Frame) (found : List Outcome) → report.now.frames ≡ length all
+        ensures text { OnOk result ((all : List Frame) (found : List Outcome)
+            → report.now.frames ≡ length all
             → report.now.refused.items ≡ refused_of all → AreCounted found (counts_of report.now)
             → self.new.text.items ≡ self.old.text.items ++ report_text library.now all found) }
-        ensures refused { OnOk result (self.new.refused ≡ (self.old.refused || nat_lt 0 (length report.now.refused.items))) }
+        ensures refused { OnOk result (self.new.refused
+            ≡ (self.old.refused || nat_lt 0 (length report.now.refused.items))) }
     {
         add_report(
             &mut self.text,

@@ -32,17 +32,21 @@ fn end_session<F: Shelf>(
     shelf: &mut F,
 ) -> Result<(), Status>
     requires desk { IsRootOf root.old desk.now }
-    requires ran { HasRun F.Src.name F.Src.faults desk.now.board.shared.table_id (F.files shelf.old) (F.opened shelf.old)
+    requires ran { HasRun F.Src.name F.Src.faults desk.now.board.shared.table_id (F.files shelf.old)
+        (F.opened shelf.old)
         session }
     ensures desk { IsRootOf root.new desk.now }
-    ensures root { HasEnded (ended_of (course_of F.Src.name session) ∷ []) (root_of root.old) (root_of root.new) }
+    ensures root { HasEnded (ended_of (course_of F.Src.name session) ∷ []) (root_of root.old)
+        (root_of root.new) }
     ensures files { F.files shelf.new ≡ F.files shelf.old }
     ensures names { F.opened shelf.new ≡ F.opened shelf.old }
     ensures status { IfErr result (λ status. is_open_fault status ≡ false) }
-    ensures counts { RaisesFailed (course_of F.Src.name session ∷ []) (F.faults shelf.old) (F.faults shelf.new) }
+    ensures counts { RaisesFailed (course_of F.Src.name session ∷ []) (F.faults shelf.old)
+        (F.faults shelf.new) }
     ensures closes { NoneFailed (course_of F.Src.name session ∷ [])
         → Closes result (file_of_course (course_of F.Src.name session) ∷ []) (F.files shelf.old)
-        (λ contents. AreReported contents (course_of F.Src.name session ∷ []) reports.old reports.new) }
+        (λ contents. AreReported contents (course_of F.Src.name session ∷ []) reports.old
+        reports.new) }
 {
     let Session {
         number: _,
@@ -76,17 +80,22 @@ fn end_sessions<F: Shelf>(
     shelf: &mut F,
 ) -> Result<(), Status>
     requires desk { IsRootOf root.old desk.now }
-    requires ran { HaveRun F.Src.name F.Src.faults desk.now.board.shared.table_id (F.files shelf.old) (F.opened shelf.old)
+    requires ran { HaveRun F.Src.name F.Src.faults desk.now.board.shared.table_id
+        (F.files shelf.old) (F.opened shelf.old)
         sessions.old.items }
     ensures desk { IsRootOf root.new desk.now }
-    ensures root { HasEnded (map ended_of (courses_of F.Src.name sessions.old.items)) (root_of root.old) (root_of root.new) }
+    ensures root { HasEnded (map ended_of (courses_of F.Src.name sessions.old.items))
+        (root_of root.old) (root_of root.new) }
     ensures files { F.files shelf.new ≡ F.files shelf.old }
     ensures names { F.opened shelf.new ≡ F.opened shelf.old }
     ensures status { IfErr result (λ status. is_open_fault status ≡ false) }
-    ensures counts { RaisesFailed (courses_of F.Src.name sessions.old.items) (F.faults shelf.old) (F.faults shelf.new) }
+    ensures counts { RaisesFailed (courses_of F.Src.name sessions.old.items) (F.faults shelf.old)
+        (F.faults shelf.new) }
     ensures closes { NoneFailed (courses_of F.Src.name sessions.old.items)
-        → Closes result (map file_of_course (courses_of F.Src.name sessions.old.items)) (F.files shelf.old)
-        (λ contents. AreReported contents (courses_of F.Src.name sessions.old.items) reports.old reports.new) }
+        → Closes result (map file_of_course (courses_of F.Src.name sessions.old.items))
+        (F.files shelf.old)
+        (λ contents. AreReported contents (courses_of F.Src.name sessions.old.items) reports.old
+        reports.new) }
 {
     let Some(session) = sessions.pop_front() else {
         return Ok(());
@@ -109,15 +118,23 @@ pub fn end_all<F: Shelf>(
     shelf: &mut F,
 ) -> Result<(), Status>
     requires desk { IsRootOf root.old desk.now }
-    requires ran { HaveRun F.Src.name F.Src.faults desk.now.board.shared.table_id (F.files shelf.old) (F.opened shelf.old)
+    requires ran { HaveRun F.Src.name F.Src.faults desk.now.board.shared.table_id
+        (F.files shelf.old) (F.opened shelf.old)
         sessions.items }
-    requires libraries { map file_of_course (courses_of F.Src.name sessions.items) ≡ libraries_meaning libraries.now }
+    requires libraries { map file_of_course (courses_of F.Src.name sessions.items)
+        ≡ libraries_meaning libraries.now }
     ensures desk { IsRootOf root.new desk.now }
-    ensures root { HasEnded (map ended_of (courses_of F.Src.name sessions.items)) (root_of root.old) (root_of root.new) }
+    ensures root { HasEnded (map ended_of (courses_of F.Src.name sessions.items)) (root_of root.old)
+        (root_of root.new) }
     ensures status { IfErr result (λ status. is_open_fault status ≡ false) }
     ensures gathers { Gathers result (libraries_meaning libraries.now)
-        (record { files = F.files shelf.old; before = F.faults shelf.old; after = F.faults shelf.new })
-        (λ done contents. AreReported contents (courses_of F.Src.name sessions.items) reports.old reports.new) }
+        (record {
+          files = F.files shelf.old;
+          before = F.faults shelf.old;
+          after = F.faults shelf.new;
+        })
+        (λ done contents. AreReported contents (courses_of F.Src.name sessions.items) reports.old
+        reports.new) }
 {
     let failed = first_failed(libraries, sessions.as_slice());
     let mut ran = VecDeque::from_vec(sessions);

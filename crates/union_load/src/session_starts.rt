@@ -35,8 +35,10 @@ fn session_of<S: Source>(
     ensures made { (root_of root.new).made ≡ (root_of root.old).made + 1 }
     ensures ended { (root_of root.new).ended ≡ (root_of root.old).ended }
     ensures setting { (root_of root.new).setting ≡ (root_of root.old).setting }
-    ensures ready { IsReadyAs desk.now.board.shared.table_id prefer.now (root_of root.old).made result }
-    ensures state { session_state S.name S.left S.faults result ≡ state_of S.name S.left S.faults file }
+    ensures ready { IsReadyAs desk.now.board.shared.table_id prefer.now (root_of root.old).made
+        result }
+    ensures state { session_state S.name S.left S.faults result
+        ≡ state_of S.name S.left S.faults file }
 {
     let pass = desk.make_pass(root);
     Session::new(
@@ -71,7 +73,8 @@ fn add_session<S: Source>(
     ensures setting { (root_of root.new).setting ≡ (root_of root.old).setting }
     ensures ready { AreReady desk.now.board.shared.table_id prefer.now 0 sessions.new.items }
     ensures states { session_states S.name S.left S.faults sessions.new.items
-        ≡ session_states S.name S.left S.faults sessions.old.items ++ state_of S.name S.left S.faults file ∷ [] }
+        ≡ session_states S.name S.left S.faults sessions.old.items
+        ++ state_of S.name S.left S.faults file ∷ [] }
 {
     match sessions.push(session_of(alloc, desk, root, prefer, file)) {
         Ok(()) => (),
@@ -91,7 +94,8 @@ fn add_sessions<S: Source>(
     requires desk { IsRootOf root.old desk.now }
     requires numbers { (root_of root.old).made ≡ length sessions.old.items }
     requires few { length sessions.old.items + length opened.old.items < 4294967296 }
-    requires room { length sessions.old.items + length opened.old.items ≤ vec_capacity sessions.old }
+    requires room { length sessions.old.items + length opened.old.items
+        ≤ vec_capacity sessions.old }
     requires ready { AreReady desk.now.board.shared.table_id prefer.now 0 sessions.old.items }
     ensures desk { IsRootOf root.new desk.now }
     ensures numbers { (root_of root.new).made ≡ length sessions.new.items }
@@ -99,7 +103,8 @@ fn add_sessions<S: Source>(
     ensures setting { (root_of root.new).setting ≡ (root_of root.old).setting }
     ensures ready { AreReady desk.now.board.shared.table_id prefer.now 0 sessions.new.items }
     ensures states { session_states S.name S.left S.faults sessions.new.items
-        ≡ session_states S.name S.left S.faults sessions.old.items ++ states_of S.name S.left S.faults opened.old.items }
+        ≡ session_states S.name S.left S.faults sessions.old.items
+        ++ states_of S.name S.left S.faults opened.old.items }
 {
     let Some(file) = opened.pop_front() else {
         return;
@@ -126,15 +131,23 @@ pub fn start_sessions<F: Shelf>(
     ensures few { IfOk result (λ sessions. length sessions.items ≤ 64) }
     ensures ended { (root_of root.new).ended ≡ [] }
     ensures setting { (root_of root.new).setting ≡ (root_of root.old).setting }
-    ensures ready { IfOk result (λ sessions. AreReady desk.now.board.shared.table_id loading.now.prefer 0 sessions.items) }
-    ensures opened { IfOk result (λ sessions. files_of (session_states F.Src.name F.Src.left F.Src.faults sessions.items)
+    ensures ready { IfOk result (λ sessions. AreReady desk.now.board.shared.table_id
+        loading.now.prefer 0 sessions.items) }
+    ensures opened { IfOk result (λ sessions. files_of
+        (session_states F.Src.name F.Src.left F.Src.faults sessions.items)
         ≡ libraries_meaning loading.now.libraries) }
     ensures fresh { IfOk result (λ sessions. AreFresh (F.files shelf.new) (F.opened shelf.new)
         (session_states F.Src.name F.Src.left F.Src.faults sessions.items)) }
-    ensures in_order { IfErr result (λ status. OpensInOrder status (libraries_meaning loading.now.libraries)
+    ensures in_order { IfErr result (λ status. OpensInOrder status
+        (libraries_meaning loading.now.libraries)
         (F.opened shelf.old) (F.opened shelf.new)) }
-    ensures stops { IfErr result (λ status. StopsOpening status (libraries_meaning loading.now.libraries)
-        (record { files = F.files shelf.old; before = F.faults shelf.old; after = F.faults shelf.new })) }
+    ensures stops { IfErr result (λ status. StopsOpening status
+        (libraries_meaning loading.now.libraries)
+        (record {
+          files = F.files shelf.old;
+          before = F.faults shelf.old;
+          after = F.faults shelf.new;
+        })) }
 {
     let Ok(mut sessions) = Vec::with_capacity(alloc, loading.libraries.len()) else {
         return Err(Status::Memory);

@@ -47,7 +47,8 @@ use union_words::status::Status;
 
 /// Whether there is a question at all.
 fn are_some(questions: &Questions) -> bool
-    ensures { result ≡ not (length questions.now.beside.items == 0 && length questions.now.late.items == 0) }
+    ensures { result ≡ not (length questions.now.beside.items == 0
+        && length questions.now.late.items == 0) }
 {
     !(questions.beside.is_empty() && questions.late.is_empty())
 }
@@ -91,7 +92,8 @@ fn run_all<R: Threads + Wait + Sync, S: Source + Send, G: Gate>(
     requires most { workers ≤ 64 }
     requires ready { All (IsReady desk.now.board.shared.table_id) sessions.old.items }
     requires asker { IsAsker desk.now.board.shared.table_id asker.old }
-    ensures sessions { RunsEach S.name S.left S.faults desk.now.board.shared.table_id sessions.old.items sessions.new.items }
+    ensures sessions { RunsEach S.name S.left S.faults desk.now.board.shared.table_id
+        sessions.old.items sessions.new.items }
     ensures asker { Asks desk.now.board.shared.table_id asker.old asker.new }
 {
     run_sessions(
@@ -117,21 +119,29 @@ fn close_desk<R: Wait>(
     requires desk { IsRootOf opened.1 opened.0 }
     requires made { (root_of opened.1).made ≡ length (root_of opened.1).ended + 1 }
     requires few { (root_of opened.1).made < 4294967295 }
-    requires numbers { AllByRecursion (λ left. left.number + 1 < (root_of opened.1).made) (root_of opened.1).ended }
-    requires known { AllByRecursion (λ left. length left.seen ≤ (root_of opened.1).floor) (root_of opened.1).ended }
+    requires numbers { AllByRecursion (λ left. left.number + 1 < (root_of opened.1).made)
+        (root_of opened.1).ended }
+    requires known { AllByRecursion (λ left. length left.seen ≤ (root_of opened.1).floor)
+        (root_of opened.1).ended }
     requires asker { IsPassOf asker.pass opened.0 }
     requires idle { (view asker.pass).own ≡ [] }
-    requires asked { asker.end ≡ End.Done → HasAsked (root_of opened.1).setting 0 asker.questions.items asker.replies.items (left_by asker) }
-    ensures names { IfOk result (λ watched. watched.loaded.catalogue.names ≡ (root_of opened.1).setting) }
+    requires asked { asker.end ≡ End.Done → HasAsked (root_of opened.1).setting 0
+        asker.questions.items asker.replies.items (left_by asker) }
+    ensures names { IfOk result (λ watched. watched.loaded.catalogue.names
+        ≡ (root_of opened.1).setting) }
     ensures reports { IfOk result (λ watched. watched.loaded.reports ≡ reports.text) }
     ensures refused { IfOk result (λ watched. watched.loaded.refused ≡ reports.refused) }
-    ensures ended { IfOk result (λ watched. AllByRecursion (EndedOk (entries_of watched.loaded.catalogue.history))
+    ensures ended { IfOk result (λ watched. AllByRecursion
+        (EndedOk (entries_of watched.loaded.catalogue.history))
         (root_of opened.1).ended) }
-    ensures numbers { IfOk result (λ watched. AllByRecursion (λ entry. entry.0 + 1 < (root_of opened.1).made)
+    ensures numbers { IfOk result (λ watched. AllByRecursion
+        (λ entry. entry.0 + 1 < (root_of opened.1).made)
         (entries_of watched.loaded.catalogue.history)) }
-    ensures beside { IfOk result (λ watched. AreReplies (root_of opened.1).setting watched.loaded.catalogue.history 0
+    ensures beside { IfOk result (λ watched. AreReplies (root_of opened.1).setting
+        watched.loaded.catalogue.history 0
         asker.questions.items watched.beside.items) }
-    ensures late { IfOk result (λ watched. AreReplies (root_of opened.1).setting watched.loaded.catalogue.history
+    ensures late { IfOk result (λ watched. AreReplies (root_of opened.1).setting
+        watched.loaded.catalogue.history
         (length watched.loaded.catalogue.history) late.items watched.late.items) }
 {
     let (desk, mut root) = opened;
@@ -172,12 +182,19 @@ pub fn load_and_ask<R: Threads + Wait + Sync, F: Shelf, G: Gate>(
     gate: &G,
 ) -> Result<Watched, Status>
     ensures gathers { Gathers result (libraries_meaning loading.now.libraries)
-        (record { files = F.files shelf.old; before = F.faults shelf.old; after = F.faults shelf.new })
+        (record {
+          files = F.files shelf.old;
+          before = F.faults shelf.old;
+          after = F.faults shelf.new;
+        })
         (λ watched contents. HasUnited start.names
-        (deliveries loading.now.prefer contents (libraries_meaning loading.now.libraries)) watched.loaded) }
-    ensures in_order { IfErr result (λ status. OpensInOrder status (libraries_meaning loading.now.libraries)
+        (deliveries loading.now.prefer contents (libraries_meaning loading.now.libraries))
+        watched.loaded) }
+    ensures in_order { IfErr result (λ status. OpensInOrder status
+        (libraries_meaning loading.now.libraries)
         (F.opened shelf.old) (F.opened shelf.new)) }
-    ensures beside { IfOk result (λ watched. AreReplies start.names watched.loaded.catalogue.history 0
+    ensures beside { IfOk result (λ watched. AreReplies start.names watched.loaded.catalogue.history
+        0
         start.questions.beside.items watched.beside.items) }
     ensures late { IfOk result (λ watched. AreReplies start.names watched.loaded.catalogue.history
         (length watched.loaded.catalogue.history) start.questions.late.items watched.late.items) }
@@ -227,10 +244,15 @@ pub fn load_by_sessions<R: Threads + Wait + Sync, F: Shelf, G: Gate>(
     gate: &G,
 ) -> Result<Loaded, Status>
     ensures gathers { Gathers result (libraries_meaning loading.now.libraries)
-        (record { files = F.files shelf.old; before = F.faults shelf.old; after = F.faults shelf.new })
+        (record {
+          files = F.files shelf.old;
+          before = F.faults shelf.old;
+          after = F.faults shelf.new;
+        })
         (λ loaded contents. HasUnited names
         (deliveries loading.now.prefer contents (libraries_meaning loading.now.libraries)) loaded) }
-    ensures in_order { IfErr result (λ status. OpensInOrder status (libraries_meaning loading.now.libraries)
+    ensures in_order { IfErr result (λ status. OpensInOrder status
+        (libraries_meaning loading.now.libraries)
         (F.opened shelf.old) (F.opened shelf.new)) }
 {
     let none = Questions {

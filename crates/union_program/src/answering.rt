@@ -49,8 +49,10 @@ struct Asked<'a> {
 /// Reads the lines of a file of questions, and divides the questions for so many workers. Returns `Memory` if allocation fails.
 fn read_asked(alloc: Global, workers: u32, text: &[u8]) -> Result<Asked<'_>, Memory>
     ensures lines { IfOk result (λ asked. map line_meaning asked.lines.items ≡ lines_in text.now) }
-    ensures beside { IfOk result (λ asked. asked.questions.beside.items ≡ beside workers (questions_in text.now)) }
-    ensures late { IfOk result (λ asked. asked.questions.late.items ≡ late workers (questions_in text.now)) }
+    ensures beside { IfOk result (λ asked. asked.questions.beside.items
+        ≡ beside workers (questions_in text.now)) }
+    ensures late { IfOk result (λ asked. asked.questions.late.items
+        ≡ late workers (questions_in text.now)) }
     ensures refused { IfOk result (λ asked. asked.refused ≡ has_refused_line text.now) }
 {
     let file = AskFile::read(alloc, text)?;
@@ -91,7 +93,8 @@ fn answered(watched: Watched, lines: Vec<AskLine<'_>>, refused: bool) -> Answere
 /// What was loaded, with what is told of the file of names before the reports. Returns `Memory` if allocation fails.
 fn behind_names(loaded: Loaded, report: Vec<u8>, refused: bool) -> Result<Loaded, Status>
     ensures catalogue { IfOk result (λ all. all.catalogue ≡ loaded.catalogue) }
-    ensures reports { IfOk result (λ all. all.reports.items ≡ report.items ++ loaded.reports.items) }
+    ensures reports { IfOk result (λ all. all.reports.items ≡ report.items
+        ++ loaded.reports.items) }
     ensures refused { IfOk result (λ all. all.refused ≡ (refused || loaded.refused)) }
     ensures memory { IfErr result (λ status. status ≡ Status.Memory) }
 {
@@ -104,8 +107,10 @@ fn behind_names(loaded: Loaded, report: Vec<u8>, refused: bool) -> Result<Loaded
 /// The same of what was loaded and asked.
 fn watched_behind(watched: Watched, report: Vec<u8>, refused: bool) -> Result<Watched, Status>
     ensures catalogue { IfOk result (λ all. all.loaded.catalogue ≡ watched.loaded.catalogue) }
-    ensures reports { IfOk result (λ all. all.loaded.reports.items ≡ report.items ++ watched.loaded.reports.items) }
-    ensures refused { IfOk result (λ all. all.loaded.refused ≡ (refused || watched.loaded.refused)) }
+    ensures reports { IfOk result (λ all. all.loaded.reports.items ≡ report.items
+        ++ watched.loaded.reports.items) }
+    ensures refused { IfOk result (λ all. all.loaded.refused
+        ≡ (refused || watched.loaded.refused)) }
     ensures beside { IfOk result (λ all. all.beside ≡ watched.beside) }
     ensures late { IfOk result (λ all. all.late ≡ watched.late) }
     ensures memory { IfErr result (λ status. status ≡ Status.Memory) }
@@ -136,8 +141,10 @@ pub fn load_by_names<R: Threads + Wait + Sync, F: Shelf, G: Gate>(
     names: NamesRead,
     shelf: &mut F,
 ) -> Result<Loaded, Status>
-    ensures { Gathers result (libraries_meaning loading.now.libraries) (shelf_flow F.files F.faults shelf.old shelf.new)
-        (λ loaded contents. HasTurned IsInterleaving (named_by names) (deliveries_of contents (loading_meaning loading.now)) loaded) }
+    ensures { Gathers result (libraries_meaning loading.now.libraries)
+        (shelf_flow F.files F.faults shelf.old shelf.new)
+        (λ loaded contents. HasTurned IsInterleaving (named_by names)
+        (deliveries_of contents (loading_meaning loading.now)) loaded) }
 {
     let NamesRead {
         table,
@@ -162,13 +169,18 @@ pub fn load_and_answer<'a, R: Threads + Wait + Sync, F: Shelf, G: Gate>(
     names: NamesRead,
     shelf: &mut F,
 ) -> Result<Answered<'a>, Status>
-    ensures gathers { Gathers result (libraries_meaning loading.now.libraries) (shelf_flow F.files F.faults shelf.old shelf.new)
-        (λ answered contents. HasTurned IsInterleaving (named_by names) (deliveries_of contents (loading_meaning loading.now))
+    ensures gathers { Gathers result (libraries_meaning loading.now.libraries)
+        (shelf_flow F.files F.faults shelf.old shelf.new)
+        (λ answered contents. HasTurned IsInterleaving (named_by names)
+        (deliveries_of contents (loading_meaning loading.now))
         answered.loaded) }
-    ensures lines { IfOk result (λ answered. map line_meaning answered.lines.items ≡ lines_in text.now) }
-    ensures told { IfOk result (λ answered. AreTold names.table answered.loaded.catalogue.history (asked_lines text.now)
+    ensures lines { IfOk result (λ answered. map line_meaning answered.lines.items
+        ≡ lines_in text.now) }
+    ensures told { IfOk result (λ answered. AreTold names.table answered.loaded.catalogue.history
+        (asked_lines text.now)
         (told_of (lines_in text.now) (answered.beside.items ++ answered.late.items))) }
-    ensures timely { IfOk result (λ answered. AreTimely loading.now.workers.number (length answered.loaded.catalogue.history)
+    ensures timely { IfOk result (λ answered. AreTimely loading.now.workers.number
+        (length answered.loaded.catalogue.history)
         (numbers_of (told_of (lines_in text.now) (answered.beside.items ++ answered.late.items)))) }
     ensures refused { IfOk result (λ answered. answered.refused ≡ has_refused_line text.now) }
 {
@@ -214,8 +226,10 @@ pub fn follow_and_answer<'a, R: Threads + Wait + Sync, F: Shelf, G>(
         (shelf_flow F.files F.faults shelf.old shelf.new)
         (λ answered contents. HasFollowed (deliveries [] contents (libraries_meaning libraries.now))
         answered.loaded) }
-    ensures lines { IfOk result (λ answered. map line_meaning answered.lines.items ≡ lines_in text.now) }
-    ensures told { IfOk result (λ answered. AreTold empty answered.loaded.catalogue.history (asked_lines text.now)
+    ensures lines { IfOk result (λ answered. map line_meaning answered.lines.items
+        ≡ lines_in text.now) }
+    ensures told { IfOk result (λ answered. AreTold empty answered.loaded.catalogue.history
+        (asked_lines text.now)
         (told_of (lines_in text.now) (answered.beside.items ++ answered.late.items))) }
     ensures timely { IfOk result (λ answered. AreTimely 2 (length answered.loaded.catalogue.history)
         (numbers_of (told_of (lines_in text.now) (answered.beside.items ++ answered.late.items)))) }

@@ -25,7 +25,8 @@ pub fn to_json_file<F: Shelf, O: Sink, N: Sink>(
     out: &mut O,
     notes: &mut N,
 ) -> Status
-    ensures run { IsToJsonRun file.now.library (file_flow (shelf_flow F.files F.faults shelf.old shelf.new) file.now.path.now)
+    ensures run { IsToJsonRun file.now.library
+        (file_flow (shelf_flow F.files F.faults shelf.old shelf.new) file.now.path.now)
         (outflow O.written O.faults out.old out.new)
         (outflow N.written N.faults notes.old notes.new)
         result }
@@ -46,7 +47,8 @@ pub fn from_json_file<F: Shelf, O: Sink, N: Sink>(
     out: &mut O,
     notes: &mut N,
 ) -> Status
-    ensures run { IsFromJsonRun file.now.library (file_flow (shelf_flow F.files F.faults shelf.old shelf.new) file.now.path.now)
+    ensures run { IsFromJsonRun file.now.library
+        (file_flow (shelf_flow F.files F.faults shelf.old shelf.new) file.now.path.now)
         (outflow O.written O.faults out.old out.new)
         (outflow N.written N.faults notes.old notes.new)
         result }

@@ -93,7 +93,8 @@ fn run_check<F: Shelf, O: Sink>(
     shelf: &mut F,
     out: &mut O,
 ) -> Status
-    ensures run { IsCheck file.now.library (file_flow (shelf_flow F.files F.faults shelf.old shelf.new) file.now.path.now)
+    ensures run { IsCheck file.now.library (file_flow
+        (shelf_flow F.files F.faults shelf.old shelf.new) file.now.path.now)
         (outflow O.written O.faults out.old out.new)
         result }
     ensures others { SameElsewhere (F.faults shelf.old) (F.faults shelf.new) file.now.path.now }
@@ -112,7 +113,8 @@ fn run_to_json<F: Shelf, O: Sink, N: Sink>(
     out: &mut O,
     notes: &mut N,
 ) -> Status
-    ensures run { IsToJsonRun file.now.library (file_flow (shelf_flow F.files F.faults shelf.old shelf.new) file.now.path.now)
+    ensures run { IsToJsonRun file.now.library
+        (file_flow (shelf_flow F.files F.faults shelf.old shelf.new) file.now.path.now)
         (outflow O.written O.faults out.old out.new)
         (outflow N.written N.faults notes.old notes.new)
         result }
@@ -133,7 +135,8 @@ fn run_from_json<F: Shelf, O: Sink, N: Sink>(
     out: &mut O,
     notes: &mut N,
 ) -> Status
-    ensures run { IsFromJsonRun file.now.library (file_flow (shelf_flow F.files F.faults shelf.old shelf.new) file.now.path.now)
+    ensures run { IsFromJsonRun file.now.library
+        (file_flow (shelf_flow F.files F.faults shelf.old shelf.new) file.now.path.now)
         (outflow O.written O.faults out.old out.new)
         (outflow N.written N.faults notes.old notes.new)
         result }
@@ -184,8 +187,10 @@ fn run_union<R: Threads + Wait + Sync, F: Shelf, O: Sink, N: Sink, G: Gate>(
     out: &mut O,
     notes: &mut N,
 ) -> Status
-    ensures run { IsUnionRun (showing_of shown) (loading_meaning loading.now) (shelf_flow F.files F.faults shelf.old shelf.new)
-        (outflow O.written O.faults out.old out.new) (outflow N.written N.faults notes.old notes.new) result }
+    ensures run { IsUnionRun (showing_of shown) (loading_meaning loading.now)
+        (shelf_flow F.files F.faults shelf.old shelf.new)
+        (outflow O.written O.faults out.old out.new)
+        (outflow N.written N.faults notes.old notes.new) result }
     ensures noted { IsTrue (is_early result)
         → IsNoted (outflow N.written N.faults notes.old notes.new) (early_text result) }
 {
@@ -207,8 +212,10 @@ fn run_watch<R: Threads + Wait + Sync, F: Shelf, O: Sink, N: Sink, G: Gate>(
     out: &mut O,
     notes: &mut N,
 ) -> Status
-    ensures run { IsWatchRun (watch_of asks.now (loading_meaning loading.now)) (shelf_flow F.files F.faults shelf.old shelf.new)
-        (outflow O.written O.faults out.old out.new) (outflow N.written N.faults notes.old notes.new) result }
+    ensures run { IsWatchRun (watch_of asks.now (loading_meaning loading.now))
+        (shelf_flow F.files F.faults shelf.old shelf.new)
+        (outflow O.written O.faults out.old out.new)
+        (outflow N.written N.faults notes.old notes.new) result }
     ensures noted { IsTrue (is_early result)
         → IsNoted (outflow N.written N.faults notes.old notes.new) (early_text result) }
 {
@@ -233,8 +240,10 @@ fn run_follow<R: Threads + Wait + Sync, F: Shelf, O: Sink, N: Sink, G>(
     out: &mut O,
     notes: &mut N,
 ) -> Status
-    ensures run { IsFollowRun asks.now (libraries_meaning libraries.now) (shelf_flow F.files F.faults shelf.old shelf.new)
-        (outflow O.written O.faults out.old out.new) (outflow N.written N.faults notes.old notes.new) result }
+    ensures run { IsFollowRun asks.now (libraries_meaning libraries.now)
+        (shelf_flow F.files F.faults shelf.old shelf.new)
+        (outflow O.written O.faults out.old out.new)
+        (outflow N.written N.faults notes.old notes.new) result }
     ensures noted { IsTrue (is_early result)
         → IsNoted (outflow N.written N.faults notes.old notes.new) (early_text result) }
 {
@@ -280,36 +289,49 @@ pub fn union_run<R: Threads + Wait + Sync, F: Shelf, O: Sink, N: Sink, G: Gate>(
 
     // what each form of words does
     ensures check { (file : Words.LibraryFile) → Words.job_of words.now ≡ Some (Words.Check file)
-        → IsCheck file.library (file_flow (shelf_flow F.files F.faults shelf.old shelf.new) file.path)
+        → IsCheck file.library (file_flow (shelf_flow F.files F.faults shelf.old shelf.new)
+        file.path)
         (outflow O.written O.faults out.old out.new)
         result }
     ensures to_json { (file : Words.LibraryFile) → Words.job_of words.now ≡ Some (Words.ToJson file)
-        → IsToJsonRun file.library (file_flow (shelf_flow F.files F.faults shelf.old shelf.new) file.path)
+        → IsToJsonRun file.library (file_flow (shelf_flow F.files F.faults shelf.old shelf.new)
+        file.path)
         (outflow O.written O.faults out.old out.new)
         (outflow N.written N.faults notes.old notes.new)
         result }
-    ensures from_json { (file : Words.LibraryFile) → Words.job_of words.now ≡ Some (Words.FromJson file)
-        → IsFromJsonRun file.library (file_flow (shelf_flow F.files F.faults shelf.old shelf.new) file.path)
+    ensures from_json { (file : Words.LibraryFile)
+        → Words.job_of words.now ≡ Some (Words.FromJson file)
+        → IsFromJsonRun file.library (file_flow (shelf_flow F.files F.faults shelf.old shelf.new)
+        file.path)
         (outflow O.written O.faults out.old out.new)
         (outflow N.written N.faults notes.old notes.new)
         result }
-    ensures export { (form : ExportForm) (loading : Words.Loading) → Words.job_of words.now ≡ Some (Words.Export form loading)
+    ensures export { (form : ExportForm) (loading : Words.Loading)
+        → Words.job_of words.now ≡ Some (Words.Export form loading)
         → IsUnionRun (exported_as form) loading (shelf_flow F.files F.faults shelf.old shelf.new)
-        (outflow O.written O.faults out.old out.new) (outflow N.written N.faults notes.old notes.new) result }
+        (outflow O.written O.faults out.old out.new)
+        (outflow N.written N.faults notes.old notes.new) result }
     ensures works { (loading : Words.Loading) → Words.job_of words.now ≡ Some (Words.Works loading)
         → IsUnionRun listed loading (shelf_flow F.files F.faults shelf.old shelf.new)
-        (outflow O.written O.faults out.old out.new) (outflow N.written N.faults notes.old notes.new) result }
-    ensures watch { (asks : List ℕ) (loading : Words.Loading) → Words.job_of words.now ≡ Some (Words.Watch asks loading)
+        (outflow O.written O.faults out.old out.new)
+        (outflow N.written N.faults notes.old notes.new) result }
+    ensures watch { (asks : List ℕ) (loading : Words.Loading)
+        → Words.job_of words.now ≡ Some (Words.Watch asks loading)
         → IsWatchRun (watch_of asks loading) (shelf_flow F.files F.faults shelf.old shelf.new)
-        (outflow O.written O.faults out.old out.new) (outflow N.written N.faults notes.old notes.new) result }
-    ensures follow { (asks : List ℕ) (libraries : List Words.LibraryFile) → Words.job_of words.now ≡ Some (Words.Follow asks libraries)
+        (outflow O.written O.faults out.old out.new)
+        (outflow N.written N.faults notes.old notes.new) result }
+    ensures follow { (asks : List ℕ) (libraries : List Words.LibraryFile)
+        → Words.job_of words.now ≡ Some (Words.Follow asks libraries)
         → IsFollowRun asks libraries (shelf_flow F.files F.faults shelf.old shelf.new)
-        (outflow O.written O.faults out.old out.new) (outflow N.written N.faults notes.old notes.new) result }
-    ensures script { (path : List ℕ) → Words.job_of words.now ≡ Some (Words.Script path) → IsScript path
+        (outflow O.written O.faults out.old out.new)
+        (outflow N.written N.faults notes.old notes.new) result }
+    ensures script { (path : List ℕ) → Words.job_of words.now ≡ Some (Words.Script path)
+        → IsScript path
         (shelf_flow F.files F.faults shelf.old shelf.new)
         (outflow O.written O.faults out.old out.new)
         result }
-    ensures trial { (seed count workers : ℕ) → Words.job_of words.now ≡ Some (Words.Trial seed count workers) → IsTrial seed count
+    ensures trial { (seed count workers : ℕ) → Words.job_of words.now
+        ≡ Some (Words.Trial seed count workers) → IsTrial seed count
         (outflow O.written O.faults out.old out.new)
         result }
     ensures help { Words.job_of words.now ≡ Some Words.Help → IsTold HELP.now
@@ -321,7 +343,8 @@ pub fn union_run<R: Threads + Wait + Sync, F: Shelf, O: Sink, N: Sink, G: Gate>(
     ensures noted { IsTrue (is_early result)
         → IsNoted (outflow N.written N.faults notes.old notes.new)
         (early_text result) }
-    ensures quiet { (job : Words.Job) → Words.job_of words.now ≡ Some job → Words.has_report job ≡ false
+    ensures quiet { (job : Words.Job) → Words.job_of words.now ≡ Some job
+        → Words.has_report job ≡ false
         → is_early result ≡ false → Keeps (N.written notes.old) (N.written notes.new) }
 
     // A run of words in no form writes nothing else. The shelf is left alone where the words name no file; and of files only one
@@ -329,13 +352,17 @@ pub fn union_run<R: Threads + Wait + Sync, F: Shelf, O: Sink, N: Sink, G: Gate>(
     ensures unused { Words.job_of words.now ≡ None → Keeps (O.written out.old) (O.written out.new) }
     ensures unopened { (Words.job_of words.now ≡ None) ⊎ ((Words.job_of words.now ≡ Some Words.Help)
         ⊎ (Words.job_of words.now ≡ Some Words.Version)) → shelf.new ≡ shelf.old }
-    ensures trial_unopened { (seed count workers : ℕ) → Words.job_of words.now ≡ Some (Words.Trial seed count workers)
+    ensures trial_unopened { (seed count workers : ℕ)
+        → Words.job_of words.now ≡ Some (Words.Trial seed count workers)
         → shelf.new ≡ shelf.old }
-    ensures check_others { (file : Words.LibraryFile) → Words.job_of words.now ≡ Some (Words.Check file)
+    ensures check_others { (file : Words.LibraryFile)
+        → Words.job_of words.now ≡ Some (Words.Check file)
         → SameElsewhere (F.faults shelf.old) (F.faults shelf.new) file.path }
-    ensures to_json_others { (file : Words.LibraryFile) → Words.job_of words.now ≡ Some (Words.ToJson file)
+    ensures to_json_others { (file : Words.LibraryFile)
+        → Words.job_of words.now ≡ Some (Words.ToJson file)
         → SameElsewhere (F.faults shelf.old) (F.faults shelf.new) file.path }
-    ensures from_json_others { (file : Words.LibraryFile) → Words.job_of words.now ≡ Some (Words.FromJson file)
+    ensures from_json_others { (file : Words.LibraryFile)
+        → Words.job_of words.now ≡ Some (Words.FromJson file)
         → SameElsewhere (F.faults shelf.old) (F.faults shelf.new) file.path }
 {
     let host = Host { rt, alloc, gate };

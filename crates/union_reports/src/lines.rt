@@ -69,7 +69,8 @@ pub fn add_refused_lines(
     library: &[u8],
     frames: &[RefusedFrame],
 ) -> Result<(), AllocError>
-    ensures { OnOk result (text.new.items ≡ text.old.items ++ refused_lines library.now frames.now) }
+    ensures { OnOk result (text.new.items ≡ text.old.items
+        ++ refused_lines library.now frames.now) }
 {
     for frame in frames {
         add_refused_line(text, library, frame)?;

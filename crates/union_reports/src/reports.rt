@@ -26,7 +26,8 @@ fn add_counts(
     counts: &OutcomeCounts,
 ) -> Result<(), AllocError>
     ensures { OnOk result (text.new.items ≡ text.old.items
-        ++ report_line library.now frames counts.now.added counts.now.replaced counts.now.removed counts.now.absent refused) }
+        ++ report_line library.now frames counts.now.added counts.now.replaced counts.now.removed
+        counts.now.absent refused) }
 {
     text.extend_from_slice(library)?;
     add_counted(text, b"frames", frames)?;
@@ -49,8 +50,10 @@ pub fn add_report(
     refused: &[RefusedFrame],
     counts: &OutcomeCounts,
 ) -> Result<(), Memory>
-    ensures told { OnOk result ((all : List Frame) (found : List Outcome) → frames ≡ length all → refused.now ≡ refused_of all
-        → AreCounted found counts.now → text.new.items ≡ text.old.items ++ report_text library.now all found) }
+    ensures told { OnOk result ((all : List Frame) (found : List Outcome) → frames ≡ length all
+        → refused.now ≡ refused_of all
+        → AreCounted found counts.now → text.new.items ≡ text.old.items
+        ++ report_text library.now all found) }
 {
     add_refused_lines(text, library, refused)?;
     add_counts(text, library, frames, refused.len() as u64, counts)?;

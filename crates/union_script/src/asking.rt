@@ -18,7 +18,8 @@ use union_words::status::Status;
 
 /// The answer to a query, as it is written.
 fn answer_text(alloc: Global, catalogue: &Catalogue, query: &Query) -> Result<Vec<u8>, Memory>
-    ensures { IfOk result (λ text. IsAnswer catalogue.now.names query.now catalogue.now.history text.items) }
+    ensures { IfOk result (λ text. IsAnswer catalogue.now.names query.now catalogue.now.history
+        text.items) }
 {
     let found = answer(alloc, catalogue, query)?;
     let mut text = Vec::new(alloc);
@@ -34,8 +35,15 @@ pub fn run_ask<O: Sink>(
     out: &mut O,
 ) -> Result<bool, Status>
     requires { catalogue.now.names ≡ empty }
-    ensures { (shelf : ShelfFlow) → IsCalm shelf → LinesRun result (AskLine line.now ∷ []) catalogue.now.history catalogue.now.history shelf
-        (record { old = O.written out.old; new = O.written out.new; before = O.faults out.old; after = O.faults out.new }) }
+    ensures { (shelf : ShelfFlow) → IsCalm shelf
+        → LinesRun result (AskLine line.now ∷ []) catalogue.now.history catalogue.now.history shelf
+        (record {
+          old = O.written out.old;
+          new = O.written out.new;
+          before = O.faults out.old;
+          after
+              = O.faults out.new;
+        }) }
 {
     match Query::read(alloc, line) {
         Ok(query) => match answer_text(alloc, catalogue, &query) {

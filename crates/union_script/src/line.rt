@@ -33,9 +33,20 @@ fn run_load<L: Ledger, F: Shelf, O: Sink>(
 ) -> Result<bool, Status>
     ensures files { F.files shelf.new ≡ F.files shelf.old }
     ensures told { OnOk result (union.new.told ≡ union.old.told) }
-    ensures run { LinesRun result (LoadLine union.old.told (file_meaning file.now) ∷ []) union.old.catalogue.history union.new.catalogue.history
-        (record { files = F.files shelf.old; before = F.faults shelf.old; after = F.faults shelf.new })
-        (record { old = O.written out.old; new = O.written out.new; before = O.faults out.old; after = O.faults out.new }) }
+    ensures run { LinesRun result (LoadLine union.old.told (file_meaning file.now) ∷ [])
+        union.old.catalogue.history union.new.catalogue.history
+        (record {
+          files = F.files shelf.old;
+          before = F.faults shelf.old;
+          after = F.faults shelf.new;
+        })
+        (record {
+          old = O.written out.old;
+          new = O.written out.new;
+          before = O.faults out.old;
+          after
+              = O.faults out.new;
+        }) }
 {
     match load_file(alloc, file, union, shelf) {
         Ok(report) => say(report.text.as_slice(), report.refused, out),
@@ -45,8 +56,15 @@ fn run_load<L: Ledger, F: Shelf, O: Sink>(
 
 /// Writes the export. Which fields were left out is not told.
 fn run_export<O: Sink>(alloc: Global, catalogue: &Catalogue, out: &mut O) -> Result<bool, Status>
-    ensures { (text : List ℕ) × IsExport catalogue.now.names catalogue.now.history text × Says result text false
-        (record { old = O.written out.old; new = O.written out.new; before = O.faults out.old; after = O.faults out.new }) }
+    ensures { (text : List ℕ) × IsExport catalogue.now.names catalogue.now.history text
+        × Says result text false
+        (record {
+          old = O.written out.old;
+          new = O.written out.new;
+          before = O.faults out.old;
+          after
+              = O.faults out.new;
+        }) }
 {
     let mut left = Vec::new(alloc);
     match export(alloc, catalogue, out, &mut left) {
@@ -58,8 +76,15 @@ fn run_export<O: Sink>(alloc: Global, catalogue: &Catalogue, out: &mut O) -> Res
 
 /// Writes the list of the works.
 fn run_works<O: Sink>(alloc: Global, catalogue: &Catalogue, out: &mut O) -> Result<bool, Status>
-    ensures { (text : List ℕ) × IsWorkList catalogue.now.names catalogue.now.history text × Says result text false
-        (record { old = O.written out.old; new = O.written out.new; before = O.faults out.old; after = O.faults out.new }) }
+    ensures { (text : List ℕ) × IsWorkList catalogue.now.names catalogue.now.history text
+        × Says result text false
+        (record {
+          old = O.written out.old;
+          new = O.written out.new;
+          before = O.faults out.old;
+          after
+              = O.faults out.new;
+        }) }
 {
     match works_text(alloc, catalogue, out) {
         Ok(()) => Ok(false),
@@ -77,10 +102,22 @@ fn run_line<L: Ledger, F: Shelf, O: Sink>(
     out: &mut O,
 ) -> Result<bool, Status>
     ensures files { F.files shelf.new ≡ F.files shelf.old }
-    ensures told { OnOk result (union.new.told ≡ tells_after union.old.told (script_line line.now)) }
-    ensures run { LinesRun result (told_line union.old.told (script_line line.now) ∷ []) union.old.catalogue.history union.new.catalogue.history
-        (record { files = F.files shelf.old; before = F.faults shelf.old; after = F.faults shelf.new })
-        (record { old = O.written out.old; new = O.written out.new; before = O.faults out.old; after = O.faults out.new }) }
+    ensures told { OnOk result (union.new.told
+        ≡ tells_after union.old.told (script_line line.now)) }
+    ensures run { LinesRun result (told_line union.old.told (script_line line.now) ∷ [])
+        union.old.catalogue.history union.new.catalogue.history
+        (record {
+          files = F.files shelf.old;
+          before = F.faults shelf.old;
+          after = F.faults shelf.new;
+        })
+        (record {
+          old = O.written out.old;
+          new = O.written out.new;
+          before = O.faults out.old;
+          after
+              = O.faults out.new;
+        }) }
 {
     match ScriptLine::read(line) {
         ScriptLine::Load(file) => run_load(alloc, &file, union, shelf, out),
@@ -106,9 +143,20 @@ pub fn run_unskipped<L: Ledger, F: Shelf, O: Sink>(
     ensures files { F.files shelf.new ≡ F.files shelf.old }
     ensures told { OnOk result (union.new.told
         ≡ told_after union.old.told (asked_by (line.now ∷ []))) }
-    ensures run { LinesRun result (told_from union.old.told (asked_by (line.now ∷ []))) union.old.catalogue.history union.new.catalogue.history
-        (record { files = F.files shelf.old; before = F.faults shelf.old; after = F.faults shelf.new })
-        (record { old = O.written out.old; new = O.written out.new; before = O.faults out.old; after = O.faults out.new }) }
+    ensures run { LinesRun result (told_from union.old.told (asked_by (line.now ∷ [])))
+        union.old.catalogue.history union.new.catalogue.history
+        (record {
+          files = F.files shelf.old;
+          before = F.faults shelf.old;
+          after = F.faults shelf.new;
+        })
+        (record {
+          old = O.written out.old;
+          new = O.written out.new;
+          before = O.faults out.old;
+          after
+              = O.faults out.new;
+        }) }
 {
     if is_skipped(line) {
         Ok(false)

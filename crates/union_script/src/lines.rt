@@ -28,9 +28,20 @@ pub fn run_lines<L: Ledger, F: Shelf, O: Sink>(
     out: &mut O,
 ) -> Result<bool, Status>
     requires { union.old.told ≡ false }
-    ensures run { LinesRun result (script_of script.now) union.old.catalogue.history union.new.catalogue.history
-        (record { files = F.files shelf.old; before = F.faults shelf.old; after = F.faults shelf.new })
-        (record { old = O.written out.old; new = O.written out.new; before = O.faults out.old; after = O.faults out.new }) }
+    ensures run { LinesRun result (script_of script.now) union.old.catalogue.history
+        union.new.catalogue.history
+        (record {
+          files = F.files shelf.old;
+          before = F.faults shelf.old;
+          after = F.faults shelf.new;
+        })
+        (record {
+          old = O.written out.old;
+          new = O.written out.new;
+          before = O.faults out.old;
+          after
+              = O.faults out.new;
+        }) }
 {
     let mut lines = Lines::of(script);
     let mut refused = false;

@@ -52,7 +52,13 @@ fn apply_batches<L: Ledger, S: Source>(
     requires { reader.old ≡ begun [] reader.old.library LARGEST_SOURCE }
     ensures name { S.name source.new ≡ S.name source.old }
     ensures told { OnOk result (union.new.told ≡ union.old.told) }
-    ensures reads { Reads LARGEST_SOURCE result (record { told = S.left source.old; before = S.faults source.old; after = S.faults source.new })
+    ensures reads { Reads LARGEST_SOURCE result
+        (record {
+          told = S.left source.old;
+          before = S.faults source.old;
+          after = S.faults
+              source.new;
+        })
         (λ done bytes. AreApplied union.old.told reader.old.library (frames bytes)
         union.old.catalogue.history union.new.catalogue.history reader.new done) }
 {
@@ -74,7 +80,13 @@ fn load_source<L: Ledger, S: Source>(
 ) -> Result<Report, Stop>
     ensures name { S.name source.new ≡ S.name source.old }
     ensures told { OnOk result (union.new.told ≡ union.old.told) }
-    ensures reads { Reads LARGEST_SOURCE result (record { told = S.left source.old; before = S.faults source.old; after = S.faults source.new })
+    ensures reads { Reads LARGEST_SOURCE result
+        (record {
+          told = S.left source.old;
+          before = S.faults source.old;
+          after = S.faults
+              source.new;
+        })
         (λ report bytes. IsLoaded union.old.told library.now (frames bytes)
         union.old.catalogue.history union.new.catalogue.history report) }
 {
@@ -107,8 +119,16 @@ pub fn load_file<L: Ledger, F: Shelf>(
 ) -> Result<Report, Status>
     ensures files { F.files shelf.new ≡ F.files shelf.old }
     ensures told { OnOk result (union.new.told ≡ union.old.told) }
-    ensures reads { ReadsFile result (record { input = Input.Library file.now.library; path = (file_meaning file.now).path })
-        (record { files = F.files shelf.old; before = F.faults shelf.old; after = F.faults shelf.new })
+    ensures reads { ReadsFile result (record {
+      input = Input.Library file.now.library;
+      path =
+          (file_meaning file.now).path;
+    })
+        (record {
+          files = F.files shelf.old;
+          before = F.faults shelf.old;
+          after = F.faults shelf.new;
+        })
         (λ report bytes. IsLoaded union.old.told file.now.library (frames bytes)
         union.old.catalogue.history union.new.catalogue.history report) }
 {

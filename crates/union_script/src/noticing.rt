@@ -73,7 +73,8 @@ pub fn apply_turn<L: Ledger>(
     text: &mut Vec<u8>,
 ) -> Result<Vec<Outcome>, Memory>
     ensures told { OnOk result (union.new.told ≡ union.old.told) }
-    ensures appended { OnOk result (union.new.catalogue.history ≡ with_turn union.old.catalogue.history batch) }
+    ensures appended { OnOk result (union.new.catalogue.history
+        ≡ with_turn union.old.catalogue.history batch) }
     ensures outcomes { IfOk result (λ found. found.items
         ≡ outcomes batch.library (current union.old.catalogue.history) batch.ops) }
     ensures tells { OnOk result ((said : List ℕ)

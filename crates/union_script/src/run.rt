@@ -44,8 +44,18 @@ fn run_counted<L: Ledger, F: Shelf, O: Sink>(
     requires parts { blank.parts ≡ L.parts }
     requires some { 0 < L.parts }
     ensures run { (now : List HistoryEntry) × LinesRun result (script_of script.now) [] now
-        (record { files = F.files shelf.old; before = F.faults shelf.old; after = F.faults shelf.new })
-        (record { old = O.written out.old; new = O.written out.new; before = O.faults out.old; after = O.faults out.new }) }
+        (record {
+          files = F.files shelf.old;
+          before = F.faults shelf.old;
+          after = F.faults shelf.new;
+        })
+        (record {
+          old = O.written out.old;
+          new = O.written out.new;
+          before = O.faults out.old;
+          after
+              = O.faults out.new;
+        }) }
 {
     match empty_catalogue(alloc) {
         Ok(catalogue) => {
@@ -76,8 +86,18 @@ fn run_text<F: Shelf, O: Sink>(
     out: &mut O,
 ) -> Result<bool, Status>
     ensures run { (now : List HistoryEntry) × LinesRun result (script_of script.now) [] now
-        (record { files = F.files shelf.old; before = F.faults shelf.old; after = F.faults shelf.new })
-        (record { old = O.written out.old; new = O.written out.new; before = O.faults out.old; after = O.faults out.new }) }
+        (record {
+          files = F.files shelf.old;
+          before = F.faults shelf.old;
+          after = F.faults shelf.new;
+        })
+        (record {
+          old = O.written out.old;
+          new = O.written out.new;
+          before = O.faults out.old;
+          after
+              = O.faults out.new;
+        }) }
 {
     run_counted::<Brand, F, O>(alloc, script, shelf, out, Blank::new(1))
 }
@@ -111,8 +131,18 @@ pub fn script_run<F: Shelf, O: Sink>(
     out: &mut O,
 ) -> Status
     ensures run { IsScript path.now
-        (record { files = F.files shelf.old; before = F.faults shelf.old; after = F.faults shelf.new })
-        (record { old = O.written out.old; new = O.written out.new; before = O.faults out.old; after = O.faults out.new })
+        (record {
+          files = F.files shelf.old;
+          before = F.faults shelf.old;
+          after = F.faults shelf.new;
+        })
+        (record {
+          old = O.written out.old;
+          new = O.written out.new;
+          before = O.faults out.old;
+          after
+              = O.faults out.new;
+        })
         result }
 {
     match read_text_file(alloc, path, Input::Script, shelf) {

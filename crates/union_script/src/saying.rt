@@ -8,7 +8,13 @@ use union_words::status::Status;
 /// Writes a text, and tells again whether something is refused.
 pub fn say<O: Sink>(text: &[u8], refused: bool, out: &mut O) -> Result<bool, Status>
     ensures { Says result text.now refused
-        (record { old = O.written out.old; new = O.written out.new; before = O.faults out.old; after = O.faults out.new }) }
+        (record {
+          old = O.written out.old;
+          new = O.written out.new;
+          before = O.faults out.old;
+          after
+              = O.faults out.new;
+        }) }
 {
     match put_all(out, text) {
         Ok(()) => Ok(refused),

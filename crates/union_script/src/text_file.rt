@@ -27,7 +27,11 @@ pub fn read_text_file<F: Shelf>(
     requires text { limit_of input ≡ LARGEST_TEXT }
     ensures files { F.files shelf.new ≡ F.files shelf.old }
     ensures reads { ReadsFile result (record { input = input; path = path.now })
-        (record { files = F.files shelf.old; before = F.faults shelf.old; after = F.faults shelf.new })
+        (record {
+          files = F.files shelf.old;
+          before = F.faults shelf.old;
+          after = F.faults shelf.new;
+        })
         (λ text bytes. text.items ≡ bytes) }
 {
     match shelf.open(alloc, path) {

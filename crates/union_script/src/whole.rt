@@ -16,7 +16,12 @@ const PIECE: usize = 65_536;
 /// where memory ran out.
 pub fn read_whole<S: Source>(alloc: Global, source: &mut S, limit: usize) -> Result<Vec<u8>, Stop>
     ensures name { S.name source.new ≡ S.name source.old }
-    ensures reads { Reads limit result (record { told = S.left source.old; before = S.faults source.old; after = S.faults source.new })
+    ensures reads { Reads limit result (record {
+      told = S.left source.old;
+      before = S.faults
+          source.old;
+      after = S.faults source.new;
+    })
         (λ content bytes. content.items ≡ bytes) }
 {
     let mut content = Vec::new(alloc);

@@ -27,7 +27,8 @@ impl LibraryDraws {
 
     /// The draws of the library's next frame: None where there is none.
     pub fn next(&mut self) -> Option<Draws>
-        ensures { MatchOption result ((still_drawn self.old ≡ []) × (still_drawn self.new ≡ [])) (λ drawn. still_drawn self.old ≡ drawn ∷ still_drawn self.new) }
+        ensures { MatchOption result ((still_drawn self.old ≡ []) × (still_drawn self.new ≡ []))
+            (λ drawn. still_drawn self.old ≡ drawn ∷ still_drawn self.new) }
     {
         while self.number < self.count {
             let mine = self.number % LIBRARIES == self.place;

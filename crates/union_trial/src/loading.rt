@@ -36,7 +36,8 @@ fn read_block(
     draws: &mut LibraryDraws,
     frame: &mut Vec<u8>,
 ) -> Result<Vec<Op>, Memory>
-    ensures { IfOk result (λ ops. IsBlockOf library.now (still_drawn draws.old) (still_drawn draws.new) ops.items) }
+    ensures { IfOk result (λ ops. IsBlockOf library.now (still_drawn draws.old)
+        (still_drawn draws.new) ops.items) }
 {
     let mut ops = Vec::new(alloc);
     for _ in 0..LARGEST_BATCH {
@@ -71,7 +72,8 @@ fn load_library<R: Threads + Sync, L: Ledger>(
     requires some_worker { 1 ≤ workers }
     requires most_workers { workers ≤ 64 }
     ensures names { catalogue.new.names ≡ catalogue.old.names }
-    ensures loads { OnOk result (Loads seed count place catalogue.old.history catalogue.new.history) }
+    ensures loads { OnOk result (Loads seed count place catalogue.old.history
+        catalogue.new.history) }
 {
     let library = library_code(place);
     let mut draws = LibraryDraws::of(seed, count, place);

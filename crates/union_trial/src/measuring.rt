@@ -19,7 +19,8 @@ fn record_size(
     edition: &Edition,
     buffer: &mut Vec<u8>,
 ) -> Result<usize, Memory>
-    ensures value { IfOk result (λ size. size ≡ length (edition_text catalogue.now.names edition.now)) }
+    ensures value { IfOk result (λ size. size
+        ≡ length (edition_text catalogue.now.names edition.now)) }
     ensures bound { IfOk result (λ size. size ≤ 99999) }
 {
     buffer.clear();
@@ -29,7 +30,8 @@ fn record_size(
 
 /// How many bytes the export of the catalogue has. The records are made one after the other, and none is kept.
 fn export_size(alloc: Global, catalogue: &Catalogue) -> Result<u128, Memory>
-    ensures { IfOk result (λ size. (all : List EditionModel) × AreEditionsOf catalogue.now.history all
+    ensures { IfOk result (λ size. (all : List EditionModel)
+        × AreEditionsOf catalogue.now.history all
         × (size ≡ length (export_text catalogue.now.names all))) }
 {
     let editions = catalogue.editions(alloc)?;
@@ -38,7 +40,8 @@ fn export_size(alloc: Global, catalogue: &Catalogue) -> Result<u128, Memory>
 
 /// How many bytes the records of the editions have.
 fn records_size(alloc: Global, catalogue: &Catalogue, editions: &[&Edition]) -> Result<u128, Memory>
-    ensures { IfOk result (λ size. size ≡ length (export_text catalogue.now.names (map (λ e. e.now) editions.now))) }
+    ensures { IfOk result (λ size. size ≡ length
+        (export_text catalogue.now.names (map (λ e. e.now) editions.now))) }
 {
     let mut buffer = Vec::new(alloc);
     let mut size: u128 = 0;

@@ -111,7 +111,13 @@ pub fn trial_run<R: Threads + Sync, O: Sink>(
     requires most { count ≤ MOST_FRAMES }
     requires some_worker { 1 ≤ workers }
     requires most_workers { workers ≤ 64 }
-    ensures { IsTrial seed count (record { old = O.written out.old; new = O.written out.new; before = O.faults out.old; after = O.faults out.new }) result }
+    ensures { IsTrial seed count (record {
+      old = O.written out.old;
+      new = O.written out.new;
+      before
+          = O.faults out.old;
+      after = O.faults out.new;
+    }) result }
 {
     match trial_text(rt, alloc, seed, count, workers) {
         Ok((text, catalogue)) => match put_all(out, text.as_slice()) {

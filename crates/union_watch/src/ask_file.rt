@@ -20,7 +20,8 @@ pub struct AskFile<'a> {
 impl<'a> AskFile<'a> {
     /// Reads the lines of the text. Returns `Memory` if allocation fails.
     pub fn read(alloc: Global, text: &'a [u8]) -> Result<AskFile<'a>, Memory>
-        ensures lines { IfOk result (λ file. map line_meaning file.lines.items ≡ lines_in text.now) }
+        ensures lines { IfOk result (λ file. map line_meaning file.lines.items
+            ≡ lines_in text.now) }
         ensures questions { IfOk result (λ file. file.questions.items ≡ questions_in text.now) }
     {
         let mut file = AskFile {
@@ -38,8 +39,10 @@ impl<'a> AskFile<'a> {
 
     /// Adds a line, and its question where it asks one.
     fn add(&mut self, alloc: Global, line: &'a [u8]) -> Result<(), Memory>
-        ensures lines { OnOk result (map line_meaning self.new.lines.items ≡ map line_meaning self.old.lines.items ++ read_line line.now ∷ []) }
-        ensures questions { OnOk result (self.new.questions.items ≡ self.old.questions.items ++ question_of line.now) }
+        ensures lines { OnOk result (map line_meaning self.new.lines.items
+            ≡ map line_meaning self.old.lines.items ++ read_line line.now ∷ []) }
+        ensures questions { OnOk result (self.new.questions.items ≡ self.old.questions.items
+            ++ question_of line.now) }
     {
         match Query::read(alloc, line) {
             Ok(query) => {

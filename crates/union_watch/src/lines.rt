@@ -86,8 +86,10 @@ pub fn add_told(
     line: &AskLine<'_>,
     replies: &mut Replies<'_>,
 ) -> Result<(), AllocError>
-    ensures told { OnOk result (text.new.items ≡ text.old.items ++ told_text_of (told_first (line_meaning line.now) replies.old.left.now)) }
-    ensures left { OnOk result (replies.new.left.now ≡ left_behind (line_meaning line.now) replies.old.left.now) }
+    ensures told { OnOk result (text.new.items ≡ text.old.items
+        ++ told_text_of (told_first (line_meaning line.now) replies.old.left.now)) }
+    ensures left { OnOk result (replies.new.left.now
+        ≡ left_behind (line_meaning line.now) replies.old.left.now) }
 {
     match line {
         AskLine::Asks(line) => {

@@ -8,7 +8,8 @@ use std::alloc::{AllocError, Global};
 
 /// Divides the questions of a file: with one worker all are late, and with more the last one is.
 pub fn divide(alloc: Global, workers: u32, questions: Vec<Query>) -> Result<Questions, AllocError>
-    ensures beside { IfOk result (λ divided. divided.beside.items ≡ beside workers questions.items) }
+    ensures beside { IfOk result (λ divided. divided.beside.items
+        ≡ beside workers questions.items) }
     ensures late { IfOk result (λ divided. divided.late.items ≡ late workers questions.items) }
 {
     if workers == 1 {

@@ -24,7 +24,13 @@ fn write_turn<O: Sink>(
     out: &mut O,
 ) -> Result<(), ExportFail>
     ensures { HasMoved (pending.old.items ++ turn_text (turn_of turn entry.now)) pending.new.items
-        (record { old = O.written out.old; new = O.written out.new; before = O.faults out.old; after = O.faults out.new }) result }
+        (record {
+          old = O.written out.old;
+          new = O.written out.new;
+          before = O.faults out.old;
+          after
+              = O.faults out.new;
+        }) result }
 {
     add_turn_line(pending, turn, entry)?;
     hand_on(pending, out)
@@ -37,7 +43,13 @@ fn write_turns<O: Sink>(
     out: &mut O,
 ) -> Result<(), ExportFail>
     ensures { HasMoved (pending.old.items ++ turns_text catalogue.now.history) pending.new.items
-        (record { old = O.written out.old; new = O.written out.new; before = O.faults out.old; after = O.faults out.new }) result }
+        (record {
+          old = O.written out.old;
+          new = O.written out.new;
+          before = O.faults out.old;
+          after
+              = O.faults out.new;
+        }) result }
 {
     for turn in 0..catalogue.turns() {
         match write_turn(turn + 1, catalogue.entry(turn), pending, out) {
@@ -55,9 +67,17 @@ fn write_line<O: Sink>(
     pending: &mut Vec<u8>,
     out: &mut O,
 ) -> Result<(), ExportFail>
-    ensures text { HasMoved (pending.old.items ++ told_text_of (told_first (line_meaning line.now) replies.old.left.now)) pending.new.items
-        (record { old = O.written out.old; new = O.written out.new; before = O.faults out.old; after = O.faults out.new }) result }
-    ensures left { OnOk result (replies.new.left.now ≡ left_behind (line_meaning line.now) replies.old.left.now) }
+    ensures text { HasMoved (pending.old.items
+        ++ told_text_of (told_first (line_meaning line.now) replies.old.left.now)) pending.new.items
+        (record {
+          old = O.written out.old;
+          new = O.written out.new;
+          before = O.faults out.old;
+          after
+              = O.faults out.new;
+        }) result }
+    ensures left { OnOk result (replies.new.left.now
+        ≡ left_behind (line_meaning line.now) replies.old.left.now) }
 {
     add_told(pending, line, replies)?;
     hand_on(pending, out)
@@ -70,8 +90,15 @@ fn write_lines<O: Sink>(
     pending: &mut Vec<u8>,
     out: &mut O,
 ) -> Result<(), ExportFail>
-    ensures { HasMoved (pending.old.items ++ told_text_of (told_of (map line_meaning lines.now) replies.now)) pending.new.items
-        (record { old = O.written out.old; new = O.written out.new; before = O.faults out.old; after = O.faults out.new }) result }
+    ensures { HasMoved (pending.old.items ++ told_text_of
+        (told_of (map line_meaning lines.now) replies.now)) pending.new.items
+        (record {
+          old = O.written out.old;
+          new = O.written out.new;
+          before = O.faults out.old;
+          after
+              = O.faults out.new;
+        }) result }
 {
     let mut replies = Replies { left: replies };
     for line in lines {
@@ -110,8 +137,15 @@ pub fn write_watch<O: Sink>(
     late: Vec<(u64, Answer)>,
     out: &mut O,
 ) -> Result<(), ExportFail>
-    ensures { HasWritten (watch_text catalogue.now.history (told_of (map line_meaning lines.now) (beside.items ++ late.items)))
-        (record { old = O.written out.old; new = O.written out.new; before = O.faults out.old; after = O.faults out.new }) result }
+    ensures { HasWritten (watch_text catalogue.now.history
+        (told_of (map line_meaning lines.now) (beside.items ++ late.items)))
+        (record {
+          old = O.written out.old;
+          new = O.written out.new;
+          before = O.faults out.old;
+          after
+              = O.faults out.new;
+        }) result }
 {
     let replies = joined(beside, late)?;
     let mut pending = Vec::new(alloc);

@@ -25,7 +25,8 @@ impl<'a> Libraries<'a> {
     /// memory. Compares each pair of words.
     pub fn read(words: &'a [Bytes]) -> Option<Libraries<'a>>
         ensures { option_map libraries_meaning result
-            ≡ (if Words.are_libraries words.now then Some (Words.libraries_of words.now) else None) }
+            ≡ (if Words.are_libraries words.now then Some (Words.libraries_of words.now) else
+            None) }
     {
         if are_libraries(words) {
             Some(Libraries { words })

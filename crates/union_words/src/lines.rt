@@ -32,7 +32,8 @@ impl<'a> Lines<'a> {
 
     /// The next line, and None where no more is to come. Takes no memory.
     pub fn next(&mut self) -> Option<&'a [u8]>
-        ensures { MatchOption result ((self.old ≡ []) × (self.new ≡ [])) (λ line. self.old ≡ line.now ∷ self.new) }
+        ensures { MatchOption result ((self.old ≡ []) × (self.new ≡ []))
+            (λ line. self.old ≡ line.now ∷ self.new) }
     {
         let text = self.rest?;
         let (line, rest) = first_line(text);
@@ -43,7 +44,8 @@ impl<'a> Lines<'a> {
 
 /// The first line, and the text after its line feed: None where the line ends at the end of the text.
 fn first_line(text: &[u8]) -> (&[u8], Option<&[u8]>)
-    ensures { MatchOption result.1 (lines_of text.now ≡ result.0.now ∷ []) (λ rest. lines_of text.now ≡ result.0.now ∷ lines_of rest.now) }
+    ensures { MatchOption result.1 (lines_of text.now ≡ result.0.now ∷ [])
+        (λ rest. lines_of text.now ≡ result.0.now ∷ lines_of rest.now) }
 {
     match memchr(b'\n', text) {
         Some(at) => (

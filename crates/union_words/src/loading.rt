@@ -25,7 +25,8 @@ impl<'a> Loading<'a> {
     /// The loading of the libraries that the words name, as the options say: None exactly where these are not one to 64 words `LIB=PATH` with
     /// distinct codes. Takes no memory. Compares each pair of words.
     pub(crate) fn read(options: Options<'a>, words: &'a [Bytes]) -> Option<Loading<'a>>
-        ensures { option_map loading_meaning result ≡ Words.loading_of (options_meaning options.entry) words.now }
+        ensures { option_map loading_meaning result
+            ≡ Words.loading_of (options_meaning options.entry) words.now }
     {
         match Libraries::read(words) {
             Some(libraries) => Some(Loading {

@@ -96,7 +96,8 @@ fn has_leading_zero(text: &[u8]) -> bool
 /// The number that the digits write: None exactly where it is 2^64 or more.
 fn value_of(digits: &[u8]) -> Option<u64>
     requires { IsTrue (Numbers.is_number digits.now) }
-    ensures { result ≡ (if nat_lt (Numbers.value_of digits.now) (2 ^ 64) then Some (Numbers.value_of digits.now) else None) }
+    ensures { result ≡ (if nat_lt (Numbers.value_of digits.now) (2 ^ 64) then Some
+        (Numbers.value_of digits.now) else None) }
 {
     match str::from_utf8(digits) {
         Ok(text) => match text.parse::<u64>() {

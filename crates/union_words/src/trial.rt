@@ -24,7 +24,8 @@ impl Trial {
     /// 200,000, or the third none from 1 to 64. Takes no memory.
     pub fn read(seed: &[u8], count: &[u8], workers: &[u8]) -> Option<Trial>
         ensures { option_map trial_meaning result
-            ≡ Words.numbers_job (Numbers.seed_of seed.now) (Numbers.count_of count.now) (Numbers.workers_of workers.now) }
+            ≡ Words.numbers_job (Numbers.seed_of seed.now) (Numbers.count_of count.now)
+            (Numbers.workers_of workers.now) }
     {
         let seed = seed_of(seed)?;
         let count = count_of(count)?;

@@ -22,7 +22,8 @@ pub fn enter(ids: &mut Vec<RecordId>, id: RecordId)
 /// Takes the id away, where it stands there. Takes no memory.
 pub fn leave(ids: &mut Vec<RecordId>, id: &RecordId)
     requires { is_ascending id_cmp ids.old.items ≡ true }
-    ensures left { ids.new.items ≡ filter (λ other. not (eq_by_cmp id_cmp id.now other)) ids.old.items }
+    ensures left { ids.new.items ≡ filter (λ other. not (eq_by_cmp id_cmp id.now other))
+        ids.old.items }
     ensures shorter { vec_len ids.new ≤ vec_len ids.old }
     ensures capacity { vec_capacity ids.old ≤ vec_capacity ids.new }
 {

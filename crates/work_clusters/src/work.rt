@@ -84,7 +84,8 @@ impl Work {
     /// Takes the id out, where it stands there, and answers whether the last one left. Takes no memory.
     pub(crate) fn leave(&mut self, id: &RecordId) -> bool
         ensures last { result ≡ (some self.old.ids && not (some self.new.ids)) }
-        ensures ids { self.new.ids ≡ filter (λ other. not (eq_by_cmp id_cmp id.now other)) self.old.ids }
+        ensures ids { self.new.ids ≡ filter (λ other. not (eq_by_cmp id_cmp id.now other))
+            self.old.ids }
         ensures ascending { is_ascending id_cmp self.new.ids ≡ true }
         ensures room { self.new.room ≡ self.old.room }
     {

@@ -118,7 +118,8 @@ impl Works {
     /// Makes room for one id more under the key. The works stay, whatever the answer.
     fn make_place(&mut self, alloc: Global, key: &Bytes) -> Result<(), Memory>
         ensures works { self.new.works ≡ self.old.works }
-        ensures room { OnOk result ((q : List ℕ) → room_under self.old.room q + (if is_key q key.now then 1 else 0) ≤ room_under self.new.room q) }
+        ensures room { OnOk result ((q : List ℕ) → room_under self.old.room q +
+            (if is_key q key.now then 1 else 0) ≤ room_under self.new.room q) }
     {
         match self.rows.get_mut(key) {
             Some(work) => work.make_room(),
@@ -212,7 +213,8 @@ impl Works {
 
 /// The key of the first of the rows that has ids. Takes no memory.
 fn first_filled<'a>(rows: Range<'a, Bytes, Work>) -> Option<&'a Bytes>
-    ensures { option_copied result ≡ option_map (λ row. row.0) (find (λ row. some row.1.ids) rows.entry) }
+    ensures { option_copied result ≡ option_map (λ row. row.0)
+        (find (λ row. some row.1.ids) rows.entry) }
 {
     let mut rows = rows;
     match rows.find(|(_, work)| work.has_editions()) {

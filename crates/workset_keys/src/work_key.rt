@@ -35,7 +35,8 @@ pub fn work_key(
     requires uniform { ForSome (option_copied uniform) HasTexts }
     requires title { HasTexts title.now }
     requires added { All HasTexts added.now }
-    ensures { IfOk result (λ key. key ≡ work_key (option_copied main.entry) (option_copied uniform.entry) title.now added.now id.now) }
+    ensures { IfOk result (λ key. key ≡ work_key (option_copied main.entry)
+        (option_copied uniform.entry) title.now added.now id.now) }
 {
     let name = main_name(alloc, main)?;
     // A key by the name in the main entry needs no added name.
@@ -87,7 +88,8 @@ fn key_with_least(
     requires main { ForSome (option_copied main) HasTexts }
     requires uniform { ForSome (option_copied uniform) HasTexts }
     requires title { HasTexts title.now }
-    ensures { IfOk result (λ key. key ≡ key_of_names name.now least.now (option_copied main.entry) (option_copied uniform.entry) title.now id.now) }
+    ensures { IfOk result (λ key. key ≡ key_of_names name.now least.now (option_copied main.entry)
+        (option_copied uniform.entry) title.now id.now) }
 {
     if is_empty(name) {
         key_without_name(alloc, least, main, title, id)
@@ -107,7 +109,8 @@ fn key_without_name(
 ) -> Result<Bytes, Memory>
     requires main { ForSome (option_copied main) HasTexts }
     requires title { HasTexts title.now }
-    ensures { IfOk result (λ key. key ≡ key_without_name (main_title (option_copied main.entry)) (title245_of title.now) least.now (own_name id.now)) }
+    ensures { IfOk result (λ key. key ≡ key_without_name (main_title (option_copied main.entry))
+        (title245_of title.now) least.now (own_name id.now)) }
 {
     let whole = main_title(alloc, main)?;
     if is_empty(&whole) {
@@ -120,7 +123,8 @@ fn key_without_name(
 /// The key where the main entry has no name and no title.
 fn key_by_title(alloc: Global, least: &Bytes, title: &Field, id: &RecordId) -> Result<Bytes, Memory>
     requires { HasTexts title.now }
-    ensures { IfOk result (λ key. key ≡ key_by_title (title245_of title.now) least.now (own_name id.now)) }
+    ensures { IfOk result (λ key. key ≡ key_by_title (title245_of title.now) least.now
+        (own_name id.now)) }
 {
     let title = title245_of(alloc, title)?;
     if is_empty(least) {
@@ -152,7 +156,8 @@ fn main_title(alloc: Global, main: Option<&Field>) -> Result<Bytes, Memory>
 fn work_title(alloc: Global, uniform: Option<&Field>, title: &Field) -> Result<Bytes, Memory>
     requires uniform { ForSome (option_copied uniform) HasTexts }
     requires title { HasTexts title.now }
-    ensures { IfOk result (λ b. b ≡ or_else (uniform_title (option_copied uniform.entry)) (title245_of title.now)) }
+    ensures { IfOk result (λ b. b ≡ or_else (uniform_title (option_copied uniform.entry))
+        (title245_of title.now)) }
 {
     let own = uniform_title(alloc, uniform)?;
     if is_empty(&own) {

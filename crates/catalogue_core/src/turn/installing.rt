@@ -40,7 +40,8 @@ fn closed_pairs(
     blocks: &Blocks<Edition>,
     closed: &[u64],
 ) -> Result<Vec<(Bytes, RecordId)>, Memory>
-    ensures { IfOk result (λ pairs. pairs.items ≡ closed_pairs names.now blocks.now.blocks closed.now) }
+    ensures { IfOk result (λ pairs. pairs.items
+        ≡ closed_pairs names.now blocks.now.blocks closed.now) }
 {
     let mut pairs = Vec::with_capacity(alloc, closed.len())?;
     for number in closed {
@@ -75,8 +76,10 @@ fn make_room_in(
     change: &Change<Edition>,
 ) -> Result<WorkChange, Memory>
     ensures same { works.new.works ≡ works.old.works }
-    ensures gone { IfOk result (λ c. c.gone ≡ closed_pairs names.now blocks.now.blocks change.now.closed.items) }
-    ensures come { IfOk result (λ c. c.come ≡ work_pairs names.now (values_of change.now.opened.items)) }
+    ensures gone { IfOk result (λ c. c.gone ≡ closed_pairs names.now blocks.now.blocks
+        change.now.closed.items) }
+    ensures come { IfOk result (λ c. c.come ≡ work_pairs names.now
+        (values_of change.now.opened.items)) }
     ensures room { IfOk result (λ c. HasRoomForPairs works.new.room c.come) }
 {
     let gone = closed_pairs(alloc, names, blocks, change.closed.as_slice())?;
@@ -97,7 +100,8 @@ fn make_room_in_kept(
     ensures same { list_in works.new ≡ list_in works.old }
     ensures room { IfOk result (λ c. HasRoomFor works.new c) }
     ensures change { IfOk result (λ c. regrouped (list_in works.old) c
-        ≡ option_map (λ ws. changed ws (closed_pairs names.now blocks.now.blocks change.now.closed.items)
+        ≡ option_map (λ ws. changed ws (closed_pairs names.now blocks.now.blocks
+        change.now.closed.items)
         (work_pairs names.now (values_of change.now.opened.items))) (list_in works.old)) }
 {
     match works {
@@ -130,11 +134,15 @@ pub fn install(
     entry: HistoryEntry,
     plan: Plan,
 ) -> Result<(), Memory>
-    requires kept { IsKept history.old.items homes.old.entries blocks.old.blocks (kept_works works.old) }
-    requires planned { IsPlanned (batches history.old.items ++ entry.batch ∷ []) homes.old.entries blocks.old.blocks
-        (after_batch (current history.old.items) entry.batch) plan.change.closed.items plan.change.opened.items
+    requires kept { IsKept history.old.items homes.old.entries blocks.old.blocks
+        (kept_works works.old) }
+    requires planned { IsPlanned (batches history.old.items ++ entry.batch ∷ []) homes.old.entries
+        blocks.old.blocks
+        (after_batch (current history.old.items) entry.batch) plan.change.closed.items
+        plan.change.opened.items
         plan.touched.entries }
-    ensures kept { IsKept history.new.items homes.new.entries blocks.new.blocks (kept_works works.new) }
+    ensures kept { IsKept history.new.items homes.new.entries blocks.new.blocks
+        (kept_works works.new) }
     ensures names { works.new.names ≡ works.old.names }
     ensures appended { OnOk result (history.new.items ≡ history.old.items ++ entry ∷ []) }
     ensures same { OnErr result (history.new.items ≡ history.old.items) }

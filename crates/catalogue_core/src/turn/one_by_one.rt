@@ -45,12 +45,16 @@ fn plan_load<L: Ledger>(
     requires planned { (all : MapOf EditionModel) × IsPlannedOn context.now all plan }
     requires own { edition.now.content.contributors ≡ least edition.now ∷ [] }
     requires loads { loaded_at (batches_with context.now) place ≡ Some edition.now }
-    ensures planned { IfOk result (λ next. (all : MapOf EditionModel) → IsPlannedOn context.now all plan
-        → IsPlannedOn context.now (after_op context.now.batch.now.library all (Load edition.now)) next.0) }
-    ensures outcome { IfOk result (λ next. (all : MapOf EditionModel) → IsPlannedOn context.now all plan
+    ensures planned { IfOk result (λ next. (all : MapOf EditionModel)
+        → IsPlannedOn context.now all plan
+        → IsPlannedOn context.now (after_op context.now.batch.now.library all (Load edition.now))
+        next.0) }
+    ensures outcome { IfOk result (λ next. (all : MapOf EditionModel)
+        → IsPlannedOn context.now all plan
         → next.1 ≡ outcome_of context.now.batch.now.library all (Load edition.now)) }
     ensures cost { (all : MapOf EditionModel) (number : ℕ) → IsPlannedOn context.now all plan
-        → IsReachOfOp context.now.batch.now.library all (Load edition.now) number → steps.new ≤ steps.old + number }
+        → IsReachOfOp context.now.batch.now.library all (Load edition.now) number
+        → steps.new ≤ steps.old + number }
 {
     let id = edition.least();
     match place_of(context.homes, &plan.touched, id) {
@@ -77,12 +81,16 @@ fn plan_withdrawal<L: Ledger>(
 ) -> Result<(Plan, Outcome), Memory>
     requires housed { AreHoused context.now.blocks.now.blocks context.now.homes.now.entries }
     requires planned { (all : MapOf EditionModel) × IsPlannedOn context.now all plan }
-    ensures planned { IfOk result (λ next. (all : MapOf EditionModel) → IsPlannedOn context.now all plan
-        → IsPlannedOn context.now (after_op context.now.batch.now.library all (Withdraw control.now)) next.0) }
-    ensures outcome { IfOk result (λ next. (all : MapOf EditionModel) → IsPlannedOn context.now all plan
+    ensures planned { IfOk result (λ next. (all : MapOf EditionModel)
+        → IsPlannedOn context.now all plan
+        → IsPlannedOn context.now (after_op context.now.batch.now.library all
+        (Withdraw control.now)) next.0) }
+    ensures outcome { IfOk result (λ next. (all : MapOf EditionModel)
+        → IsPlannedOn context.now all plan
         → next.1 ≡ outcome_of context.now.batch.now.library all (Withdraw control.now)) }
     ensures cost { (all : MapOf EditionModel) (number : ℕ) → IsPlannedOn context.now all plan
-        → IsReachOfOp context.now.batch.now.library all (Withdraw control.now) number → steps.new ≤ steps.old + number }
+        → IsReachOfOp context.now.batch.now.library all (Withdraw control.now) number
+        → steps.new ≤ steps.old + number }
 {
     let id = RecordId {
         library: context.batch.library,
@@ -111,12 +119,15 @@ fn plan_op<L: Ledger>(
     requires planned { (all : MapOf EditionModel) × IsPlannedOn context.now all plan }
     requires own { is_own_op context.now.batch.now.library op.now ≡ true }
     requires loads { loaded_at (batches_with context.now) place ≡ loaded op.now }
-    ensures planned { IfOk result (λ next. (all : MapOf EditionModel) → IsPlannedOn context.now all plan
+    ensures planned { IfOk result (λ next. (all : MapOf EditionModel)
+        → IsPlannedOn context.now all plan
         → IsPlannedOn context.now (after_op context.now.batch.now.library all op.now) next.0) }
-    ensures outcome { IfOk result (λ next. (all : MapOf EditionModel) → IsPlannedOn context.now all plan
+    ensures outcome { IfOk result (λ next. (all : MapOf EditionModel)
+        → IsPlannedOn context.now all plan
         → next.1 ≡ outcome_of context.now.batch.now.library all op.now) }
     ensures cost { (all : MapOf EditionModel) (number : ℕ) → IsPlannedOn context.now all plan
-        → IsReachOfOp context.now.batch.now.library all op.now number → steps.new ≤ steps.old + number }
+        → IsReachOfOp context.now.batch.now.library all op.now number
+        → steps.new ≤ steps.old + number }
 {
     match op {
         Op::Load(edition) => plan_load(alloc, context, plan, place, edition, steps),
@@ -130,12 +141,18 @@ pub fn planned<L: Ledger>(
     context: &Context<'_>,
     steps: &mut Steps<L>,
 ) -> Result<(Plan, Vec<Outcome>), Memory>
-    requires current { StandFor (batches context.now.history.now) (places_in context.now.homes.now.entries) (current context.now.history.now) }
-    requires resolved { IsResolution edition_match join (bases context.now.history.now) (values_of (blocks_in context.now.blocks.now.blocks)) }
+    requires current { StandFor (batches context.now.history.now)
+        (places_in context.now.homes.now.entries) (current context.now.history.now) }
+    requires resolved { IsResolution edition_match join (bases context.now.history.now)
+        (values_of (blocks_in context.now.blocks.now.blocks)) }
     requires housed { AreHoused context.now.blocks.now.blocks context.now.homes.now.entries }
-    ensures planned { IfOk result (λ turn. IsPlannedOn context.now (after_batch (current context.now.history.now) context.now.batch.now) turn.0) }
-    ensures outcomes { IfOk result (λ turn. turn.1.items ≡ outcomes context.now.batch.now.library (current context.now.history.now) context.now.batch.now.ops) }
-    ensures cost { (number : ℕ) → IsReachOf context.now.batch.now.library (current context.now.history.now) context.now.batch.now.ops number
+    ensures planned { IfOk result (λ turn. IsPlannedOn context.now
+        (after_batch (current context.now.history.now) context.now.batch.now) turn.0) }
+    ensures outcomes { IfOk result (λ turn. turn.1.items
+        ≡ outcomes context.now.batch.now.library (current context.now.history.now)
+        context.now.batch.now.ops) }
+    ensures cost { (number : ℕ) → IsReachOf context.now.batch.now.library
+        (current context.now.history.now) context.now.batch.now.ops number
         → steps.new ≤ steps.old + number }
 {
     let ops = context.batch.ops.as_slice();

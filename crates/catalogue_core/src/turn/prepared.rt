@@ -63,12 +63,14 @@ fn withdraw_current<L: Ledger>(
 ) -> Result<Plan, Memory>
     requires housed { AreHoused context.now.blocks.now.blocks context.now.homes.now.entries }
     requires planned { (all : MapOf EditionModel) × IsPlannedOn context.now all plan }
-    ensures planned { IfOk result (λ next. (all : MapOf EditionModel) → IsPlannedOn context.now all plan
+    ensures planned { IfOk result (λ next. (all : MapOf EditionModel)
+        → IsPlannedOn context.now all plan
         → IsPlannedOn context.now (remove_entry (is_at (id_cmp id.now)) all) next) }
     ensures free { (all : MapOf EditionModel) → IsPlannedOn context.now all plan
         → is_current all id.now ≡ false → steps.new ≤ steps.old }
     ensures cost { (all : MapOf EditionModel) (number : ℕ) → IsPlannedOn context.now all plan
-        → is_current all id.now ≡ true → IsReachOfWithdrawal (values_of all) id.now number → steps.new ≤ steps.old + number }
+        → is_current all id.now ≡ true → IsReachOfWithdrawal (values_of all) id.now number
+        → steps.new ≤ steps.old + number }
 {
     match place_of(context.homes, &plan.touched, id) {
         Some(_) => withdraw(alloc, context, plan, id, steps),
@@ -85,12 +87,14 @@ fn insert_parts<L: Ledger>(
     steps: &mut Steps<L>,
 ) -> Result<Change<Edition>, Memory>
     requires { Fits edition_match blocks.now.blocks change.closed.items change.opened.items }
-    ensures fits { IfOk result (λ new. Fits edition_match blocks.now.blocks new.closed.items new.opened.items) }
+    ensures fits { IfOk result (λ new. Fits edition_match blocks.now.blocks new.closed.items
+        new.opened.items) }
     ensures resolved { IfOk result (λ new. IsResolution edition_match join
         (view_of blocks.now.blocks change.closed.items change.opened.items ++ parts.items)
         (view_of blocks.now.blocks new.closed.items new.opened.items)) }
     ensures cost { (list : List EditionModel) (number : ℕ)
-        → IsResolution edition_match join list (view_of blocks.now.blocks change.closed.items change.opened.items)
+        → IsResolution edition_match join list (view_of blocks.now.blocks change.closed.items
+        change.opened.items)
         → IsReachOfComing list parts.items number → steps.new ≤ steps.old + number }
 {
     let mut change = change;
@@ -107,11 +111,16 @@ fn without_named<L: Ledger>(
     context: &Context<'_>,
     steps: &mut Steps<L>,
 ) -> Result<Plan, Memory>
-    requires current { StandFor (batches context.now.history.now) (places_in context.now.homes.now.entries) (current context.now.history.now) }
-    requires resolved { IsResolution edition_match join (bases context.now.history.now) (values_of_blocks (blocks_in context.now.blocks.now.blocks)) }
+    requires current { StandFor (batches context.now.history.now)
+        (places_in context.now.homes.now.entries) (current context.now.history.now) }
+    requires resolved { IsResolution edition_match join (bases context.now.history.now)
+        (values_of_blocks (blocks_in context.now.blocks.now.blocks)) }
     requires housed { AreHoused context.now.blocks.now.blocks context.now.homes.now.entries }
-    ensures planned { IfOk result (λ plan. IsPlannedOn context.now (without_all context.now.batch.now.library (current context.now.history.now) context.now.batch.now.ops) plan) }
-    ensures cost { (number : ℕ) → IsReachOfLeaving context.now.batch.now.library (current context.now.history.now) context.now.batch.now.ops number
+    ensures planned { IfOk result (λ plan. IsPlannedOn context.now
+        (without_all context.now.batch.now.library (current context.now.history.now)
+        context.now.batch.now.ops) plan) }
+    ensures cost { (number : ℕ) → IsReachOfLeaving context.now.batch.now.library
+        (current context.now.history.now) context.now.batch.now.ops number
         → steps.new ≤ steps.old + number }
 {
     let ops = context.batch.ops.as_slice();
@@ -137,11 +146,14 @@ fn touch_op(
     op: &Op,
 ) -> Result<Outcome, Memory>
     requires own { is_own_op library.now op.now ≡ true }
-    ensures touched { OnOk result ((all : List BatchModel) (editions : MapOf EditionModel) → loaded_at all place ≡ loaded op.now
+    ensures touched { OnOk result ((all : List BatchModel) (editions : MapOf EditionModel)
+        → loaded_at all place ≡ loaded op.now
         → IsTouched all homes.now.entries editions touched.old.entries
-        → IsTouched all homes.now.entries (after_op library.now editions op.now) touched.new.entries) }
+        → IsTouched all homes.now.entries (after_op library.now editions op.now)
+        touched.new.entries) }
     ensures outcome { IfOk result (λ found. (all : List BatchModel) (editions : MapOf EditionModel)
-        → IsTouched all homes.now.entries editions touched.old.entries → found ≡ outcome_of library.now editions op.now) }
+        → IsTouched all homes.now.entries editions touched.old.entries
+        → found ≡ outcome_of library.now editions op.now) }
 {
     let id = named(alloc, library, op)?;
     let is_current = place_of(homes, touched, &id).is_some();
@@ -171,10 +183,14 @@ fn touch_all(
     alloc: Global,
     context: &Context<'_>,
 ) -> Result<(BTreeMap<RecordId, Option<Place>>, Vec<Outcome>), Memory>
-    requires { StandFor (batches context.now.history.now) (places_in context.now.homes.now.entries) (current context.now.history.now) }
-    ensures touched { IfOk result (λ turn. IsTouched (batches_with context.now) context.now.homes.now.entries
+    requires { StandFor (batches context.now.history.now) (places_in context.now.homes.now.entries)
+        (current context.now.history.now) }
+    ensures touched { IfOk result (λ turn. IsTouched (batches_with context.now)
+        context.now.homes.now.entries
         (after_batch (current context.now.history.now) context.now.batch.now) turn.0.entries) }
-    ensures outcomes { IfOk result (λ turn. turn.1.items ≡ outcomes context.now.batch.now.library (current context.now.history.now) context.now.batch.now.ops) }
+    ensures outcomes { IfOk result (λ turn. turn.1.items
+        ≡ outcomes context.now.batch.now.library (current context.now.history.now)
+        context.now.batch.now.ops) }
 {
     let ops = context.batch.ops.as_slice();
     let mut outcomes = Vec::with_capacity(alloc, ops.len())?;
@@ -202,14 +218,20 @@ pub fn planned_parts<L: Ledger>(
     parts: Vec<Edition>,
     steps: &mut Steps<L>,
 ) -> Result<(Plan, Vec<Outcome>), Memory>
-    requires current { StandFor (batches context.now.history.now) (places_in context.now.homes.now.entries) (current context.now.history.now) }
-    requires resolved { IsResolution edition_match join (bases context.now.history.now) (values_of_blocks (blocks_in context.now.blocks.now.blocks)) }
+    requires current { StandFor (batches context.now.history.now)
+        (places_in context.now.homes.now.entries) (current context.now.history.now) }
+    requires resolved { IsResolution edition_match join (bases context.now.history.now)
+        (values_of_blocks (blocks_in context.now.blocks.now.blocks)) }
     requires housed { AreHoused context.now.blocks.now.blocks context.now.homes.now.entries }
     requires parts { IsResolution edition_match join (net context.now.batch.now) parts.items }
-    ensures planned { IfOk result (λ turn. IsPlannedOn context.now (after_batch (current context.now.history.now) context.now.batch.now) turn.0) }
-    ensures outcomes { IfOk result (λ turn. turn.1.items ≡ outcomes context.now.batch.now.library (current context.now.history.now) context.now.batch.now.ops) }
+    ensures planned { IfOk result (λ turn. IsPlannedOn context.now
+        (after_batch (current context.now.history.now) context.now.batch.now) turn.0) }
+    ensures outcomes { IfOk result (λ turn. turn.1.items
+        ≡ outcomes context.now.batch.now.library (current context.now.history.now)
+        context.now.batch.now.ops) }
     ensures cost { (number : ℕ)
-        → IsReachOfParts context.now.batch.now.library (current context.now.history.now) context.now.batch.now.ops parts.items number
+        → IsReachOfParts context.now.batch.now.library (current context.now.history.now)
+        context.now.batch.now.ops parts.items number
         → steps.new ≤ steps.old + number }
 {
     let (touched, outcomes) = touch_all(alloc, context)?;

@@ -61,7 +61,8 @@ fn base_beside<'a>(
     gone: &RecordId,
     id: &RecordId,
 ) -> Option<&'a Edition>
-    ensures { option_copied result ≡ base_beside (batches_with context.now) context.now.homes.now.entries
+    ensures { option_copied result ≡ base_beside (batches_with context.now)
+        context.now.homes.now.entries
         touched.now.entries gone.now id.now }
 {
     if gone.cmp(id).is_eq() {
@@ -125,7 +126,8 @@ fn has_contributor(edition: &Edition, id: &RecordId) -> bool
 fn opened_holder(opened: &[Keyed<Edition>], id: &RecordId) -> Option<usize>
     ensures found { IfSome result (λ place. (e : Block) × (slice_get opened.now place ≡ Some e)
         × (has_contributor id.now e.value ≡ true)) }
-    ensures none { IfNone result (list_any (λ e. has_contributor id.now e.value) opened.now ≡ false) }
+    ensures none { IfNone result (list_any (λ e. has_contributor id.now e.value) opened.now
+        ≡ false) }
 {
     for (place, keyed) in opened.iter().enumerate() {
         if has_contributor(&keyed.value, id) {
@@ -170,8 +172,10 @@ fn left_behind(
     requires housed { AreHoused context.now.blocks.now.blocks context.now.homes.now.entries }
     requires planned { (all : MapOf EditionModel) × IsPlannedOn context.now all plan.now
         × (is_current all id.now ≡ true) }
-    ensures { IfOk result (λ found. IsLeft (batches_with context.now) context.now.homes.now.entries context.now.blocks.now.blocks
-        plan.now.change.closed.items plan.now.change.opened.items plan.now.touched.entries id.now found.0 found.1.items) }
+    ensures { IfOk result (λ found. IsLeft (batches_with context.now) context.now.homes.now.entries
+        context.now.blocks.now.blocks
+        plan.now.change.closed.items plan.now.change.opened.items plan.now.touched.entries id.now
+        found.0 found.1.items) }
 {
     let Some(at) = holder_at(context.homes, context.blocks, &plan.change, id) else {
         unreachable!()
@@ -196,7 +200,8 @@ pub fn withdraw<L: Ledger>(
     requires housed { AreHoused context.now.blocks.now.blocks context.now.homes.now.entries }
     requires planned { (all : MapOf EditionModel) × IsPlannedOn context.now all plan
         × (is_current all id.now ≡ true) }
-    ensures planned { IfOk result (λ next. (all : MapOf EditionModel) → IsPlannedOn context.now all plan
+    ensures planned { IfOk result (λ next. (all : MapOf EditionModel)
+        → IsPlannedOn context.now all plan
         → IsPlannedOn context.now (remove_entry (is_at (id_cmp id.now)) all) next) }
     ensures cost { (all : MapOf EditionModel) (number : ℕ) → IsPlannedOn context.now all plan
         → IsReachOfWithdrawal (values_of all) id.now number → steps.new ≤ steps.old + number }
@@ -225,7 +230,8 @@ pub fn insert<L: Ledger>(
     requires planned { (all : MapOf EditionModel) × IsPlannedOn context.now all plan }
     requires own { edition.now.content.contributors ≡ least edition.now ∷ [] }
     requires loads { loaded_at (batches_with context.now) place ≡ Some edition.now }
-    ensures planned { IfOk result (λ next. (all : MapOf EditionModel) → IsPlannedOn context.now all plan
+    ensures planned { IfOk result (λ next. (all : MapOf EditionModel)
+        → IsPlannedOn context.now all plan
         → is_current all (least edition.now) ≡ false
         → IsPlannedOn context.now (insert_entry id_cmp all (least edition.now) edition.now) next) }
     ensures cost { (all : MapOf EditionModel) (number : ℕ) → IsPlannedOn context.now all plan

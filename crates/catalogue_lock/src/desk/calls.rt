@@ -32,7 +32,8 @@ impl<M: Machine> Desk<M> {
         requires { IsPassOf pass.old self.now }
         ensures desk { IsPassOf pass.new self.now }
         ensures same { IsSamePass pass.old pass.new }
-        ensures ok { IfOk result (λ t. IsTurn M.yields (view pass.old) (view pass.new) change t.turn t.outcome) }
+        ensures ok { IfOk result (λ t. IsTurn M.yields (view pass.old) (view pass.new) change t.turn
+            t.outcome) }
         ensures memory { OnErr result (IsRefused (view pass.old) (view pass.new)) }
     {
         self.win(rt, &mut pass.place);
@@ -57,7 +58,8 @@ impl<M: Machine> Desk<M> {
         requires { IsPassOf pass.old self.now }
         ensures desk { IsPassOf pass.new self.now }
         ensures same { IsSamePass pass.old pass.new }
-        ensures ok { IfOk result (λ r. IsAnswer M.answers (view pass.old) (view pass.new) question.now r.0 r.1) }
+        ensures ok { IfOk result (λ r. IsAnswer M.answers (view pass.old) (view pass.new)
+            question.now r.0 r.1) }
         ensures memory { OnErr result (IsRefused (view pass.old) (view pass.new)) }
     {
         self.win(rt, &mut pass.place);
@@ -83,7 +85,8 @@ impl<M: Machine> Desk<M> {
         ensures same { IsSamePass pass.old pass.new }
         ensures looks { (view pass.new).looks ≡ (view pass.old).looks + 1 }
         ensures tries { (view pass.new).tries ≤ (view pass.old).tries + 1 }
-        ensures answer { MatchResult result (λ t. IsTurn M.yields (view pass.old) (view pass.new) change t.turn t.outcome) (IsRefusal (view pass.old) (view pass.new) change) }
+        ensures answer { MatchResult result (λ t. IsTurn M.yields (view pass.old) (view pass.new)
+            change t.turn t.outcome) (IsRefusal (view pass.old) (view pass.new) change) }
     {
         let loaded = self.look(&mut pass.place);
         if loaded % 2 == 1 {

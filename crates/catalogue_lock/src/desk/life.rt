@@ -88,8 +88,10 @@ impl<M: Machine> Desk<M> {
         requires out { (root_of root).made - length (root_of root).ended ≡ 0 }
         ensures setting { M.setting result ≡ (root_of root).setting }
         ensures ended { All (EndedOk (M.entries result)) (root_of root).ended }
-        ensures numbers { (n : ℕ) → n < (root_of root).made → Any (λ (e : Ended M.Change). e.number ≡ n) (root_of root).ended }
-        ensures no_other { All (λ (e : ℕ × M.Change). e.0 < (root_of root).made) (M.entries result) }
+        ensures numbers { (n : ℕ) → n < (root_of root).made
+            → Any (λ (e : Ended M.Change). e.number ≡ n) (root_of root).ended }
+        ensures no_other { All (λ (e : ℕ × M.Change). e.0 < (root_of root).made)
+            (M.entries result) }
     {
         let Root {
             made: _,

@@ -28,7 +28,10 @@ impl<M: Machine> Desk<M> {
         requires even { loaded % 2 ≡ 0 }
         ensures desk { place.new.table_id ≡ place.old.table_id }
         ensures waited { Waited place.old.me.0 place.new.me.0 }
-        ensures words { (place.new.me.0.found ≡ result) × (place.new.me.0.tries ≡ place.old.me.0.tries + 1) × (place.new.me.0.loaded ≡ place.old.me.0.loaded) × (place.new.me.0.looks ≡ place.old.me.0.looks) }
+        ensures words { (place.new.me.0.found ≡ result)
+            × (place.new.me.0.tries ≡ place.old.me.0.tries + 1)
+            × (place.new.me.0.loaded ≡ place.old.me.0.loaded)
+            × (place.new.me.0.looks ≡ place.old.me.0.looks) }
         ensures won { result ≡ loaded → (x : M) × Works M.setting M.entries place.new.me x }
         ensures lost { result ≢ loaded → Rests place.new.me }
     {
@@ -61,10 +64,13 @@ impl<M: Machine> Desk<M> {
     /// The fetch_add that ends a turn with one entry more.
     pub(crate) fn finish(&self, place: &mut Place<M>)
         requires desk { place.old.table_id ≡ self.now.board.shared.table_id }
-        requires grown { let v = place.old.me.0 in (x : M) × (c : M.Change) × (place.old.me.1 ≡ (0, Some x) ∷ []) × (M.setting x ≡ v.setting) × (M.entries x ≡ v.base ++ (v.number, c) ∷ []) }
+        requires grown { let v = place.old.me.0 in (x : M) × (c : M.Change)
+            × (place.old.me.1 ≡ (0, Some x) ∷ []) × (M.setting x ≡ v.setting)
+            × (M.entries x ≡ v.base ++ (v.number, c) ∷ []) }
         requires holds { (place.old.me.0.role ≡ AsPass) × (place.old.me.0.holds ≡ true) }
         ensures desk { place.new.table_id ≡ place.old.table_id }
-        ensures released { (x : M) → place.old.me.1 ≡ (0, Some x) ∷ [] → place.new.me ≡ (released (M.entries x) place.old.me.0, []) }
+        ensures released { (x : M) → place.old.me.1 ≡ (0, Some x) ∷ []
+            → place.new.me ≡ (released (M.entries x) place.old.me.0, []) }
     {
         self.board.shared.fetch_add::<Release>(place, 0, 1);
     }
@@ -72,10 +78,12 @@ impl<M: Machine> Desk<M> {
     /// The fetch_sub that ends a turn without one.
     pub(crate) fn cancel(&self, place: &mut Place<M>)
         requires desk { place.old.table_id ≡ self.now.board.shared.table_id }
-        requires same { let v = place.old.me.0 in (x : M) × (place.old.me.1 ≡ (0, Some x) ∷ []) × (M.setting x ≡ v.setting) × (M.entries x ≡ v.base) }
+        requires same { let v = place.old.me.0 in (x : M) × (place.old.me.1 ≡ (0, Some x) ∷ [])
+            × (M.setting x ≡ v.setting) × (M.entries x ≡ v.base) }
         requires holds { (place.old.me.0.role ≡ AsPass) × (place.old.me.0.holds ≡ true) }
         ensures desk { place.new.table_id ≡ place.old.table_id }
-        ensures released { (x : M) → place.old.me.1 ≡ (0, Some x) ∷ [] → place.new.me ≡ (released (M.entries x) place.old.me.0, []) }
+        ensures released { (x : M) → place.old.me.1 ≡ (0, Some x) ∷ []
+            → place.new.me ≡ (released (M.entries x) place.old.me.0, []) }
     {
         self.board.shared.fetch_sub::<Release>(place, 0, 1);
     }

@@ -72,8 +72,12 @@ impl<M: Machine> Desk<M> {
         requires number { number ≡ place.old.me.0.number }
         ensures desk { place.new.table_id ≡ place.old.table_id }
         ensures rests { Rests place.new.me }
-        ensures kept { (place.new.me.0.number ≡ place.old.me.0.number) × (place.new.me.0.setting ≡ place.old.me.0.setting) × (place.new.me.0.looks ≡ place.old.me.0.looks) × (place.new.me.0.tries ≡ place.old.me.0.tries) }
-        ensures ok { IfOk result (λ t. IsTurn M.yields place.old.me.0 place.new.me.0 change t.turn t.outcome) }
+        ensures kept { (place.new.me.0.number ≡ place.old.me.0.number)
+            × (place.new.me.0.setting ≡ place.old.me.0.setting)
+            × (place.new.me.0.looks ≡ place.old.me.0.looks)
+            × (place.new.me.0.tries ≡ place.old.me.0.tries) }
+        ensures ok { IfOk result (λ t. IsTurn M.yields place.old.me.0 place.new.me.0 change t.turn
+            t.outcome) }
         ensures memory { OnErr result (IsRefused place.old.me.0 place.new.me.0) }
     {
         let mut machine = self.take_out(place);
@@ -105,8 +109,10 @@ impl<M: Machine> Desk<M> {
         requires works { (x : M) × Works M.setting M.entries place.old.me x }
         ensures desk { place.new.table_id ≡ place.old.table_id }
         ensures rests { Rests place.new.me }
-        ensures kept { (place.new.me.0.number ≡ place.old.me.0.number) × (place.new.me.0.setting ≡ place.old.me.0.setting) }
-        ensures ok { IfOk result (λ r. IsAnswer M.answers place.old.me.0 place.new.me.0 question.now r.0 r.1) }
+        ensures kept { (place.new.me.0.number ≡ place.old.me.0.number)
+            × (place.new.me.0.setting ≡ place.old.me.0.setting) }
+        ensures ok { IfOk result (λ r. IsAnswer M.answers place.old.me.0 place.new.me.0 question.now
+            r.0 r.1) }
         ensures memory { OnErr result (IsRefused place.old.me.0 place.new.me.0) }
     {
         let machine = self.take_out(place);
