@@ -1,13 +1,15 @@
 -- What was loaded by the names of a file, with what is told of that file before the reports.
-use Rattle.std.proofs.Common.{◌≡◌, List, ◌++◌, map, sym, ap, subst, ◌∙◌}
-use Rattle.std.specs.Prelude.{Result, Ok, Err, IfOk, IfErr, IfSome, ◌||◌}
+use Rattle.std.proofs.Common.{◌≡◌, Bool, true, false, List, ◌++◌, inl, inr, map, sym, ap, subst, ◌∙◌}
+use Rattle.std.specs.Prelude.{Result, Ok, Err, IfOk, IfErr, IfSome, ◌||◌, ◌⊎◌}
 use Rattle.catalogue_core.specs.Catalogues.{CatalogueValue}
 use Rattle.names_file.specs.Named.{Named}
 use Rattle.union_script.specs.Texts.{Contents}
-use Rattle.union_words.specs.Flows.{ShelfFlow, IsCalm}
+use Rattle.union_words.specs.Flows.{ShelfFlow, IsCalm, Outflow, IsNoted}
+use Rattle.union_words.specs.Statuses.{is_early, end_by}
+use Rattle.union_words.specs.Texts.{early_text}
 use Rattle.union_words.specs.Words.{LibraryFile}
 use Rattle.union_words.specs.declared.status.Status.{Status}
-use Rattle.union_words.specs.declared.status.Status.TheVariants.{Memory}
+use Rattle.union_words.specs.declared.status.Status.TheVariants.{WriteFault, Memory}
 use Rattle.union_files.specs.Deliveries.{Delivery, batches_of}
 use Rattle.union_files.specs.Inputs.{AreWithin, Gathers, StopsAt}
 use Rattle.union_files.specs.Interleavings.{IsInterleaving}
@@ -42,3 +44,11 @@ gathers_behind (Ok loaded) names first libraries shelf all_of calm united same r
 )
 gathers_behind (Err status) names first libraries shelf all_of calm united same reports refused memory =
     subst (λ status. StopsAt status libraries shelf) (sym memory) calm
+
+-- what is noted of a run that wrote what it came to and ended early: memory ran out
+pub noted_early : (refused : Bool) (status : Status) (notes : Outflow) → (status ≡ end_by refused) ⊎ ((status ≡ WriteFault) ⊎ (status ≡ Memory))
+    → (status ≡ Memory → IsNoted notes (early_text Memory)) → is_early status ≡ true → IsNoted notes (early_text status)
+noted_early true status notes (inl is) memory early = let clash : false ≡ true = sym (ap is_early is) ∙ early in cc
+noted_early false status notes (inl is) memory early = let clash : false ≡ true = sym (ap is_early is) ∙ early in cc
+noted_early refused status notes (inr (inl is)) memory early = let clash : false ≡ true = sym (ap is_early is) ∙ early in cc
+noted_early refused status notes (inr (inr is)) memory early = subst (λ s. IsNoted notes (early_text s)) (sym is) (memory is)

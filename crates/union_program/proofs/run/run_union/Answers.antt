@@ -33,8 +33,8 @@ pub returns-in-Ok-load_by_names-clause-noted : goal.returns-in-Ok-load_by_names-
 returns-in-Ok-load_by_names-clause-noted g c =
     λ early. loaded_noted (showing_of c.args.shown) c.in-Ok-load_by_names.loaded c.write_shown.result _ _ c.write_shown.ensures early
 
-pub returns-in-Ok-clause-run : goal.returns-in-Ok-clause-run
-returns-in-Ok-clause-run g c =
+pub returns-in-Err-load_by_names-clause-run : goal.returns-in-Err-load_by_names-clause-run
+returns-in-Err-load_by_names-clause-run g c =
     let files = g.F.Shelf.files c.args.shelf.now in
     let loading = loading_meaning c.args.loading.now in
     let before = g.F.Shelf.faults c.args.shelf.now in

@@ -1,5 +1,5 @@
 use Rattle.std.proofs.Common.{◌≡◌, ◌≤◌, ◌++◌, ◌∷◌, [], length, refl, sym, subst}
-use Rattle.std.specs.Prelude.{Err, IfSome}
+use Rattle.std.specs.Prelude.{◌||◌, Err, IfSome}
 use Rattle.names_file.specs.Named.{named_by, IsNamedBy, names_inputs, ReadsNames}
 use Rattle.names_file.proofs.NamesLaws.{names_read}
 use Rattle.union_words.specs.Meanings.{loading_meaning}
@@ -16,6 +16,7 @@ use Rattle.union_watch.specs.Told.{told_of}
 use Rattle.union_commands.specs.Runs.{HasTurned}
 use Rattle.union_commands.proofs.RunLaws.{keeps_all, on_told, stopped_at_names}
 use Rattle.union_commands.proofs.WatchLaws.{asked_run, HasRead}
+use Rattle.union_program.proofs.NamedLaws.{noted_early}
 use Rattle.union_program.proofs.run.run_watch.Goals as goal
 
 pub returns-in-Ok-load_and_answer-clause-run : goal.returns-in-Ok-load_and_answer-clause-run
@@ -92,3 +93,9 @@ returns-in-Ok-clause-run g c =
     rw c.end-in-Err-names_of.ensures.same
     (stopped_at_names (IsWatchOf IsInterleaving watch) status (asks_file watch ∷ []) watch.names watch.libraries files start asked named _ _
     c.in-Ok.ensures.reads.0 first stops (keeps_all (g.O.Sink.written c.args.out.now)))
+
+pub returns-in-Ok-load_and_answer-clause-noted : goal.returns-in-Ok-load_and_answer-clause-noted
+returns-in-Ok-load_and_answer-clause-noted g c =
+    let answered = c.in-Ok-load_and_answer.answered in
+    λ early. noted_early (answered.loaded.refused || answered.refused) c.write_answered.result _ c.write_answered.ensures.kinds
+    (λ is. (c.write_answered.ensures.memory is).1) early
