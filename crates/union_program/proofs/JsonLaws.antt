@@ -1,5 +1,5 @@
 -- A run in JSON that ended early: the line that is noted after it changes nothing of what it says.
-use Rattle.std.proofs.Common.{◌≡◌, ◌≢◌, ℕ, ◌<◌, ◌≤◌, Bool, true, false, IsTrue, List, length, inr, refl, sym, subst, ◌∙◌, arith}
+use Rattle.std.proofs.Common.{◌≡◌, ◌≢◌, ℕ, ◌<◌, ◌≤◌, Bool, true, false, List, length, inr, refl, sym, subst, arith}
 use Rattle.std.specs.Prelude.{Option, Some, IfSome}
 use Rattle.library_batches.specs.Reading.{most_bytes}
 use Rattle.union_words.specs.Flows.{Inflow, HasFailed, Outflow, IsNoted}
