@@ -28,8 +28,8 @@ pub fn load_timed<R: Wait + Clock, S: Source>(
     loading: &mut Loading<S>,
 ) -> Result<Duration, Memory>
     requires few { length loading.old.opened.items ≤ 64 }
-    requires shown { IsShown loading.old.load.catalogue loading.old.load.publisher }
-    requires empty { loading.old.load.catalogue ≡ [] }
+    requires shown { IsShown loading.old.load.catalogue.history loading.old.load.publisher }
+    requires empty { loading.old.load.catalogue.history ≡ [] }
     ensures { loading.new.load.publisher.book ≡ loading.old.load.publisher.book }
 {
     let start = Instant::now(rt);

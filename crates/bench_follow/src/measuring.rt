@@ -37,8 +37,8 @@ fn load_beside<R: Threads + Wait + Sync + Clock, S: Source + Send>(
     asking: &mut Asking,
 ) -> (Result<(), Memory>, Result<Duration, Memory>)
     requires few { length loading.old.opened.items ≤ 64 }
-    requires shown { IsShown loading.old.load.catalogue loading.old.load.publisher }
-    requires empty { loading.old.load.catalogue ≡ [] }
+    requires shown { IsShown loading.old.load.catalogue.history loading.old.load.publisher }
+    requires empty { loading.old.load.catalogue.history ≡ [] }
     ensures publisher { loading.new.load.publisher.book ≡ loading.old.load.publisher.book }
     ensures viewer { asking.new.viewer.book ≡ asking.old.viewer.book }
 {
@@ -58,8 +58,8 @@ fn timed<R: Threads + Wait + Sync + Clock, S: Source + Send>(
     asking: &mut Asking,
 ) -> Result<Duration, Memory>
     requires few { length loading.old.opened.items ≤ 64 }
-    requires shown { IsShown loading.old.load.catalogue loading.old.load.publisher }
-    requires empty { loading.old.load.catalogue ≡ [] }
+    requires shown { IsShown loading.old.load.catalogue.history loading.old.load.publisher }
+    requires empty { loading.old.load.catalogue.history ≡ [] }
     ensures publisher { loading.new.load.publisher.book ≡ loading.old.load.publisher.book }
     ensures viewer { asking.new.viewer.book ≡ asking.old.viewer.book }
 {
