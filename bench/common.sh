@@ -59,3 +59,15 @@ make_night() {
         echo "load L$number $file" >>"$work/later"
     done
 }
+
+# The files of that many libraries, with that many records in all and no updates, in the folder libraries; and the words that load them,
+# L1=FILE L2=FILE .., as `words`.
+make_libraries() {
+    python3 "$maker" 1 "$1" "$2" "$work/libraries" --no-updates >"$work/notes"
+    words=
+    number=0
+    for file in "$work"/libraries/*.mrc; do
+        number=$((number + 1))
+        words="$words L$number=$file"
+    done
+}

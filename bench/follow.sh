@@ -15,15 +15,8 @@ records=${1:-100000}
 libraries=${2:-8}
 need_union
 union=$program
-(cd "$top/crates/bench_follow" && rt run </dev/null >/dev/null 2>&1)
 PROGRAM='' need_bench bench_follow
-python3 "$maker" 1 "$libraries" "$records" "$work/libraries" --no-updates >"$work/notes"
-number=0
-set --
-for file in "$work"/libraries/*.mrc; do
-    number=$((number + 1))
-    set -- "$@" "L$number=$file"
-done
+make_libraries "$libraries" "$records"
 
 # The median of the loads in the file: microseconds, turns, answers, microseconds of its slowest answer, kilobytes of memory, and the
 # microseconds of the slowest answer of all.
@@ -34,7 +27,7 @@ median() {
 
 for round in 1 2 3 4 5 6 7; do
     for kind in alone beside; do
-        memory=$(spent "$program" "$kind" "$@" | awk '{ print $4 }')
+        memory=$(spent "$program" "$kind" $words | awk '{ print $4 }')
         echo "$(cat "$work/out") $memory" >>"$work/$kind"
     done
 done
@@ -45,5 +38,5 @@ echo "$(median "$work/alone") $(median "$work/beside")" | awk '{
 }'
 echo count >"$work/asks"
 for command in "follow --ask=$work/asks" "watch --ask=$work/asks --workers=1"; do
-    spent "$union" $command "$@" | awk -v name="${command%% *}" '{ printf "%s: %.2f s, %d MB\n", name, $1, $4 / 1024 }'
+    spent "$union" $command $words | awk -v name="${command%% *}" '{ printf "%s: %.2f s, %d MB\n", name, $1, $4 / 1024 }'
 done

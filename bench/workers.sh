@@ -40,11 +40,6 @@ by_workers() {
 }
 
 by_workers "trial of $records" "$program" trial 1 "$records" @
-python3 "$maker" 1 "$libraries" "$records" "$work/libraries" --no-updates >"$work/notes"
-number=0
-set --
-for file in "$work"/libraries/*.mrc; do
-    number=$((number + 1))
-    set -- "$@" "L$number=$file"
-done
-by_workers "export of $libraries libraries" "$program" export --workers=@ "$@"
+make_libraries "$libraries" "$records"
+# shellcheck disable=SC2086
+by_workers "export of $libraries libraries" "$program" export --workers=@ $words
