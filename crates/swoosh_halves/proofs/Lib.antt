@@ -1,3 +1,4 @@
+mod Noting
 mod Parting
 mod Joining
 mod Indexing

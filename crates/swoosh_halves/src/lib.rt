@@ -2,11 +2,12 @@
 //! halves are resolved together.
 //!
 //! Guarantee: the answer is a resolution of the list, and so, up to its order, that of the plain resolver, whatever the number
-//! of workers. Cost: at most one thread a worker. A worker makes the keys of its values twice, looks each of them up three times
-//! at most, and makes match tests only among the values that share a key with another one of its list, which it inserts one by
-//! one into an index of their own: each is tested only against those that are posted under a key that it seeks. So does the
-//! resolution of the blocks of both halves, which one thread does. Values are moved and never copied. The definitions are in
-//! specs/Resolution.antt of merge_laws, and in specs/Strangers.antt.
+//! of workers. Cost: at most one thread a worker. A worker makes the keys of its values once, looks each of them up once, and
+//! makes match tests only among the values that share a key with another one of its list. Those are halved down to a few, which
+//! are tested against one another, and the blocks of two halves come together by an index: each is tested only against those
+//! that are posted under a key that it seeks. The blocks of both halves of a list that two threads resolved come together in the
+//! same way, in one thread. Values are moved and never copied. The definitions are in specs/Resolution.antt of merge_laws, and in
+//! specs/Strangers.antt.
 #![tactic(auto)]
 
 pub mod halves;

@@ -1,89 +1,104 @@
 //! Values that share no key with another.
 //!
 //! Guarantee: no two of the strangers match, and none of them has a key of one of the others, since values that match have a key in
-//! common. Cost: the keys of each value are made twice, and each is looked up three times at most; values are moved and never
-//! copied.
-ghost use Rattle.std.specs.Prelude.{◌≡◌, ◌++◌, true, not, IfOk, OnOk, Contains};
-ghost use Rattle.std.specs.List.{list_all};
-ghost use Rattle.indexmap.specs.IndexSet.{contains};
+//! common. Cost: the keys of each value are made once, and each is looked up once; values are moved and never copied.
+ghost use Rattle.std.specs.Prelude.{◌≡◌, ℕ, ◌<◌, ◌++◌, Some, length, IfOk, OnOk, Contains};
+ghost use Rattle.indexmap.specs.IndexMap.{get};
 ghost use Rattle.merge_laws.specs.Resolution.{AreApart};
-ghost use Rattle.swoosh_halves.specs.Strangers.{AreShared, ShareNoKey};
+ghost use Rattle.swoosh_halves.specs.Strangers.{ArePlaces, AreFlagged, IsNoted, ShareNoKey};
 
-use indexmap::IndexSet;
+use indexmap::IndexMap;
 use merge_laws::resolvable::Resolvable;
 use std::alloc::Global;
 use std::hash::Hash;
 use union_base::memory::Memory;
 
-/// Adds the key to those seen, or to those shared where it was seen before. Returns `Memory` if allocation fails.
-fn see<K: Eq + Hash + Drop>(
-    seen: &mut IndexSet<K>,
-    shared: &mut IndexSet<K>,
+/// The place that stands under the key. Where none did before, that is the given one. Returns `Memory` if allocation fails.
+fn first_place<K: Eq + Hash + Drop>(
+    firsts: &mut IndexMap<K, usize>,
     key: K,
-) -> Result<(), Memory>
-    ensures seen { OnOk result ((k : K) → contains K.eq seen.old k ≡ true
-        → contains K.eq seen.new k ≡ true) }
-    ensures shared { OnOk result ((k : K) → contains K.eq shared.old k ≡ true
-        → contains K.eq shared.new k ≡ true) }
-    ensures added { OnOk result (contains K.eq seen.new key ≡ true) }
-    ensures again { OnOk result (contains K.eq seen.old key ≡ true
-        → contains K.eq shared.new key ≡ true) }
+    place: usize,
+) -> Result<usize, Memory>
+    ensures there { IfOk result (λ first. get K.eq firsts.new key ≡ Some first) }
+    ensures kept { OnOk result ((k : K) (i : ℕ) → get K.eq firsts.old k ≡ Some i
+        → get K.eq firsts.new k ≡ Some i) }
+    ensures places { OnOk result ((n : ℕ) → place < n → ArePlaces (get K.eq firsts.old) n
+        → ArePlaces (get K.eq firsts.new) n) }
 {
-    if seen.contains(&key) {
-        shared.insert(key)?;
-    } else {
-        seen.insert(key)?;
+    Ok(*firsts.entry(key)?.or_insert(place))
+}
+
+/// Notes that the value at the place has the key: where another had it first, both are flagged. Returns `Memory` if allocation
+/// fails.
+fn note<K: Eq + Hash + Drop>(
+    firsts: &mut IndexMap<K, usize>,
+    flags: &mut [bool],
+    key: K,
+    place: usize,
+) -> Result<(), Memory>
+    requires place { place < length flags.old }
+    requires places { ArePlaces (get K.eq firsts.old) (length flags.old) }
+    ensures places { OnOk result (ArePlaces (get K.eq firsts.new) (length flags.new)) }
+    ensures kept { OnOk result ((i : ℕ) (k : K) → IsNoted (get K.eq firsts.old) flags.old i k
+        → IsNoted (get K.eq firsts.new) flags.new i k) }
+    ensures noted { OnOk result (IsNoted (get K.eq firsts.new) flags.new place key) }
+{
+    let first = first_place(firsts, key, place)?;
+    if first != place {
+        flags[first] = true;
+        flags[place] = true;
     }
     Ok(())
 }
 
-/// Adds the keys of one more value to those seen, and to those shared where they were seen before. Returns `Memory` if allocation fails.
-fn see_all<K: Eq + Hash + Drop>(
-    seen: &mut IndexSet<K>,
-    shared: &mut IndexSet<K>,
+/// Notes that the value at the place has the keys. Returns `Memory` if allocation fails.
+fn note_all<K: Eq + Hash + Drop>(
+    firsts: &mut IndexMap<K, usize>,
+    flags: &mut [bool],
     keys: Vec<K>,
+    place: usize,
 ) -> Result<(), Memory>
-    ensures seen { OnOk result ((k : K) → contains K.eq seen.old k ≡ true
-        → contains K.eq seen.new k ≡ true) }
-    ensures shared { OnOk result ((k : K) → contains K.eq shared.old k ≡ true
-        → contains K.eq shared.new k ≡ true) }
-    ensures added { OnOk result ((k : K) → Contains keys.items k
-        → contains K.eq seen.new k ≡ true) }
-    ensures again { OnOk result ((k : K) → Contains keys.items k → contains K.eq seen.old k ≡ true
-        → contains K.eq shared.new k ≡ true) }
+    requires place { place < length flags.old }
+    requires places { ArePlaces (get K.eq firsts.old) (length flags.old) }
+    ensures places { OnOk result (ArePlaces (get K.eq firsts.new) (length flags.new)) }
+    ensures kept { OnOk result ((i : ℕ) (k : K) → IsNoted (get K.eq firsts.old) flags.old i k
+        → IsNoted (get K.eq firsts.new) flags.new i k) }
+    ensures noted { OnOk result ((k : K) → Contains keys.items k
+        → IsNoted (get K.eq firsts.new) flags.new place k) }
 {
     for key in keys {
-        see(seen, shared, key)?;
+        note(firsts, flags, key, place)?;
     }
     Ok(())
 }
 
-/// The keys that values at two places of the list have, and perhaps others. Returns `Memory` if allocation fails.
-fn shared_keys<R: Resolvable>(alloc: Global, list: &[R]) -> Result<IndexSet<R::Key>, Memory>
-    ensures { IfOk result (λ shared. AreShared R.has_key (contains R.Key.eq shared) list.now) }
+/// A flag for each value of the list, which is set where a value at another place has one of its keys, and perhaps elsewhere.
+/// Returns `Memory` if allocation fails.
+fn key_flags<R: Resolvable>(alloc: Global, list: &[R]) -> Result<Vec<bool>, Memory>
+    ensures length { IfOk result (λ flags. length flags.items ≡ length list.now) }
+    ensures flagged { IfOk result (λ flags. AreFlagged R.has_key flags.items list.now) }
 {
-    let mut seen = IndexSet::new(alloc);
-    let mut shared = IndexSet::new(alloc);
-    for value in list {
-        see_all(&mut seen, &mut shared, value.index_keys(alloc)?)?;
+    let mut firsts = IndexMap::with_capacity(alloc, list.len())?;
+    let mut flags = vec![in alloc; false; list.len()]?;
+    for (place, value) in list.iter().enumerate() {
+        note_all(
+            &mut firsts,
+            flags.as_mut_slice(),
+            value.index_keys(alloc)?,
+            place,
+        )?;
     }
-    Ok(shared)
+    Ok(flags)
 }
 
-/// Whether none of the keys is shared. Takes no memory.
-fn are_unshared<K: Eq + Hash + Drop>(shared: &IndexSet<K>, keys: &[K]) -> bool
-    ensures { result ≡ list_all (λ k. not (contains K.eq shared.now k)) keys.now }
-{
-    keys.iter().all(|key| !shared.contains(key))
-}
-
-/// The values of the list in two lists: strangers, of whose keys none is shared, and the others. Returns `Memory` if allocation fails.
+/// The values of the list in two lists: strangers, which are not flagged, and the others. Returns `Memory` if allocation fails.
 fn parted<R: Resolvable>(
     alloc: Global,
     list: Vec<R>,
-    shared: &IndexSet<R::Key>,
+    flags: &[bool],
 ) -> Result<(Vec<R>, Vec<R>), Memory>
-    requires { AreShared R.has_key (contains R.Key.eq shared.now) list.items }
+    requires length { length flags.now ≡ length list.items }
+    requires flagged { AreFlagged R.has_key flags.now list.items }
     ensures strangers { IfOk result (λ parted. AreApart R.meets parted.0.items) }
     ensures apart { IfOk result (λ parted. (x y : R) → Contains parted.0.items x
         → Contains parted.1.items y
@@ -94,14 +109,15 @@ fn parted<R: Resolvable>(
         → Contains list.items x) }
 {
     let mut strangers = Vec::with_capacity(alloc, list.len())?;
-    let mut others = Vec::new(alloc);
+    let mut others = Vec::with_capacity(alloc, flags.iter().filter(|flag| **flag).count())?;
+    let mut place = 0;
     for value in list {
-        let keys = value.index_keys(alloc)?;
-        if are_unshared(shared, keys.as_slice()) {
-            strangers.push(value)?;
-        } else {
+        if flags[place] {
             others.push(value)?;
+        } else {
+            strangers.push(value)?;
         }
+        place += 1;
     }
     Ok((strangers, others))
 }
@@ -120,6 +136,6 @@ pub(crate) fn parted_by_keys<R: Resolvable>(list: Vec<R>) -> Result<(Vec<R>, Vec
         → Contains list.items x) }
 {
     let alloc = *list.allocator();
-    let shared = shared_keys(alloc, list.as_slice())?;
-    parted(alloc, list, &shared)
+    let flags = key_flags(alloc, list.as_slice())?;
+    parted(alloc, list, flags.as_slice())
 }
