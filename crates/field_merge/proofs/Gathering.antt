@@ -4,8 +4,9 @@ use Rattle.std.specs.Prelude.{find, filter, count_by, Contains, IfSome, IsSome, 
 use Rattle.std.specs.List.{list_all}
 use Rattle.std.specs.declared.option.Option.{Option}
 use Rattle.std.specs.declared.option.Option.TheVariants.{Some, None}
-use Rattle.std.specs.Option.{option_or, option_map, unwrap_or}
+use Rattle.std.specs.Option.{option_map, unwrap_or}
 use Rattle.std.proofs.lemmas.Bool.Decides.{nat_tests}
+use Rattle.std.proofs.lemmas.List.{append-nil}
 use Rattle.std.proofs.lemmas.List.Elements.{filter-append}
 use Rattle.std.proofs.lemmas.List.Sums.{sum_by-cons}
 use Rattle.union_base.specs.Both.{both_true}
@@ -13,27 +14,31 @@ use Rattle.union_base.specs.declared.field.Field.{Field}
 use Rattle.marc_fields.specs.declared.marc_record.Record.{Record}
 use Rattle.marc_parts.specs.Parts.{has_tag, first_under, how_many}
 use Rattle.marc_parts.specs.Loads.{is_utf8_field, is_load_status, is_numbered, is_described, is_loadable}
-use Rattle.field_merge.specs.Contents.{is_united, slot, untitled}
-use Rattle.field_merge.specs.Parts.{ArePartsOf}
+use Rattle.field_merge.specs.Contents.{is_main_entry, is_united, slot, untitled}
+use Rattle.field_merge.specs.Parts.{IsPart, filled, IsPut, ArePartsOf}
 use Rattle.field_merge.proofs.Members.{member-find}
 use Rattle.field_merge.specs.declared.rank.Rank.{Rank}
 use Rattle.field_merge.specs.declared.slot.Slot.{Slot}
+use Rattle.field_merge.specs.declared.parts.Part.{Part}
 use Rattle.field_merge.specs.declared.parts.SlotFields.{SlotFields}
 
-module _ {X Y : Type 0} (p : X → Bool) (g : X → Y) where
-  moved : (b : Bool) (x : X) → cond b (Some (g x)) None ≡ option_map g (cond b (Some x) None)
-  moved true x = refl
-  moved false x = refl
-
+module _ {X : Type 0} (p : X → Bool) (g : X → Slot) where
   -- the first that passes, among the values and one more
-  pub first-more : (xs : List X) (x : X) → option_or (option_map g (find p xs)) (cond (p x) (Some (g x)) None) ≡ option_map g (find p (xs ++ x ∷ []))
-  first-more [] x = moved (p x) x
-  first-more (y ∷ ys) x = by (p y) (first-more ys x)
-    where
-      by : (b : Bool) → option_or (option_map g (find p ys)) (cond (p x) (Some (g x)) None) ≡ option_map g (find p (ys ++ x ∷ []))
-          → option_or (option_map g (cond b (Some y) (find p ys))) (cond (p x) (Some (g x)) None) ≡ option_map g (cond b (Some y) (find p (ys ++ x ∷ [])))
-      by true rest = refl
-      by false rest = rest
+  pub first-more : (xs : List X) (x : X) → filled (p x) (option_map g (find p xs)) (g x) ≡ option_map g (find p (xs ++ x ∷ []))
+  first-more [] x = elim (p x) as (λ b. filled b None (g x) ≡ option_map g (cond b (Some x) None)) [ true ↦ refl | false ↦ refl ]
+  first-more (y ∷ ys) x =
+      elim (p y) as (λ b. filled (p x) (option_map g (cond b (Some y) (find p ys))) (g x) ≡ option_map g (cond b (Some y) (find p (ys ++ x ∷ [])))) [
+        | true ↦ elim (p x) as (λ b. filled b (Some (g y)) (g x) ≡ Some (g y)) [ true ↦ refl | false ↦ refl ]
+        | false ↦ first-more ys x
+      ]
+
+-- those that pass, among the values and one more
+passed-more : {X : Type 0} (p : X → Bool) (xs : List X) (x : X) → cond (p x) (filter p xs ++ x ∷ []) (filter p xs) ≡ filter p (xs ++ x ∷ [])
+passed-more {X} p xs x =
+    elim (p x) as (λ b. cond b (filter p xs ++ x ∷ []) (filter p xs) ≡ filter p xs ++ cond b (x ∷ []) []) [
+      | true ↦ refl
+      | false ↦ sym (append-nil (filter p xs))
+    ] ∙ sym (filter-append p xs (x ∷ []))
 
 -- where one value passes there is a first one
 pub first-from_count : {X : Type 0} (p : X → Bool) (xs : List X) → count_by p xs ≡ 1 → (x : X) × (find p xs ≡ Some x)
@@ -45,18 +50,26 @@ first-from_count {X} p (y ∷ ys) e =
       | false ↦ λ h. first-from_count p ys (omega arith)
     ] total
 
--- a slot after one field more
-pub slot-more : (k : Rank) (p : Field → Bool) (fields : List Field) (field : Field) (before after : Option Slot) (fits : Bool)
-    → before ≡ option_map (slot k) (find p fields) → fits ≡ p field → after ≡ option_or before (cond fits (Some (slot k field)) None)
-    → after ≡ option_map (slot k) (find p (fields ++ field ∷ []))
-slot-more k p fields field before after fits was test now =
-    now ∙ (λ i. option_or (was i) (cond (test i) (Some (slot k field)) None)) ∙ first-more p (slot k) fields field
+-- the parts after one field more
+module _ (k : Rank) (part : Part) (fields : List Field) (field : Field) where
+  slot-more : (p : Field → Bool) (before after : Option Slot) (fits : Bool) → p field ≡ fits
+      → before ≡ option_map (slot k) (find p fields) → after ≡ filled fits before (slot k field)
+      → after ≡ option_map (slot k) (find p (fields ++ field ∷ []))
+  slot-more p before after fits test was now =
+      now ∙ (λ i. filled (sym test i) (was i) (slot k field)) ∙ first-more p (slot k) fields field
 
--- the united fields after one field more
-pub united-more : (fields : List Field) (field : Field) (before after : List Field) → before ≡ filter is_united fields
-    → after ≡ before ++ filter is_united (field ∷ []) → after ≡ filter is_united (fields ++ field ∷ [])
-united-more fields field before after was now =
-    now ∙ ap (λ t. t ++ filter is_united (field ∷ [])) was ∙ sym (filter-append is_united fields (field ∷ []))
+  pub parts-more : (before after : SlotFields) → IsPart field part → ArePartsOf k fields before → IsPut k part field before after
+      → ArePartsOf k (fields ++ field ∷ []) after
+  parts-more before after is was now = record {
+    f005 = slot-more (has_tag (codes "005")) _ _ _ is.stamp was.f005 now.f005;
+    f010 = slot-more (has_tag (codes "010")) _ _ _ is.number was.f010 now.f010;
+    f040 = slot-more (has_tag (codes "040")) _ _ _ is.source was.f040 now.f040;
+    f1xx = slot-more is_main_entry _ _ _ is.main_entry was.f1xx now.f1xx;
+    f240 = slot-more (has_tag (codes "240")) _ _ _ is.uniform_title was.f240 now.f240;
+    f245 = slot-more (has_tag (codes "245")) _ _ _ is.title was.f245 now.f245;
+    united =
+        now.united ∙ (λ i. cond (sym is.united i) (was.united i ++ field ∷ []) (was.united i)) ∙ passed-more is_united fields field;
+  }
 
 -- a record that can be loaded has a title
 pub title-from_loadable : (r : Record) → IsTrue (is_loadable r) → (x : Field) × (first_under (codes "245") r.fields ≡ Some x)

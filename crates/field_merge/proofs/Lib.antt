@@ -3,3 +3,4 @@ pub mod Gathering
 pub mod Members
 pub mod LevelLaws
 pub mod GreaterParts
+pub mod TagBytes

@@ -6,8 +6,8 @@
 //!
 //! Guarantee: `making::content_of` answers the content that specs/Contents.antt defines, merging is the one of
 //! specs/Merging.antt and keeps the laws of `Join`, and the functions of `laws` say where the parts of a merge come from.
-//! Cost: a record's fields are walked once and each is copied at most once, the united fields are sorted once, and a merge
-//! walks both sides once.
+//! Cost: a record's fields are walked once and none is copied, the united fields are sorted once, and a merge walks both sides
+//! once.
 #![tactic(auto)]
 
 pub mod content;

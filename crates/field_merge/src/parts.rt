@@ -1,18 +1,40 @@
-//! The parts of a record that make its content, gathered in one walk over its fields: the united ones are moved, and those of a
-//! slot copied.
-ghost use Rattle.std.specs.Prelude.{◌≡◌, List, [], ◌∷◌, ◌++◌, IfOk, OnOk, Some, None, if◌then◌else◌, filter};
+//! The parts of a record that make its content, gathered in one walk over its fields. The tag of each field is looked at once;
+//! then the field is moved to the part that it is for, or dropped.
+//!
+//! Cost: no field is copied. The walk takes one block of memory, for the united fields, and the rank gains an owner for each slot
+//! that is filled.
+ghost use Rattle.std.specs.Prelude.{◌≡◌, List, [], ◌∷◌, ◌++◌, IfOk, OnOk, Some};
 ghost use Rattle.std.specs.Option.{option_or};
 ghost use Rattle.union_base.specs.declared.field.Field.{Field};
-ghost use Rattle.field_merge.specs.Contents.{is_main_entry, has_slot, is_made_anew, is_united, slot};
-ghost use Rattle.field_merge.specs.Parts.{ArePartsOf};
+ghost use Rattle.field_merge.specs.Contents.{is_main_entry, is_united, slot};
+ghost use Rattle.field_merge.specs.Parts.{IsPart, IsPut, ArePartsOf};
 
 use crate::rank::Rank;
 use crate::slot::Slot;
-use marc_parts::parts::has_tag;
 use std::alloc::Global;
-use union_base::copied::Copied;
 use union_base::field::Field;
 use union_base::memory::Memory;
+
+/// The part of a content that a field is for: one of its slots, or its united fields.
+#[derive(Clone, Copy)]
+enum Part {
+    /// 005.
+    Stamp,
+    /// 010.
+    Number,
+    /// 040.
+    Source,
+    /// 100, 110, 111 or 130.
+    MainEntry,
+    /// 240.
+    UniformTitle,
+    /// 245.
+    Title,
+    /// None: an edition has the field anew, or has it in its fixed part.
+    MadeAnew,
+    /// All other fields.
+    United,
+}
 
 /// Of the fields seen so far, the first one of each slot, and all united ones in their order.
 #[derive(Drop)]
@@ -40,54 +62,46 @@ pub fn parts_of(alloc: Global, rank: &Rank, fields: Vec<Field>) -> Result<SlotFi
         united: Vec::with_capacity(alloc, fields.len())?,
     };
     for field in fields {
-        parts.add(alloc, rank, field)?;
+        parts.add(rank, field)?;
     }
     Ok(parts)
 }
 
 impl SlotFields {
     /// One field more was seen. Returns `Memory` if allocation fails.
-    fn add(&mut self, alloc: Global, rank: &Rank, field: Field) -> Result<(), Memory>
+    fn add(&mut self, rank: &Rank, field: Field) -> Result<(), Memory>
         ensures { OnOk result ((fields : List Field) → ArePartsOf rank.now fields self.old
             → ArePartsOf rank.now (fields ++ field ∷ []) self.new) }
     {
-        fill(alloc, &mut self.f005, has_tag(b"005", &field), rank, &field)?;
-        fill(alloc, &mut self.f010, has_tag(b"010", &field), rank, &field)?;
-        fill(alloc, &mut self.f040, has_tag(b"040", &field), rank, &field)?;
-        fill(alloc, &mut self.f1xx, is_main_entry(&field), rank, &field)?;
-        fill(alloc, &mut self.f240, has_tag(b"240", &field), rank, &field)?;
-        fill(alloc, &mut self.f245, has_tag(b"245", &field), rank, &field)?;
-        push_united(&mut self.united, field)?;
-        Ok(())
+        self.put(part_of(&field), rank, field)
+    }
+
+    /// Moves the field to its part, and drops it where its slot is full or where it has no part.
+    fn put(&mut self, part: Part, rank: &Rank, field: Field) -> Result<(), Memory>
+        ensures { OnOk result (IsPut rank.now part field self.old self.new) }
+    {
+        match part {
+            Part::Stamp => fill(&mut self.f005, rank, field),
+            Part::Number => fill(&mut self.f010, rank, field),
+            Part::Source => fill(&mut self.f040, rank, field),
+            Part::MainEntry => fill(&mut self.f1xx, rank, field),
+            Part::UniformTitle => fill(&mut self.f240, rank, field),
+            Part::Title => fill(&mut self.f245, rank, field),
+            Part::MadeAnew => Ok(()),
+            Part::United => Ok(self.united.push(field)?),
+        }
     }
 }
 
-/// Puts a copy of the field into the slot, where the slot is empty and the field is one for it.
-fn fill(
-    alloc: Global,
-    place: &mut Option<Slot>,
-    fits: bool,
-    rank: &Rank,
-    field: &Field,
-) -> Result<(), Memory>
-    ensures { OnOk result (place.new ≡ option_or place.old
-        (if fits then Some (slot rank.now field.now) else None)) }
+/// Moves the field into the slot where the slot is empty, and drops it where it is full.
+fn fill(place: &mut Option<Slot>, rank: &Rank, field: Field) -> Result<(), Memory>
+    ensures { OnOk result (place.new ≡ option_or place.old (Some (slot rank.now field))) }
 {
-    if fits && place.is_none() {
+    if place.is_none() {
         *place = Some(Slot {
-            rank: rank.copied(alloc)?,
-            field: field.copied(alloc)?,
+            rank: rank.shared()?,
+            field,
         });
-    }
-    Ok(())
-}
-
-/// Pushes the field where it is a united one.
-fn push_united(united: &mut Vec<Field>, field: Field) -> Result<(), Memory>
-    ensures { OnOk result (united.new.items ≡ united.old.items ++ filter is_united (field ∷ [])) }
-{
-    if is_united(&field) {
-        united.push(field)?;
     }
     Ok(())
 }
@@ -96,29 +110,43 @@ fn push_united(united: &mut Vec<Field>, field: Field) -> Result<(), Memory>
 pub fn is_main_entry(field: &Field) -> bool
     ensures { result ≡ is_main_entry field.now }
 {
-    (has_tag(b"100", field) || has_tag(b"110", field))
-        || (has_tag(b"111", field) || has_tag(b"130", field))
+    matches!(part_of(field), Part::MainEntry)
 }
 
 /// Whether an edition unites the field with those of its other records. Takes no memory.
 pub fn is_united(field: &Field) -> bool
     ensures { result ≡ is_united field.now }
 {
-    !(has_slot(field) || is_made_anew(field))
+    matches!(part_of(field), Part::United)
 }
 
-/// Whether the field is one of which an edition shows one.
-fn has_slot(field: &Field) -> bool
-    ensures { result ≡ has_slot field.now }
+/// The part that the field is for. Most tags begin with `5` to `8`, and of these the first byte alone is looked at.
+#[tactic(auto, using(crate::proofs::TagBytes::tag_tests))]
+fn part_of(field: &Field) -> Part
+    ensures { IsPart field.now result }
 {
-    (has_tag(b"005", field) || (has_tag(b"010", field) || has_tag(b"040", field)))
-        || (is_main_entry(field) || (has_tag(b"240", field) || has_tag(b"245", field)))
-}
-
-/// Whether the field is one that an edition has anew, or has in its fixed part.
-fn is_made_anew(field: &Field) -> bool
-    ensures { result ≡ is_made_anew field.now }
-{
-    (has_tag(b"001", field) || has_tag(b"003", field))
-        || (has_tag(b"008", field) || (has_tag(b"991", field) || has_tag(b"993", field)))
+    let [first, second, third] = field.tag;
+    match first {
+        b'0' => match (second, third) {
+            (b'0', b'5') => Part::Stamp,
+            (b'1', b'0') => Part::Number,
+            (b'4', b'0') => Part::Source,
+            (b'0', b'1' | b'3' | b'8') => Part::MadeAnew,
+            _ => Part::United,
+        },
+        b'1' => match (second, third) {
+            (b'0' | b'1' | b'3', b'0') | (b'1', b'1') => Part::MainEntry,
+            _ => Part::United,
+        },
+        b'2' => match (second, third) {
+            (b'4', b'0') => Part::UniformTitle,
+            (b'4', b'5') => Part::Title,
+            _ => Part::United,
+        },
+        b'9' => match (second, third) {
+            (b'9', b'1' | b'3') => Part::MadeAnew,
+            _ => Part::United,
+        },
+        _ => Part::United,
+    }
 }
