@@ -61,7 +61,8 @@ pub(crate) fn gathered(
 }
 
 impl Findings {
-    /// Takes what one more field gives.
+    /// Takes what one more field gives, by its tag: numbers (010, 035), ISBNs (020), ISSNs (022), a name (100, 110, 111) or a
+    /// title (245).
     fn take(&mut self, alloc: Global, field: &Field) -> Result<(), Memory>
         requires { HasTexts field.now }
         ensures control { OnOk result (self.new.control.items ≡ self.old.control.items
@@ -75,31 +76,24 @@ impl Findings {
         ensures names { OnOk result (self.new.names.items ≡ self.old.names.items
             ++ name_in field.now) }
     {
-        push_numbers(alloc, &mut self.control, field)?;
-        push_isbns(&mut self.isbns, field)?;
-        push_issns(&mut self.issns, field)?;
-        push_title(alloc, &mut self.titles, field)?;
-        push_name(alloc, &mut self.names, field)
+        let subfields = field.body.subfields();
+        match field.tag {
+            [b'0', b'1', b'0'] => push_lccns(alloc, &mut self.control, subfields),
+            [b'0', b'3', b'5'] => push_system_numbers(alloc, &mut self.control, subfields),
+            [b'0', b'2', b'0'] => push_isbns(&mut self.isbns, subfields),
+            [b'0', b'2', b'2'] => push_issns(&mut self.issns, subfields),
+            [b'1', b'0', b'0'] | [b'1', b'1', b'0'] | [b'1', b'1', b'1'] => {
+                push_where_not_empty(&mut self.names, name_of(alloc, field)?)
+            }
+            [b'2', b'4', b'5'] => {
+                push_where_not_empty(&mut self.titles, title245_of(alloc, field)?)
+            }
+            _ => Ok(()),
+        }
     }
 }
 
-/// The LCCN of each 010 $a, and the system number of each 035 $a.
-fn push_numbers(
-    alloc: Global,
-    control: &mut Vec<(Bytes, Bytes)>,
-    field: &Field,
-) -> Result<(), Memory>
-    ensures { OnOk result (control.new.items ≡ control.old.items ++ numbers_in field.now) }
-{
-    if has_tag(b"010", field) {
-        push_lccns(alloc, control, field.body.subfields())?;
-    }
-    if has_tag(b"035", field) {
-        push_system_numbers(alloc, control, field.body.subfields())?;
-    }
-    Ok(())
-}
-
+/// The LCCN of each $a of a field 010.
 fn push_lccns(
     alloc: Global,
     control: &mut Vec<(Bytes, Bytes)>,
@@ -131,6 +125,7 @@ fn push_lccn(
     Ok(())
 }
 
+/// The system number of each $a of a field 035.
 fn push_system_numbers(
     alloc: Global,
     control: &mut Vec<(Bytes, Bytes)>,
@@ -162,16 +157,7 @@ fn push_system_number(
 }
 
 /// Each 020 $a that is an ISBN.
-fn push_isbns(isbns: &mut Vec<[u8; 13]>, field: &Field) -> Result<(), Memory>
-    ensures { OnOk result (isbns.new.items ≡ isbns.old.items ++ isbns_in field.now) }
-{
-    if has_tag(b"020", field) {
-        push_isbns_of(isbns, field.body.subfields())?;
-    }
-    Ok(())
-}
-
-fn push_isbns_of(isbns: &mut Vec<[u8; 13]>, subfields: Subfields<'_>) -> Result<(), Memory>
+fn push_isbns(isbns: &mut Vec<[u8; 13]>, subfields: Subfields<'_>) -> Result<(), Memory>
     ensures { OnOk result (isbns.new.items ≡ isbns.old.items ++ flat_map isbn_in subfields.entry) }
 {
     for subfield in subfields {
@@ -193,16 +179,7 @@ fn push_isbn(isbns: &mut Vec<[u8; 13]>, subfield: &Subfield<'_>) -> Result<(), M
 }
 
 /// Each 022 $a that is an ISSN.
-fn push_issns(issns: &mut Vec<[u8; 8]>, field: &Field) -> Result<(), Memory>
-    ensures { OnOk result (issns.new.items ≡ issns.old.items ++ issns_in field.now) }
-{
-    if has_tag(b"022", field) {
-        push_issns_of(issns, field.body.subfields())?;
-    }
-    Ok(())
-}
-
-fn push_issns_of(issns: &mut Vec<[u8; 8]>, subfields: Subfields<'_>) -> Result<(), Memory>
+fn push_issns(issns: &mut Vec<[u8; 8]>, subfields: Subfields<'_>) -> Result<(), Memory>
     ensures { OnOk result (issns.new.items ≡ issns.old.items ++ flat_map issn_in subfields.entry) }
 {
     for subfield in subfields {
@@ -221,35 +198,6 @@ fn push_issn(issns: &mut Vec<[u8; 8]>, subfield: &Subfield<'_>) -> Result<(), Me
         issns.push(key)?;
     }
     Ok(())
-}
-
-/// The title of the 245, where it is not empty.
-fn push_title(alloc: Global, titles: &mut Vec<Bytes>, field: &Field) -> Result<(), Memory>
-    requires { HasTexts field.now }
-    ensures { OnOk result (titles.new.items ≡ titles.old.items ++ title_in field.now) }
-{
-    if has_tag(b"245", field) {
-        push_where_not_empty(titles, title245_of(alloc, field)?)?;
-    }
-    Ok(())
-}
-
-/// The heading of the 100, 110 or 111, where it is not empty.
-fn push_name(alloc: Global, names: &mut Vec<Bytes>, field: &Field) -> Result<(), Memory>
-    requires { HasTexts field.now }
-    ensures { OnOk result (names.new.items ≡ names.old.items ++ name_in field.now) }
-{
-    if is_name(field) {
-        push_where_not_empty(names, name_of(alloc, field)?)?;
-    }
-    Ok(())
-}
-
-/// Whether the field is a main entry under a name (MARC 21, 100, 110 and 111).
-fn is_name(field: &Field) -> bool
-    ensures { result ≡ is_name field.now }
-{
-    has_tag(b"100", field) || has_tag(b"110", field) || has_tag(b"111", field)
 }
 
 fn push_where_not_empty(texts: &mut Vec<Bytes>, text: Bytes) -> Result<(), Memory>
