@@ -8,7 +8,7 @@ use Rattle.union_base.specs.SortedLists.{have_common}
 use Rattle.merge_laws.specs.Resolution.{KeyLaws}
 use Rattle.match_features.specs.declared.features.Features.{Features}
 use Rattle.match_features.specs.declared.keys.FeatureKey.{FeatureKey}
-use Rattle.match_features.specs.declared.keys.FeatureKey.TheVariants.{Control, Isbn, Issn, Title, TitleAndName, TitleOfMany}
+use Rattle.match_features.specs.declared.keys.FeatureKey.TheVariants.{Control, Isbn, Issn, Title, Description, TitleOfMany}
 use Rattle.match_features.specs.Kept.{texts_cmp, pairs_cmp}
 use Rattle.match_features.specs.KeptLaws.{pairs_total, pairs_tie}
 use Rattle.match_features.specs.Joining.{join}
@@ -65,7 +65,7 @@ share-from_key x y (Issn issn) p q =
 share-from_key x y (Title title) p q =
     or_right (have_common pairs_cmp x.control y.control || have_common texts_cmp x.isbns y.isbns || have_common texts_cmp x.issns y.issns) _
     (common-from_member nat_list_cmp_total texts_apart x.titles y.titles title p q)
-share-from_key x y (TitleAndName pair) p q = absurd p
+share-from_key x y (Description key) p q = absurd p
 share-from_key x y (TitleOfMany title) p q = absurd p
 
 key-join : (x y : Features) (k : FeatureKey) → HasKey (join x y) k ↔ (HasKey x k ⊎ HasKey y k)
@@ -85,7 +85,7 @@ key-join x y (Title title) = (
   member-from_union nat_list_cmp_total texts_apart x.titles y.titles title,
   union-from_member nat_list_cmp_total texts_apart x.titles y.titles title,
 )
-key-join x y (TitleAndName pair) = (λ h. absurd h, λ h. elim h [ inl e ↦ absurd e | inr e ↦ absurd e ])
+key-join x y (Description key) = (λ h. absurd h, λ h. elim h [ inl e ↦ absurd e | inr e ↦ absurd e ])
 key-join x y (TitleOfMany title) = (λ h. absurd h, λ h. elim h [ inl e ↦ absurd e | inr e ↦ absurd e ])
 
 pub features_key_laws : KeyLaws meet join HasKey share_key
@@ -126,7 +126,7 @@ member-from_key x (Issn issn) h =
     (Contains-append_right (map Control x.control ++ map Isbn x.isbns) (map Issn x.issns) (Issn issn) (member-map Issn x.issns issn h))
 member-from_key x (Title title) h =
     Contains-append_right (map Control x.control ++ map Isbn x.isbns ++ map Issn x.issns) (map Title x.titles) (Title title) (member-map Title x.titles title h)
-member-from_key x (TitleAndName pair) h = absurd h
+member-from_key x (Description key) h = absurd h
 member-from_key x (TitleOfMany title) h = absurd h
 
 pub features_keys : (x : Features) (k : FeatureKey) → Contains (keys x) k ↔ HasKey x k
@@ -166,8 +166,9 @@ features_keys_exact (Control p) (Control q) h =
 features_keys_exact (Isbn a) (Isbn b) h = ap Isbn (same_texts a b h)
 features_keys_exact (Issn a) (Issn b) h = ap Issn (same_texts a b h)
 features_keys_exact (Title a) (Title b) h = ap Title (same_texts a b h)
-features_keys_exact (TitleAndName p) (TitleAndName q) h =
-    let both = both_true (pointwise nat_eq p.0 q.0) (pointwise nat_eq p.1 q.1) h in
-    λ i. TitleAndName (same_texts p.0 q.0 both.0 i, same_texts p.1 q.1 both.1 i)
+features_keys_exact (Description p) (Description q) h =
+    let all = both_true (pointwise nat_eq p.0 q.0 && pointwise nat_eq p.1 q.1) (pointwise nat_eq p.2 q.2) h in
+    let two = both_true (pointwise nat_eq p.0 q.0) (pointwise nat_eq p.1 q.1) all.0 in
+    λ i. Description (same_texts p.0 q.0 two.0 i, same_texts p.1 q.1 two.1 i, same_texts p.2 q.2 all.1 i)
 features_keys_exact (TitleOfMany a) (TitleOfMany b) h = ap TitleOfMany (same_texts a b h)
 features_keys_exact j k h = cc

@@ -5,15 +5,15 @@ use Rattle.std.specs.declared.cmp.Ordering.TheVariants.{Less, Equal, Greater}
 use Rattle.std.specs.Ordering.{is_eq, is_lt, eq_by_cmp}
 use Rattle.std.specs.Cmp.{IsTotalOrder, eq_by_cmp_equiv}
 use Rattle.std.specs.FinMap.{IsAntisymmetric}
-use Rattle.std.specs.List.{list_all}
+use Rattle.std.specs.List.{list_all, flat_map}
 use Rattle.std.proofs.lemmas.List.Folds.{Any-from_list_any, list_any-from_Any}
-use Rattle.std.proofs.lemmas.List.Elements.{All-nil, All-cons, All-append, All-contains, All-contains_itself, All-filter, filter_passes}
+use Rattle.std.proofs.lemmas.List.Elements.{All-nil, All-cons, All-append, All-contains, All-contains_itself, All-filter, filter_passes, Contains-append_left, Contains-append_right, Contains-append_cases}
 use Rattle.std.proofs.lemmas.List.{get_or-map, get_or_default, length-map}
 use Rattle.std.proofs.lemmas.List.Kept.{AllPairs-cons}
 use Rattle.union_base.specs.Both.{both_true}
 use Rattle.union_base.specs.SortedLists.{is_ascending, union, has, have_common}
 use Rattle.union_base.proofs.SortedListLaws.{has-union, have_common-union, have_common-itself}
-use Rattle.merge_laws.proofs.Places.{Contains-head, Contains-tail, Contains-cases}
+use Rattle.merge_laws.proofs.Places.{Contains-head, Contains-tail, Contains-cases, All-from_members, AllPairs-first, AllPairs-rest}
 use Rattle.match_features.specs.Kept.{has_some}
 
 is_tie : (r : Ordering) → is_eq r ≡ true → r ≡ Equal
@@ -143,3 +143,32 @@ module _ {A J : Type 0} (f : A → J) where
       let inside : k < length (x ∷ xs) = omega (arith, length-map (x ∷ xs) f) in
       let y = get_or (x ∷ xs) k x in
       (y, (k, inside, get_or_default (x ∷ xs) k y x inside), sym (get_or-map f (x ∷ xs) k x j inside) ∙ e)
+
+-- the members of the lists that the values of a list give
+module _ {A J : Type 0} (f : A → List J) where
+  pub member-flat_map : (xs : List A) (x : A) (j : J) → Contains xs x → Contains (f x) j → Contains (flat_map f xs) j
+  member-flat_map [] x j (k, lt, e) within = absurd (omega arith)
+  member-flat_map (y ∷ ys) x j c within =
+      elim (Contains-cases y ys x c) [
+        | inl same ↦ Contains-append_left (f y) (flat_map f ys) j (subst (λ z. Contains (f z) j) (sym same) within)
+        | inr later ↦ Contains-append_right (f y) (flat_map f ys) j (member-flat_map ys x j later within)
+      ]
+
+  pub member-from_flat_map : (xs : List A) (j : J) → Contains (flat_map f xs) j → (x : A) × Contains xs x × Contains (f x) j
+  member-from_flat_map [] j (k, lt, e) = absurd (omega arith)
+  member-from_flat_map (y ∷ ys) j c =
+      elim (Contains-append_cases (f y) (flat_map f ys) j c) [
+        | inl here ↦ (y, Contains-head y ys, here)
+        | inr later ↦ (let (x, there, within) = member-from_flat_map ys j later in (x, Contains-tail y ys x there, within))
+      ]
+
+  -- values that stand once give lists without repeats, where no two values give one thing
+  pub once-flat_map : ((x y : A) (j : J) → Contains (f x) j → Contains (f y) j → x ≡ y) → ((x : A) → AllPairs (λ i j. i ≢ j) (f x))
+      → (xs : List A) → AllPairs (λ x y. x ≢ y) (map (λ x. x) xs) → AllPairs (λ i j. i ≢ j) (flat_map f xs)
+  once-flat_map apart each [] once = λ i j d lt within. absurd (omega arith)
+  once-flat_map apart each (y ∷ ys) once =
+      let rest = map {B = A} (λ x. x) ys in
+      once-append (f y) (flat_map f ys) (each y) (once-flat_map apart each ys (AllPairs-rest (λ (x y : A). x ≢ y) y rest once))
+      (All-from_members (λ i. All (λ j. i ≢ j) (flat_map f ys)) (f y) (λ i ci. All-from_members (λ j. i ≢ j) (flat_map f ys) (λ j cj same.
+      let (x, there, within) = member-from_flat_map ys j cj in
+      AllPairs-first (λ (x y : A). x ≢ y) y rest once x (member-map (λ (x : A). x) ys x there) (apart y x j (subst (Contains (f y)) same ci) within))))

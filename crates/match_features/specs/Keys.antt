@@ -5,7 +5,7 @@ use Rattle.std.specs.Cmp.Lexicographic.{pointwise}
 use Rattle.union_base.specs.SortedLists.{have_common}
 use Rattle.match_features.specs.declared.features.Features.{Features}
 use Rattle.match_features.specs.declared.keys.FeatureKey.{FeatureKey}
-use Rattle.match_features.specs.declared.keys.FeatureKey.TheVariants.{Control, Isbn, Issn, Title, TitleAndName, TitleOfMany}
+use Rattle.match_features.specs.declared.keys.FeatureKey.TheVariants.{Control, Isbn, Issn, Title, Description, TitleOfMany}
 use Rattle.match_features.specs.Kept.{texts_cmp, pairs_cmp}
 
 -- each control pair, each ISBN, each ISSN, each title
@@ -18,7 +18,7 @@ HasKey x (Control pair) = Contains x.control pair
 HasKey x (Isbn isbn) = Contains x.isbns isbn
 HasKey x (Issn issn) = Contains x.issns issn
 HasKey x (Title title) = Contains x.titles title
-HasKey x (TitleAndName pair) = ⊥
+HasKey x (Description description) = ⊥
 HasKey x (TitleOfMany title) = ⊥
 
 -- whether two have a key in common
@@ -35,15 +35,15 @@ key_eq (Control p) (Control q) = pointwise nat_eq p.0 q.0 && pointwise nat_eq p.
 key_eq (Isbn a) (Isbn b) = pointwise nat_eq a b
 key_eq (Issn a) (Issn b) = pointwise nat_eq a b
 key_eq (Title a) (Title b) = pointwise nat_eq a b
-key_eq (TitleAndName p) (TitleAndName q) = pointwise nat_eq p.0 q.0 && pointwise nat_eq p.1 q.1
+key_eq (Description p) (Description q) = pointwise nat_eq p.0 q.0 && pointwise nat_eq p.1 q.1 && pointwise nat_eq p.2 q.2
 key_eq (TitleOfMany a) (TitleOfMany b) = pointwise nat_eq a b
 key_eq j k = false
 
--- what a key gives to a hasher: its kind, and its texts, each in one piece
+-- what a key gives to a hasher: its kind and its texts, those of a description in one piece
 abbrev pub key_writes : FeatureKey → HashWrites
 key_writes (Control p) = u8 0 ++ str p.0 ++ str p.1
 key_writes (Isbn a) = u8 1 ++ a ∷ []
 key_writes (Issn a) = u8 2 ++ a ∷ []
 key_writes (Title a) = u8 3 ++ a ∷ []
-key_writes (TitleAndName p) = u8 4 ++ str p.0 ++ str p.1
+key_writes (Description p) = u8 4 ++ (p.0 ++ p.1 ++ p.2) ∷ []
 key_writes (TitleOfMany a) = u8 5 ++ a ∷ []

@@ -1,9 +1,10 @@
 //! The keys that features have, as `specs/Keys.antt` has them, and those of an index, as `specs/Posted.antt` has them.
 ghost use Rattle.std.specs.Prelude.{◌≡◌, ◌≢◌, ◌↔◌, ◌++◌, IfOk, OnOk, Contains, AllPairs, map, min, length, ◌*◌, ◌-◌, ◌^◌, []};
 ghost use Rattle.match_features.specs.Keys.{keys, HasKey};
-ghost use Rattle.match_features.specs.Posted.{has_few, IsPosted, Seeks, number_keys, pair_keys, posted, posted_by_title, sought, sought_by_title};
+ghost use Rattle.match_features.specs.Posted.{has_few, IsPosted, Seeks, number_keys, description_keys, dated_keys, posted, posted_by_title, sought, sought_by_title};
 
 use crate::control_pair::ControlPair;
+use crate::description_key::DescriptionKey;
 use crate::features::Features;
 use std::alloc::Global;
 use std::hash::{Hash, Hasher};
@@ -11,8 +12,8 @@ use union_base::bytes::Bytes;
 use union_base::copied::Copied;
 use union_base::memory::Memory;
 
-/// The most pairs of a title and a name for which features have a key each in an index.
-const MOST_PAIRS: usize = 64;
+/// The most triples of a title, a date and a name for which features have a key each in an index.
+const MOST_TRIPLES: usize = 64;
 
 /// What features are looked up by (this project's own). Features that meet have a key of the first four kinds in common.
 #[derive(Debug, PartialEq, Eq)]
@@ -25,9 +26,9 @@ pub enum FeatureKey {
     Issn([u8; 8]),
     /// A title in normal form.
     Title(Bytes),
-    /// A title and a name in normal form, of features that have at most 64 such pairs. For an index alone.
-    TitleAndName(ControlPair),
-    /// A title in normal form, of features that have more pairs of a title and a name. For an index alone.
+    /// A title, a date and a name, of features that have at most 64 such triples. For an index alone.
+    Description(DescriptionKey),
+    /// A title in normal form, of features that have more triples of a title, a date and a name. For an index alone.
     TitleOfMany(Bytes),
 }
 
@@ -39,7 +40,7 @@ impl Drop for FeatureKey {
             FeatureKey::Isbn(_) => (),
             FeatureKey::Issn(_) => (),
             FeatureKey::Title(_) => (),
-            FeatureKey::TitleAndName(_) => (),
+            FeatureKey::Description(_) => (),
             FeatureKey::TitleOfMany(_) => (),
         }
     }
@@ -73,9 +74,9 @@ impl Hash for FeatureKey {
                 state.write_u8(3);
                 state.write(title.bytes());
             }
-            FeatureKey::TitleAndName(pair) => {
+            FeatureKey::Description(description) => {
                 state.write_u8(4);
-                pair.hash(state);
+                description.hash(state);
             }
             FeatureKey::TitleOfMany(title) => {
                 state.write_u8(5);
@@ -92,7 +93,9 @@ impl Copied for FeatureKey {
             FeatureKey::Isbn(isbn) => Ok(FeatureKey::Isbn(*isbn)),
             FeatureKey::Issn(issn) => Ok(FeatureKey::Issn(*issn)),
             FeatureKey::Title(title) => Ok(FeatureKey::Title(title.copied(alloc)?)),
-            FeatureKey::TitleAndName(pair) => Ok(FeatureKey::TitleAndName(pair.copied(alloc)?)),
+            FeatureKey::Description(description) => {
+                Ok(FeatureKey::Description(description.copied(alloc)?))
+            }
             FeatureKey::TitleOfMany(title) => Ok(FeatureKey::TitleOfMany(title.copied(alloc)?)),
         }
     }
@@ -114,8 +117,8 @@ pub fn feature_keys(alloc: Global, features: &Features) -> Result<Vec<FeatureKey
     Ok(found)
 }
 
-/// The keys under which an index has the features, each once: their own keys, and each title with each name, or each title as
-/// that of many where there are more than 64 such pairs.
+/// The keys under which an index has the features, each once: their own keys, and each title with each date and each name, or
+/// each title as that of many where there are more than 64 such triples.
 ///
 /// Returns `Memory` if allocation fails.
 pub fn posted_keys(alloc: Global, features: &Features) -> Result<Vec<FeatureKey>, Memory>
@@ -131,8 +134,8 @@ pub fn posted_keys(alloc: Global, features: &Features) -> Result<Vec<FeatureKey>
     Ok(found)
 }
 
-/// The keys by which an index is asked for features that may meet these: those of their numbers, and each title with each name
-/// and each title as that of many, or each title where there are more than 64 such pairs.
+/// The keys by which an index is asked for features that may meet these: those of their numbers, and each title with each date
+/// and each name and each title as that of many, or each title where there are more than 64 such triples.
 ///
 /// Returns `Memory` if allocation fails.
 pub fn sought_keys(alloc: Global, features: &Features) -> Result<Vec<FeatureKey>, Memory>
@@ -146,18 +149,22 @@ pub fn sought_keys(alloc: Global, features: &Features) -> Result<Vec<FeatureKey>
     Ok(found)
 }
 
-/// Whether the features have at most 64 pairs of a title and a name.
+/// Whether the features have at most 64 triples of a title, a date and a name.
 fn has_few(features: &Features) -> bool
     ensures { result ≡ has_few features.now }
 {
-    pairs(features.titles.as_slice(), features.names.as_slice()) <= MOST_PAIRS
+    triples(features) <= MOST_TRIPLES
 }
 
-/// How many pairs of a title and a name there are, or the greatest number where that is more.
-fn pairs(titles: &[Bytes], names: &[Bytes]) -> usize
-    ensures { result ≡ min (length titles.now * length names.now) (2 ^ 64 - 1) }
+/// How many triples of a title, a date and a name there are, or the greatest number where that is more.
+fn triples(features: &Features) -> usize
+    ensures { result ≡ min (length features.now.titles * length features.now.dates
+        * length features.now.names) (2 ^ 64 - 1) }
 {
-    titles.len().saturating_mul(names.len())
+    let titles = features.titles.as_slice().len();
+    let dates = features.dates.as_slice().len();
+    let names = features.names.as_slice().len();
+    titles.saturating_mul(dates).saturating_mul(names)
 }
 
 /// No keys, with room for those of the features' numbers and for `others`. Returns `Memory` if allocation fails.
@@ -175,14 +182,18 @@ fn with_room_for(
     Ok(Vec::with_capacity(alloc, most)?)
 }
 
-/// No keys, with room for those of the features' numbers, their titles, and their titles with names. Returns `Memory` if
-/// allocation fails.
+/// No keys, with room for those of the features' numbers, their titles, and their titles with dates and names. Returns
+/// `Memory` if allocation fails.
 fn with_room_by_title(alloc: Global, features: &Features) -> Result<Vec<FeatureKey>, Memory>
     ensures { IfOk result (λ found. found.items ≡ []) }
 {
     let titles = features.titles.as_slice().len();
-    let pairs = pairs(features.titles.as_slice(), features.names.as_slice());
-    let more = if pairs <= MOST_PAIRS { pairs } else { titles };
+    let triples = triples(features);
+    let more = if triples <= MOST_TRIPLES {
+        triples
+    } else {
+        titles
+    };
     with_room_for(alloc, features, titles.saturating_add(more))
 }
 
@@ -245,7 +256,7 @@ fn push_title_keys(
     Ok(())
 }
 
-/// Puts each title with each name last, or each title as that of many.
+/// Puts each title with each date and each name last, or each title as that of many.
 fn push_posted_by_title(
     alloc: Global,
     found: &mut Vec<FeatureKey>,
@@ -254,18 +265,13 @@ fn push_posted_by_title(
     ensures { OnOk result (found.new.items ≡ found.old.items ++ posted_by_title features.now) }
 {
     if has_few(features) {
-        push_pair_keys(
-            alloc,
-            found,
-            features.titles.as_slice(),
-            features.names.as_slice(),
-        )
+        push_description_keys(alloc, found, features)
     } else {
         push_keys_of_many(alloc, found, features.titles.as_slice())
     }
 }
 
-/// Puts each title with each name last, and each title as that of many; or each title.
+/// Puts each title with each date and each name last, and each title as that of many; or each title.
 fn push_sought_by_title(
     alloc: Global,
     found: &mut Vec<FeatureKey>,
@@ -275,41 +281,75 @@ fn push_sought_by_title(
 {
     let titles = features.titles.as_slice();
     if has_few(features) {
-        push_pair_keys(alloc, found, titles, features.names.as_slice())?;
+        push_description_keys(alloc, found, features)?;
         push_keys_of_many(alloc, found, titles)
     } else {
         push_title_keys(alloc, found, titles)
     }
 }
 
-/// Puts each title with each name last.
-fn push_pair_keys(
+/// Puts each title with each date and each name last.
+fn push_description_keys(
+    alloc: Global,
+    found: &mut Vec<FeatureKey>,
+    features: &Features,
+) -> Result<(), Memory>
+    ensures { OnOk result (found.new.items ≡ found.old.items
+        ++ description_keys features.now.titles features.now.dates features.now.names) }
+{
+    let dates = features.dates.as_slice();
+    let names = features.names.as_slice();
+    push_all_keys(alloc, found, features.titles.as_slice(), dates, names)
+}
+
+/// Puts each title with each date and each name last.
+fn push_all_keys(
     alloc: Global,
     found: &mut Vec<FeatureKey>,
     titles: &[Bytes],
+    dates: &[[u8; 4]],
     names: &[Bytes],
 ) -> Result<(), Memory>
-    ensures { OnOk result (found.new.items ≡ found.old.items ++ pair_keys titles.now names.now) }
+    ensures { OnOk result (found.new.items ≡ found.old.items
+        ++ description_keys titles.now dates.now names.now) }
 {
     for title in titles {
-        push_keys_with(alloc, found, title, names)?;
+        push_dated_keys(alloc, found, title, dates, names)?;
     }
     Ok(())
 }
 
-/// Puts the title with each name last.
+/// Puts the title with each date and each name last.
+fn push_dated_keys(
+    alloc: Global,
+    found: &mut Vec<FeatureKey>,
+    title: &Bytes,
+    dates: &[[u8; 4]],
+    names: &[Bytes],
+) -> Result<(), Memory>
+    ensures { OnOk result (found.new.items ≡ found.old.items
+        ++ dated_keys title.now dates.now names.now) }
+{
+    for date in dates {
+        push_keys_with(alloc, found, title, date, names)?;
+    }
+    Ok(())
+}
+
+/// Puts the title and the date with each name last.
 fn push_keys_with(
     alloc: Global,
     found: &mut Vec<FeatureKey>,
     title: &Bytes,
+    date: &[u8; 4],
     names: &[Bytes],
 ) -> Result<(), Memory>
-    ensures { OnOk result (found.new.items
-        ≡ found.old.items ++ map (λ name. FeatureKey.TitleAndName (title.now, name)) names.now) }
+    ensures { OnOk result (found.new.items ≡ found.old.items
+        ++ map (λ name. FeatureKey.Description (title.now, date.now, name)) names.now) }
 {
     for name in names {
-        let pair = ControlPair::of(alloc, title.bytes(), name.bytes())?;
-        found.push(FeatureKey::TitleAndName(pair))?;
+        let key = DescriptionKey::of(alloc, title.bytes(), date, name.bytes())?;
+        found.push(FeatureKey::Description(key))?;
     }
     Ok(())
 }

@@ -8,6 +8,7 @@
 #![tactic(auto)]
 
 pub mod control_pair;
+pub mod description_key;
 pub mod features;
 mod gathering;
 pub mod joining;

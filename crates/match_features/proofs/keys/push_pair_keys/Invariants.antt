@@ -1,6 +1,0 @@
-use Rattle.std.proofs.Common.{◌≡◌, ◌++◌, take}
-use Rattle.match_features.specs.Posted.{pair_keys}
-use Rattle.match_features.proofs.keys.push_pair_keys.Given as goal
-
-abbrev pub invariant-loop-title : goal.invariant-loop-title
-invariant-loop-title l = l.found.items ≡ l.initial.found.items ++ pair_keys (take l.title-index l.titles) l.names
