@@ -5,7 +5,7 @@ use Rattle.std.specs.Option.{option_to_list}
 use Rattle.hex.specs.Hex.{encode_lower}
 use Rattle.match_features.specs.Posted.{posted, sought}
 use Rattle.match_features.specs.declared.keys.FeatureKey.{FeatureKey}
-use Rattle.match_features.specs.declared.keys.FeatureKey.TheVariants.{Control, Isbn, Issn, Title, TitleAndName, TitleOfMany}
+use Rattle.match_features.specs.declared.keys.FeatureKey.TheVariants.{Control, Isbn, Issn, Title, Description, TitleOfMany}
 use Rattle.catalogue_editions.specs.Resolutions.{IsOrderedResolution}
 use Rattle.catalogue_editions.specs.declared.edition.Edition.{Edition}
 use Rattle.union_keys.specs.declared.standing.Standing.{Standing}
@@ -14,13 +14,17 @@ use Rattle.union_keys.specs.declared.standing.Standing.{Standing}
 abbrev pub pair_text : List ℕ × List ℕ → List ℕ
 pair_text pair = encode_lower pair.0 ++ (0x2E ∷ encode_lower pair.1)
 
+-- a title, a date and a name in hex, with full stops between them
+abbrev pub description_text : List ℕ × List ℕ × List ℕ → List ℕ
+description_text key = encode_lower key.0 ++ (0x2E ∷ (encode_lower key.1 ++ (0x2E ∷ encode_lower key.2)))
+
 -- a key: a letter for its kind, and its text in hex
 abbrev pub key_text : FeatureKey → List ℕ
 key_text (Control pair) = 0x63 ∷ pair_text pair
 key_text (Isbn isbn) = 0x69 ∷ encode_lower isbn
 key_text (Issn issn) = 0x6A ∷ encode_lower issn
 key_text (Title title) = 0x74 ∷ encode_lower title
-key_text (TitleAndName pair) = 0x6E ∷ pair_text pair
+key_text (Description key) = 0x6E ∷ description_text key
 key_text (TitleOfMany title) = 0x6D ∷ encode_lower title
 
 -- a column with a key: a tab, a mark, and the key

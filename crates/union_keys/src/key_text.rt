@@ -3,11 +3,12 @@ ghost use Rattle.std.specs.Prelude.{◌≡◌, ◌++◌, ◌∷◌, OnOk};
 ghost use Rattle.std.specs.List.{flat_map};
 ghost use Rattle.hex.specs.Hex.{encode_lower};
 ghost use Rattle.match_features.specs.Posted.{posted, sought};
-ghost use Rattle.union_keys.specs.Lines.{pair_text, key_text, key_cell, key_cells};
+ghost use Rattle.union_keys.specs.Lines.{pair_text, description_text, key_text, key_cell, key_cells};
 
 use catalogue_editions::edition::Edition;
 use hex::encode;
 use match_features::control_pair::ControlPair;
+use match_features::description_key::DescriptionKey;
 use match_features::keys::{FeatureKey, posted_keys, sought_keys};
 use std::alloc::{AllocError, Global};
 use union_base::memory::Memory;
@@ -46,6 +47,20 @@ fn add_pair(
     add_one(alloc, text, b'.', pair.number())
 }
 
+/// Adds the kind of a key, and its title, its date and its name in hex with full stops between them.
+fn add_description(
+    alloc: Global,
+    text: &mut Vec<u8>,
+    kind: u8,
+    key: &DescriptionKey,
+) -> Result<(), AllocError>
+    ensures { OnOk result (text.new.items ≡ text.old.items ++ (kind ∷ description_text key.now)) }
+{
+    add_one(alloc, text, kind, key.title())?;
+    add_one(alloc, text, b'.', key.date())?;
+    add_one(alloc, text, b'.', key.name())
+}
+
 /// Adds a key.
 fn add_key(alloc: Global, text: &mut Vec<u8>, key: &FeatureKey) -> Result<(), AllocError>
     ensures { OnOk result (text.new.items ≡ text.old.items ++ key_text key.now) }
@@ -55,7 +70,7 @@ fn add_key(alloc: Global, text: &mut Vec<u8>, key: &FeatureKey) -> Result<(), Al
         FeatureKey::Isbn(isbn) => add_one(alloc, text, b'i', isbn),
         FeatureKey::Issn(issn) => add_one(alloc, text, b'j', issn),
         FeatureKey::Title(title) => add_one(alloc, text, b't', title.bytes()),
-        FeatureKey::TitleAndName(pair) => add_pair(alloc, text, b'n', pair),
+        FeatureKey::Description(key) => add_description(alloc, text, b'n', key),
         FeatureKey::TitleOfMany(title) => add_one(alloc, text, b'm', title.bytes()),
     }
 }
