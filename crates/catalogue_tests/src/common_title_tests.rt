@@ -141,7 +141,7 @@ fn titles_of_a_handful(rt: HostRuntime) -> Result<(), Fail> {
 
 #[test]
 fn editions_of_many_titles(rt: HostRuntime) -> Result<(), Fail> {
-    // Few system numbers, so that an edition comes to more pairs of a title and a name than have a key each.
+    // Few system numbers, so that an edition comes to more titles with a date and a name than have a key each.
     for seed in 0..4 {
         let sizes = Sizes {
             numbers: 40,
