@@ -3,11 +3,13 @@ use crate::frames::{next_library, next_record};
 use crate::made::{Made, is_written, makes, merge_is, merges, next_pair};
 use crate::tables::{CELL_END, assert_cases, next_cell};
 use match_features::control_pair::ControlPair;
+use match_features::description_key::DescriptionKey;
 use match_features::features::Features;
 use match_features::keys::{FeatureKey, feature_keys};
 use match_features::of_record::features_of;
 use merge_laws::join::Join;
 use std::alloc::Global;
+use std::mem::size_of;
 use std::str::Split;
 use std::test::Fail;
 use union_base::bytes::Bytes;
@@ -92,6 +94,25 @@ fn control_pairs(rt: HostRuntime) -> Result<(), Fail> {
 
 fn is_pair(pair: &ControlPair, source: &[u8], number: &[u8]) -> bool {
     pair.source() == source && pair.number() == number
+}
+
+/// A description has the three texts that it was made of, in its place or in a block, and is another where it is cut elsewhere
+/// or has another date. It takes no more room than a pair.
+#[test]
+fn description_keys(rt: HostRuntime) -> Result<(), Fail> {
+    let alloc = rt.alloc();
+    let short = DescriptionKey::of(alloc, b"red ships", b"1990", b"hill ann")?;
+    assert!(rt; is_description(&short, b"red ships", b"1990", b"hill ann"));
+    let long = DescriptionKey::of(alloc, b"red ships of the sea", b"1990", b"hill ann")?;
+    assert!(rt; is_description(&long, b"red ships of the sea", b"1990", b"hill ann"));
+    assert!(rt; short != DescriptionKey::of(alloc, b"red ships", b"1991", b"hill ann")?);
+    assert!(rt; short != DescriptionKey::of(alloc, b"red ships1", b"990h", b"ill ann")?);
+    assert!(rt; size_of::<DescriptionKey>() == size_of::<ControlPair>());
+    Ok(())
+}
+
+fn is_description(key: &DescriptionKey, title: &[u8], date: &[u8], name: &[u8]) -> bool {
+    key.title() == title && key.date() == date && key.name() == name
 }
 
 /// Whether the two records of a case meet where that is expected, in both orders, and nowhere else.
@@ -215,7 +236,7 @@ fn push_key(text: &mut Vec<u8>, key: &FeatureKey) -> Result<(), Memory> {
         FeatureKey::Issn(issn) => Ok(text.extend_from_slice(issn)?),
         FeatureKey::Title(title) => Ok(text.extend_from_slice(title.bytes())?),
         // None of the keys that features have is one for an index alone.
-        FeatureKey::TitleAndName(_) | FeatureKey::TitleOfMany(_) => Ok(()),
+        FeatureKey::Description(_) | FeatureKey::TitleOfMany(_) => Ok(()),
     }
 }
 
