@@ -1,6 +1,6 @@
 -- On ASCII the steps on letters come to a test of each byte.
-use Rattle.std.proofs.Common.{◌≡◌, ℕ, zero, suc, ◌+◌, ◌<◌, ◌&&◌, ◌||◌, Bool, true, false, cond, not, eqb, List, [], ◌∷◌, ◌++◌, map, length, get_or, drop, IsAscii, refl, sym, ap, subst, ◌∙◌, encode_utf8, inl, inr, ◌-◌, take, take_all, length-drop, add-one, drop-cons, arith}
-use Rattle.std.proofs.lemmas.Bool.{and_parts, cases_lt}
+use Rattle.std.proofs.Common.{◌≡◌, ℕ, zero, suc, ◌+◌, ◌<◌, ◌&&◌, ◌||◌, Bool, true, false, cond, not, eqb, List, [], ◌∷◌, ◌++◌, map, length, get_or, drop, IsAscii, refl, sym, ap, subst, ◌∙◌, encode_utf8, if◌then◌else◌, ◌==◌, nat_lt, inl, inr, ◌-◌, ◌≤◌, take, take_all, length-drop, add-one, drop-cons, arith}
+use Rattle.std.proofs.lemmas.Bool.{and_parts, cases_lt, agree_below_at, not-true, eqb-true, lt-ltb, le-ltb, ne_eqb}
 use Rattle.std.proofs.lemmas.Bool.Decides.{nat_tests}
 use Rattle.std.proofs.lemmas.Str.Ascii.{All-from_ascii, IsAscii-map, lowercase_ascii, encode_ascii}
 use Rattle.std.proofs.lemmas.Str.{IsAscii-drop}
@@ -11,11 +11,16 @@ use Rattle.unicode_normalization.specs.Forms.{Nfkd, nfkd}
 use Rattle.unicode_normalization.proofs.FormsLemmas.{normalize-ascii}
 use Rattle.caseless.specs.Caseless.{default_case_fold}
 use Rattle.caseless.proofs.CaselessLemmas.{default_case_fold-ascii}
-use Rattle.naco_normal.specs.Ascii.{is_ascii_deleted, is_ascii_kept, is_ascii_shown, ascii_letters}
+use Rattle.naco_normal.specs.Ascii.{is_ascii_deleted, is_ascii_kept, ascii_letters, blank_mark, read_as}
 use Rattle.naco_normal.specs.Normal.{comma_sign, is_dropped, plain_letters, is_letter_or_number, is_kept, folded, without_deleted, with_plain_letters, letters}
 use Rattle.naco_normal.specs.Shown.{is_shown}
 use Rattle.naco_normal.specs.Words.{after_gap}
 use Rattle.naco_normal.proofs.WordsLemmas.{read_on}
+
+-- a byte in lower case shows: an awaited comma where a letter or digit stands after it, and any other where it is kept
+abbrev pub is_ascii_shown : ℕ → Bool → List ℕ → Bool
+is_ascii_shown letter awaiting after =
+    if awaiting && (letter == comma_sign) then list_any is_ascii_alphanumeric after else is_ascii_kept letter
 
 -- two tests agree
 abbrev same : Bool → Bool → Bool
@@ -78,6 +83,70 @@ agree_on_ascii b h =
       number_lower = equal_from_same _ _ last.0;
       apart = equal_from_same _ _ last.1;
     }
+
+-- ---- what a byte is read as
+
+-- what `read_as` makes of a byte tells whether it is deleted, kept or a comma
+abbrev told_by : ℕ → ℕ → Bool
+told_by r b =
+    if nat_lt blank_mark r then not (is_ascii_deleted b) && (eqb r (to_ascii_lowercase b) && (is_ascii_kept r && not (eqb r comma_sign))) else
+    (if eqb r blank_mark
+    then not (is_ascii_deleted b) && (not (is_ascii_kept (to_ascii_lowercase b)) && same (eqb (to_ascii_lowercase b) comma_sign) (eqb b comma_sign))
+    else is_ascii_deleted b)
+
+told : (b : ℕ) → b < 128 → told_by (read_as b) b ≡ true
+told b h = agree_below_at (λ b. told_by (read_as b) b) (λ b. true) 128 b refl h
+
+first_of : (test a b : Bool) → test ≡ true → cond test a b ≡ true → a ≡ true
+first_of true a b e h = h
+first_of false a b e h = cc
+
+second_of : (test a b : Bool) → test ≡ false → cond test a b ≡ true → b ≡ true
+second_of true a b e h = cc
+second_of false a b e h = h
+
+-- a byte that is kept
+pub record Kept (b r : ℕ) : Type 0 where
+  pub stays : is_ascii_deleted b ≡ false
+  pub low : r ≡ to_ascii_lowercase b
+  pub kept : is_ascii_kept r ≡ true
+  pub no_comma : eqb r comma_sign ≡ false
+
+kept_told : (b r : ℕ) → b < 128 → r ≡ read_as b → blank_mark < r → Kept b r
+kept_told b r h e large =
+    let test = subst (λ x. told_by x b ≡ true) (sym e) (told b h) in
+    let all = first_of (nat_lt blank_mark r) _ _ (lt-ltb blank_mark r large) test in
+    let letter = and_parts _ _ all in
+    let low = and_parts _ _ letter.1 in
+    let last = and_parts _ _ low.1 in
+    record {
+      stays = not-true _ letter.0;
+      low = eqb-true _ _ low.0;
+      kept = last.0;
+      no_comma = not-true _ last.1;
+    }
+
+-- a byte that becomes a blank, but for an awaited comma
+pub record Blanked (b : ℕ) : Type 0 where
+  pub stays : is_ascii_deleted b ≡ false
+  pub hides : is_ascii_kept (to_ascii_lowercase b) ≡ false
+  pub comma : eqb (to_ascii_lowercase b) comma_sign ≡ eqb b comma_sign
+
+blank_told : (b r : ℕ) → b < 128 → r ≡ read_as b → r ≡ blank_mark → Blanked b
+blank_told b r h e blank =
+    let all = subst (λ x. told_by x b ≡ true) (sym e ∙ blank) (told b h) in
+    let letter = and_parts _ _ all in
+    let last = and_parts _ _ letter.1 in
+    record {
+      stays = not-true _ letter.0;
+      hides = not-true _ last.0;
+      comma = equal_from_same _ _ last.1;
+    }
+
+deleted_told : (b r : ℕ) → b < 128 → r ≡ read_as b → r ≤ blank_mark → (r ≡ blank_mark → ⊥) → is_ascii_deleted b ≡ true
+deleted_told b r h e small other =
+    let test = subst (λ x. told_by x b ≡ true) (sym e) (told b h) in
+    second_of (eqb r blank_mark) _ _ (ne_eqb r blank_mark other) (second_of (nat_lt blank_mark r) _ _ (le-ltb blank_mark r small) test)
 
 plain_ascii : (c : ℕ) → c < 128 → plain_letters c ≡ c ∷ []
 plain_ascii c h = grind (arith, nat_tests)
@@ -171,6 +240,75 @@ read_byte text new gap awaiting bs i b letter shown ascii h e stays low shows ma
     ∙ ap (λ s. read_on (cond s (after_gap text gap ++ letter ∷ []) text) (not s) (awaiting && not (eqb letter comma_sign)) (ascii_letters after)) shows
     ∙ ap (λ x. read_on (cond (is_ascii_shown x awaiting after) (after_gap text gap ++ x ∷ []) text) (not (is_ascii_shown x awaiting after)) (awaiting && not (eqb x comma_sign)) (ascii_letters after)) low
     ∙ sym over
+
+shown_kept : (letter : ℕ) (awaiting : Bool) (after : List ℕ) → eqb letter comma_sign ≡ false → is_ascii_shown letter awaiting after ≡ is_ascii_kept letter
+shown_kept letter true after e = ap (λ t. cond t (list_any is_ascii_alphanumeric after) (is_ascii_kept letter)) e
+shown_kept letter false after e = refl
+
+still_awaiting : (awaiting is_comma : Bool) → is_comma ≡ false → (awaiting && not is_comma) ≡ awaiting
+still_awaiting true is_comma e = ap not e
+still_awaiting false is_comma e = refl
+
+-- over a byte that is kept
+pub read_kept : (text new : List ℕ) (gap awaiting : Bool) (bs : List ℕ) (i letter : ℕ) → IsAscii bs → i < length bs → letter ≡ read_as (get_or bs i 0) → blank_mark < letter
+    → new ≡ after_gap text gap ++ letter ∷ []
+    → read_on new false awaiting (ascii_letters (drop (i + 1) bs)) ≡ read_on text gap awaiting (ascii_letters (drop i bs))
+read_kept text new gap awaiting bs i letter ascii h reads large made =
+    let b = get_or bs i 0 in
+    let is = kept_told b letter (ascii i) reads large in
+    let after = drop (i + 1) bs in
+    ap (λ a. read_on new false a (ascii_letters after)) (sym (still_awaiting awaiting (eqb letter comma_sign) is.no_comma))
+    ∙ read_byte text new gap awaiting bs i b letter true ascii h refl is.stays is.low (sym (shown_kept letter awaiting after is.no_comma ∙ is.kept)) made
+
+-- past a byte that is deleted
+pub read_deleted : (text : List ℕ) (gap awaiting : Bool) (bs : List ℕ) (i letter : ℕ) → IsAscii bs → i < length bs → letter ≡ read_as (get_or bs i 0) → letter ≤ blank_mark → (letter ≡ blank_mark → ⊥)
+    → read_on text gap awaiting (ascii_letters (drop (i + 1) bs)) ≡ read_on text gap awaiting (ascii_letters (drop i bs))
+read_deleted text gap awaiting bs i letter ascii h reads small other =
+    sym (read_past text gap awaiting bs i (get_or bs i 0) h refl (deleted_told (get_or bs i 0) letter (ascii i) reads small other))
+
+-- what the tests of a byte make, where it is no awaited comma
+other_shows : (awaiting is_comma any : Bool) → (awaiting && is_comma) ≡ false → cond (awaiting && is_comma) any false ≡ false
+other_shows awaiting is_comma any e = ap (λ t. cond t any false) e
+
+other_awaits : (awaiting is_comma : Bool) → (awaiting && is_comma) ≡ false → (awaiting && not is_comma) ≡ awaiting
+other_awaits true is_comma e = ap not e
+other_awaits false is_comma e = refl
+
+shown_blank : (c : ℕ) (awaiting is_comma : Bool) (after : List ℕ) → eqb c comma_sign ≡ is_comma → is_ascii_kept c ≡ false
+    → is_ascii_shown c awaiting after ≡ cond (awaiting && is_comma) (list_any is_ascii_alphanumeric after) false
+shown_blank c awaiting is_comma after e hides =
+    ap (λ kept. cond (awaiting && eqb c comma_sign) (list_any is_ascii_alphanumeric after) kept) hides
+    ∙ ap (λ t. cond (awaiting && t) (list_any is_ascii_alphanumeric after) false) e
+
+-- over a byte that becomes a blank
+pub read_blank : (text : List ℕ) (gap awaiting : Bool) (bs : List ℕ) (i letter : ℕ) → IsAscii bs → i < length bs → letter ≡ read_as (get_or bs i 0) → letter ≡ blank_mark
+    → (awaiting && eqb (get_or bs i 0) comma_sign) ≡ false
+    → read_on text true awaiting (ascii_letters (drop (i + 1) bs)) ≡ read_on text gap awaiting (ascii_letters (drop i bs))
+read_blank text gap awaiting bs i letter ascii h reads blank other =
+    let b = get_or bs i 0 in
+    let c = to_ascii_lowercase b in
+    let is = blank_told b letter (ascii i) reads blank in
+    let after = drop (i + 1) bs in
+    ap (λ a. read_on text true a (ascii_letters after)) (sym (ap (λ t. awaiting && not t) is.comma ∙ other_awaits awaiting (eqb b comma_sign) other))
+    ∙ read_byte text text gap awaiting bs i b c false ascii h refl is.stays refl
+    (sym (shown_blank c awaiting (eqb b comma_sign) after is.comma is.hides ∙ other_shows awaiting (eqb b comma_sign) (list_any is_ascii_alphanumeric after) other)) refl
+
+-- over the awaited comma
+pub read_comma : (text new : List ℕ) (gap awaiting : Bool) (bs : List ℕ) (i letter : ℕ) (shown : Bool) → IsAscii bs → i < length bs → letter ≡ read_as (get_or bs i 0) → letter ≡ blank_mark
+    → (awaiting && eqb (get_or bs i 0) comma_sign) ≡ true
+    → shown ≡ list_any is_ascii_alphanumeric (drop (i + 1) bs) → new ≡ cond shown (after_gap text gap ++ comma_sign ∷ []) text
+    → read_on new (not shown) false (ascii_letters (drop (i + 1) bs)) ≡ read_on text gap awaiting (ascii_letters (drop i bs))
+read_comma text new gap awaiting bs i letter shown ascii h reads blank awaited shows made =
+    let b = get_or bs i 0 in
+    let c = to_ascii_lowercase b in
+    let is = blank_told b letter (ascii i) reads blank in
+    let after = drop (i + 1) bs in
+    let any = list_any is_ascii_alphanumeric after in
+    let both = and_parts awaiting (eqb b comma_sign) awaited in
+    ap (λ a. read_on new (not shown) a (ascii_letters after)) (sym (ap (λ t. awaiting && not t) (is.comma ∙ both.1) ∙ ap (λ a. a && false) both.0))
+    ∙ read_byte text new gap awaiting bs i b c shown ascii h refl is.stays refl
+    (shows ∙ sym (shown_blank c awaiting (eqb b comma_sign) after is.comma is.hides ∙ ap (λ t. cond t any false) awaited))
+    (made ∙ ap (λ x. cond shown (after_gap text gap ++ x ∷ []) text) (sym (eqb-true c comma_sign (is.comma ∙ both.1))))
 
 -- the slice from a place on
 pub slice_rest : (bs : List ℕ) (i : ℕ) → take (length bs - i) (drop i bs) ≡ drop i bs

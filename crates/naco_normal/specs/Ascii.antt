@@ -1,8 +1,6 @@
 -- The steps of the normal form on the bytes of an ASCII text.
-use Rattle.std.specs.Prelude.{ℕ, ◌==◌, ◌&&◌, ◌||◌, Bool, if◌then◌else◌, List, [], ◌∷◌}
+use Rattle.std.specs.Prelude.{ℕ, ◌==◌, ◌||◌, Bool, if◌then◌else◌, List, [], ◌∷◌}
 use Rattle.std.specs.Char.{is_ascii_alphanumeric, to_ascii_lowercase}
-use Rattle.std.specs.List.{list_any}
-use Rattle.naco_normal.specs.Normal.{comma_sign}
 
 -- one of the signs ' [ ]
 abbrev pub is_ascii_deleted : ℕ → Bool
@@ -17,7 +15,16 @@ abbrev pub ascii_letters : List ℕ → List ℕ
 ascii_letters [] = []
 ascii_letters (b ∷ bs) = if is_ascii_deleted b then ascii_letters bs else to_ascii_lowercase b ∷ ascii_letters bs
 
--- a byte in lower case shows: an awaited comma where a letter or digit stands after it, and any other where it is kept
-abbrev pub is_ascii_shown : ℕ → Bool → List ℕ → Bool
-is_ascii_shown letter awaiting after =
-    if awaiting && (letter == comma_sign) then list_any is_ascii_alphanumeric after else is_ascii_kept letter
+-- the mark of a byte that is deleted
+abbrev pub deleted_mark : ℕ
+deleted_mark = 0x20
+
+-- the mark of a byte that becomes a blank
+abbrev pub blank_mark : ℕ
+blank_mark = 0x21
+
+-- what a byte becomes where no comma is awaited: its lower case where it is kept, or a mark
+abbrev pub read_as : ℕ → ℕ
+read_as b =
+    if is_ascii_deleted b then deleted_mark else
+    (if is_ascii_kept b then to_ascii_lowercase b else blank_mark)

@@ -19,6 +19,10 @@ joined_words words = join_with_byte blank (filter (λ word. not (is_empty word))
 abbrev pub after_gap : List ℕ → Bool → List ℕ
 after_gap text gap = if gap && not (is_empty text) then text ++ blank ∷ [] else text
 
+-- how many blanks a gap may add
+abbrev pub gap_room : Bool → ℕ
+gap_room gap = if gap then 1 else 0
+
 -- two texts, with one blank between them where neither is empty
 abbrev pub joined : List ℕ → List ℕ → List ℕ
 joined text more = if is_empty more then text else after_gap text true ++ more

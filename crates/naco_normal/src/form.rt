@@ -1,13 +1,14 @@
 //! The normal form of a text, as `normal_form` in `specs/Normal.antt` has it.
 //!
 //! A text of ASCII goes through `ascii`, any other through `letters`; both meet the same clause.
-ghost use Rattle.std.specs.Prelude.{◌≡◌, chars, encode_utf8_all, IfOk, OnOk};
+ghost use Rattle.std.specs.Prelude.{◌≡◌, chars, encode_utf8_all, IsUtf8, IfOk, OnOk};
 ghost use Rattle.naco_normal.specs.Normal.{normal_form};
 ghost use Rattle.naco_normal.specs.Words.{joined};
 
 use crate::ascii::append_ascii;
 use crate::letters::{append_letters, letters};
 use std::alloc::Global;
+use std::str;
 use union_base::bytes::Bytes;
 use union_base::memory::Memory;
 
@@ -44,7 +45,7 @@ impl Comma {
 pub fn normal(alloc: Global, text: &str, comma: Comma) -> Result<Bytes, Memory>
     ensures { IfOk result (λ b. b ≡ encode_utf8_all (normal_form comma (chars text.now))) }
 {
-    let mut form = Vec::with_capacity(alloc, text.len())?;
+    let mut form = Vec::with_capacity(alloc, text.len() + 1)?;
     append_form(alloc, &mut form, text, comma)?;
     Ok(Bytes::from(form))
 }
@@ -63,6 +64,35 @@ pub(crate) fn append_form(
         append_ascii(form, text.as_bytes(), comma)
     } else {
         append_any(alloc, form, text, comma)
+    }
+}
+
+/// The same of a text's bytes, which are tested for UTF-8 only where one of them isn't ASCII.
+pub(crate) fn append_text(
+    alloc: Global,
+    form: &mut Vec<u8>,
+    text: &[u8],
+    comma: Comma,
+) -> Result<(), Memory>
+    requires { IsUtf8 text.now }
+    ensures { OnOk result (form.new.items ≡ joined form.old.items
+        (encode_utf8_all (normal_form comma (chars text.now)))) }
+{
+    if text.is_ascii() {
+        append_ascii(form, text, comma)
+    } else {
+        append_any(alloc, form, as_text(text), comma)
+    }
+}
+
+/// The bytes as a text.
+pub(crate) fn as_text(bytes: &[u8]) -> &str
+    requires { IsUtf8 bytes.now }
+    ensures { result.now ≡ bytes.now }
+{
+    match str::from_utf8(bytes) {
+        Ok(text) => text,
+        Err(_) => unreachable!(),
     }
 }
 

@@ -5,9 +5,8 @@ ghost use Rattle.naco_normal.specs.Heading.{heading_of, title_of, skipped};
 ghost use Rattle.naco_normal.specs.Parts.{first_form, subfield_form, parts_of};
 ghost use Rattle.naco_normal.specs.Words.{joined};
 
-use crate::form::{Comma, append_form};
+use crate::form::{Comma, append_form, append_text, as_text};
 use std::alloc::Global;
-use std::str;
 use union_base::bytes::Bytes;
 use union_base::memory::Memory;
 use union_base::subfield::Subfield;
@@ -88,11 +87,10 @@ fn append_subfield(
     ensures { OnOk result (form.new.items ≡ joined form.old.items
         (subfield_form first seen subfield.now)) }
 {
-    let text = text_of(subfield);
     if seen || subfield.code != MAIN_CODE {
-        append_form(alloc, form, text, Comma::None)
+        append_text(alloc, form, subfield.text, Comma::None)
     } else {
-        append_first(alloc, form, text, first)
+        append_first(alloc, form, subfield.text, first)
     }
 }
 
@@ -100,25 +98,19 @@ fn append_subfield(
 fn append_first(
     alloc: Global,
     form: &mut Vec<u8>,
-    text: &str,
+    text: &[u8],
     first: FirstPart,
 ) -> Result<(), Memory>
+    requires { IsUtf8 text.now }
     ensures { OnOk result (form.new.items ≡ joined form.old.items (first_form first text.now)) }
 {
     match first {
-        FirstPart::WithComma => append_form(alloc, form, text, Comma::First),
-        FirstPart::Behind(skip) => append_form(alloc, form, behind(text, skip), Comma::None),
-    }
-}
-
-/// The text of the subfield.
-fn text_of<'a>(subfield: &Subfield<'a>) -> &'a str
-    requires { IsUtf8 subfield.now.text }
-    ensures { result.now ≡ subfield.now.text }
-{
-    match str::from_utf8(subfield.text) {
-        Ok(text) => text,
-        Err(_) => unreachable!(),
+        FirstPart::WithComma => append_text(alloc, form, text, Comma::First),
+        FirstPart::Behind(0) => append_text(alloc, form, text, Comma::None),
+        FirstPart::Behind(skip) => {
+            let text = as_text(text);
+            append_form(alloc, form, behind(text, skip), Comma::None)
+        }
     }
 }
 

@@ -2,8 +2,8 @@
 //!
 //! A form is grown in place: a gap is remembered, and its one blank is written only once a character follows, so runs
 //! of blanks and blanks at the ends never come to be.
-ghost use Rattle.std.specs.Prelude.{◌≡◌, [], ◌∷◌, ◌++◌, encode_utf8, if◌then◌else◌, OnOk};
-ghost use Rattle.naco_normal.specs.Words.{after_gap};
+ghost use Rattle.std.specs.Prelude.{◌≡◌, ◌≤◌, ◌+◌, [], ◌∷◌, ◌++◌, encode_utf8, if◌then◌else◌, not, OnOk, vec_len, vec_capacity};
+ghost use Rattle.naco_normal.specs.Words.{after_gap, gap_room};
 
 use union_base::memory::Memory;
 
@@ -23,22 +23,22 @@ pub(crate) fn push_shown(form: &mut Vec<u8>, gap: bool, shown: bool, c: char) ->
     Ok(())
 }
 
-/// The same of an ASCII character.
-pub(crate) fn push_shown_byte(
-    form: &mut Vec<u8>,
-    gap: bool,
-    shown: bool,
-    byte: u8,
-) -> Result<(), Memory>
-    ensures { OnOk result (form.new.items ≡ (if shown then after_gap form.old.items gap
-        ++ byte ∷ [] else form.old.items)) }
+/// The same of an ASCII character, where the text has room for it and for the blank of a gap. Takes no memory.
+pub(crate) fn push_shown_byte(form: &mut Vec<u8>, gap: bool, shown: bool, byte: u8)
+    requires { vec_len form.old + gap_room gap + 1 ≤ vec_capacity form.old }
+    ensures items { form.new.items ≡ (if shown then after_gap form.old.items gap
+        ++ byte ∷ [] else form.old.items) }
+    ensures room { vec_len form.new + gap_room (not shown) ≤ vec_len form.old + gap_room gap + 1 }
+    ensures capacity { vec_capacity form.new ≡ vec_capacity form.old }
 {
     if !shown {
-        return Ok(());
+        return;
     }
-    open_word(form, gap)?;
-    form.push(byte)?;
-    Ok(())
+    let opens = gap && !form.is_empty();
+    if opens {
+        form.push_reserved(BLANK);
+    }
+    form.push_reserved(byte);
 }
 
 /// Appends one blank where a gap comes after a word.
