@@ -1,4 +1,3 @@
-pub mod StreamLaws
 pub mod TallyLaws
 pub mod NoteLaws
 pub mod RunLaws

@@ -6,11 +6,10 @@ use Rattle.std.specs.Io.KnownBytes.{Appends, Keeps}
 use Rattle.names_file.specs.Named.{Named, IsNamedBy, ReadsNames, names_file, names_inputs}
 use Rattle.union_io.specs.Counts.{SameCounts}
 use Rattle.union_io.specs.Writing.{AppendsFront}
-use Rattle.union_script.specs.Inputs as all
-use Rattle.union_script.specs.Texts.{Contents}
-use Rattle.union_script.proofs.FileLaws.{Counts, flow, stops_before}
-use Rattle.union_script.proofs.ScriptLaws.{told, within_none}
-use Rattle.union_script.proofs.TextLaws.{on_both}
+use Rattle.union_inputs.specs.Inputs as all
+use Rattle.union_inputs.specs.Inputs.{Contents}
+use Rattle.union_inputs.proofs.FileLaws.{Counts, flow, stops_before}
+use Rattle.union_inputs.proofs.InputLaws.{told, within_none, on_both}
 use Rattle.union_words.specs.Words.{LibraryFile, Loading}
 use Rattle.union_words.specs.declared.status.Status.{Status}
 use Rattle.union_words.specs.declared.status.Status.TheVariants.{OpenFault, ReadFault, Usage, WriteFault, TooLong, Memory}

@@ -6,9 +6,9 @@ use Rattle.names_file.specs.Named.{Named, IsNamedBy}
 use Rattle.union_words.specs.Flows.{ShelfFlow, IsCalm, Outflow}
 use Rattle.union_words.specs.Statuses.{end_by}
 use Rattle.union_words.specs.declared.status.Status.{Status}
-use Rattle.union_script.specs.Inputs as all
-use Rattle.union_script.specs.Texts.{Contents}
-use Rattle.union_script.proofs.TextLaws.{on_both}
+use Rattle.union_inputs.specs.Inputs as all
+use Rattle.union_inputs.specs.Inputs.{Contents}
+use Rattle.union_inputs.proofs.InputLaws.{on_both}
 use Rattle.union_files.specs.Deliveries.{has_refused}
 use Rattle.union_files.specs.Inputs.{AreWithin}
 use Rattle.union_files.specs.declared.loaded.Loaded.{Loaded}

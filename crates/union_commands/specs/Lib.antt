@@ -1,4 +1,2 @@
 pub mod Tallies
-pub mod Stops
-pub mod Readings
 pub mod Runs

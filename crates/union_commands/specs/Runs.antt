@@ -31,26 +31,13 @@ use Rattle.union_words.specs.declared.input.Input.{Input}
 use Rattle.union_words.specs.declared.input.Input.TheVariants.{Library}
 use Rattle.union_words.specs.declared.status.Status.{Status}
 use Rattle.union_words.specs.declared.status.Status.TheVariants.{Done, DoneWithRefusals, Usage, OpenFault, ReadFault, WriteFault, TooLong, Memory}
-use Rattle.union_commands.specs.Readings.{IsOverfull}
+use Rattle.union_inputs.specs.Endings.{EndsAtInput, end_with}
 use Rattle.union_commands.specs.declared.shown.Shown.{Shown}
 use Rattle.union_commands.specs.declared.shown.Shown.TheVariants.{Export, Works}
-
--- how a run ends that came to its end
-abbrev pub end_with : List RefusedFrame → Status
-end_with [] = Done
-end_with (frame ∷ rest) = DoneWithRefusals
 
 -- how a check of a stream ends that is done
 abbrev pub end_of : List ℕ → Status
 end_of stream = end_with (refused (frames stream))
-
--- the statuses that come of an input which cannot be read to its end
-pub record EndsAtInput (input : Input) (flow : Inflow) (status : Status) : Type 0 where
-  pub open_fault : (i : Input) → status ≡ OpenFault i → (i ≡ input) × HasFailed flow
-  pub read_fault : (i : Input) → status ≡ ReadFault i → (i ≡ input) × HasFailed flow
-  pub too_long : (i : Input) → status ≡ TooLong i → (i ≡ input) × IsOverfull flow
-  pub too_long_where : (bytes : List ℕ) → flow.told ≡ Some bytes → most_bytes < length bytes → ¬ HasFailed flow
-      → (status ≡ TooLong input) ⊎ (status ≡ Memory)
 
 -- `check` of a library's file
 pub record IsCheck (library : List ℕ) (file : Inflow) (out : Outflow) (status : Status) : Type 0 where

@@ -4,24 +4,25 @@
 //! grows with the number of refused frames alone.
 ghost use Rattle.std.specs.Prelude.{◌≡◌, ◌≢◌, ◌++◌, ◌<◌, ◌+◌, List, length, IsTrue, IfOk, OnOk};
 ghost use Rattle.iso2709_frame.specs.Frames.{frames};
-ghost use Rattle.union_commands.specs.Readings.{Reads};
+ghost use Rattle.union_inputs.specs.Readings.{Reads};
 ghost use Rattle.union_reports.specs.Reports.{check_line, check_text};
-ghost use Rattle.union_commands.specs.Runs.{end_of, end_with, IsCheck};
+ghost use Rattle.union_commands.specs.Runs.{end_of, IsCheck};
+ghost use Rattle.library_batches.specs.Reading.{most_bytes};
 ghost use Rattle.library_batches.specs.Streams.{Frame};
 ghost use Rattle.union_words.specs.Statuses.{is_done};
 ghost use Rattle.union_words.specs.declared.input.Input.{Input as InputModel};
 ghost use Rattle.union_commands.specs.Tallies.{IsTally};
 
 use crate::counting::count_frame;
-use crate::stop_status::stop_status;
 use crate::tally::Tally;
-use library_batches::refused::RefusedFrame;
 use library_batches::stop::Stop;
 use library_stream::answer::Next;
 use library_stream::frame_reader::{FrameReader, LARGEST_SOURCE};
 use std::alloc::{AllocError, Global};
 use union_base::library_code::LibraryCode;
 use union_base::memory::Memory;
+use union_inputs::endings::end_with;
+use union_inputs::stops::stopped_with;
 use union_io::failed::Failed;
 use union_io::sink::{Sink, put_all};
 use union_io::source::Source;
@@ -39,7 +40,7 @@ struct Findings {
 /// Counts the frames of a source.
 fn count_frames<S: Source>(alloc: Global, source: &mut S) -> Result<Tally, Stop>
     ensures name { S.name source.new ≡ S.name source.old }
-    ensures reads { Reads result (record {
+    ensures reads { Reads most_bytes result (record {
       told = S.left source.old;
       before = S.faults source.old;
       after = S.faults source.new;
@@ -84,18 +85,6 @@ fn check_text(alloc: Global, library: &[u8], tally: &Tally) -> Result<Vec<u8>, A
     Ok(text)
 }
 
-/// How a run ends that refused these frames, and came to its end. Takes no memory.
-pub fn end_with(refused: &[RefusedFrame]) -> Status
-    ensures value { result ≡ end_with refused.now }
-    ensures done { IsTrue (is_done result) }
-{
-    if refused.is_empty() {
-        Status::Done
-    } else {
-        Status::DoneWithRefusals
-    }
-}
-
 /// What a check of the source has to write.
 fn check_source<S: Source>(
     alloc: Global,
@@ -103,7 +92,7 @@ fn check_source<S: Source>(
     source: &mut S,
 ) -> Result<Findings, Stop>
     ensures name { S.name source.new ≡ S.name source.old }
-    ensures reads { Reads result (record {
+    ensures reads { Reads most_bytes result (record {
       told = S.left source.old;
       before = S.faults source.old;
       after = S.faults source.new;
@@ -159,6 +148,6 @@ pub fn check_run<S: Source, O: Sink>(
             Ok(()) => found.end,
             Err(Failed) => Status::WriteFault,
         },
-        Err(stop) => stop_status(stop, Input::Library(*library)),
+        Err(stop) => stopped_with(stop, Input::Library(*library)),
     }
 }

@@ -7,7 +7,6 @@ pub mod counting;
 pub mod notes;
 pub mod shelved;
 pub mod shown;
-pub mod stop_status;
 pub mod tally;
 pub mod watching;
 pub mod writing;

@@ -1,6 +1,6 @@
 //! The command `watch`: what was loaded and asked is written, the text on `out` and the reports on `notes` after it.
 ghost use Rattle.std.specs.Prelude.{◌≡◌, ◌++◌, ◌||◌, map};
-ghost use Rattle.union_script.specs.Readings.{ReadsFile};
+ghost use Rattle.union_inputs.specs.Readings.{ReadsFile};
 ghost use Rattle.union_words.specs.Statuses.{end_by};
 ghost use Rattle.union_watch.specs.AskLines.{line_meaning};
 ghost use Rattle.union_watch.specs.Told.{told_of};
@@ -14,9 +14,9 @@ use std::alloc::Global;
 use union_base::bytes::Bytes;
 use union_base::memory::Memory;
 use union_files::loaded::Loaded;
+use union_inputs::text_file::read_text_file;
 use union_io::shelf::Shelf;
 use union_io::sink::Sink;
-use union_script::text_file::read_text_file;
 use union_watch::answered::Answered;
 use union_watch::writing::write_watch;
 use union_words::input::Input;

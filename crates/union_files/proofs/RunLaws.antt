@@ -16,12 +16,10 @@ use Rattle.union_words.specs.declared.input.Input.{Input}
 use Rattle.union_words.specs.declared.input.Input.TheVariants.{Library}
 use Rattle.union_words.specs.declared.status.Status.{Status}
 use Rattle.union_words.specs.declared.status.Status.TheVariants.{Done, DoneWithRefusals, Usage, OpenFault, ReadFault, WriteFault, TooLong, Memory}
-use Rattle.union_script.specs.Inputs as all
-use Rattle.union_script.specs.Readings as one
-use Rattle.union_script.specs.Texts.{Contents}
-use Rattle.union_script.proofs.LineLaws.{not_over}
-use Rattle.union_script.proofs.ScriptLaws.{none_fails, told, within_none}
-use Rattle.union_script.proofs.TextLaws.{on_both}
+use Rattle.union_inputs.specs.Inputs as all
+use Rattle.union_inputs.specs.Readings as one
+use Rattle.union_inputs.specs.Inputs.{Contents}
+use Rattle.union_inputs.proofs.InputLaws.{not_over, none_fails, told, within_none, on_both}
 use Rattle.union_files.specs.Inputs.{input_of, inputs_of, is_overfull, first_overfull, AreWithin, IsTooLongAt, IsElsewhere, IsEarliest, FailsEarliest, StopsAt}
 use Rattle.union_files.specs.Runs.{RunTexts, IsRunOver}
 use Rattle.union_files.proofs.InputLaws.{flow, same_more}

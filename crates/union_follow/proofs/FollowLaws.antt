@@ -9,7 +9,7 @@ use Rattle.library_batches.specs.declared.stop.Stop.TheVariants.{TooLong, Failed
 use Rattle.library_stream.specs.declared.frame_reader.TheConstants.{LARGEST_SOURCE}
 use Rattle.union_files.specs.Inputs.{AreWithin, OpenedState, file_of, files_of, is_overfull, first_overfull}
 use Rattle.union_io.specs.Files.{told_file}
-use Rattle.union_script.specs.Readings.{IsStop, Reads}
+use Rattle.union_inputs.specs.Readings.{IsStop, Reads}
 use Rattle.union_load.specs.declared.reports.Reports.{Reports}
 use Rattle.union_words.specs.Words.{LibraryFile}
 use Rattle.union_follow.specs.Turning.{AreCalm, AreTurnedFrom, AreUnread, HaltsIn, IsTurned, StopsIn}

@@ -6,7 +6,7 @@ ghost use Rattle.library_batches.specs.Reading.{begun};
 ghost use Rattle.library_stream.specs.declared.frame_reader.TheConstants.{LARGEST_SOURCE};
 ghost use Rattle.load_sessions.specs.Entries.{entries_of};
 ghost use Rattle.load_sessions.specs.Sessions.{counts_of};
-ghost use Rattle.union_script.specs.Readings.{Reads};
+ghost use Rattle.union_inputs.specs.Readings.{Reads};
 ghost use Rattle.union_follow.specs.Turning.{AreTurned, HasTurned, IsShown, IsTurned};
 
 use crate::turning::{Load, publish_batch};

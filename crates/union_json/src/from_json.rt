@@ -4,7 +4,7 @@ ghost use Rattle.json_lines.specs.Converting.{HasTaken};
 ghost use Rattle.json_lines.specs.Counts.{AreCounted, IsConverted};
 ghost use Rattle.json_lines.specs.Outcomes.{Ended};
 ghost use Rattle.library_batches.specs.Reading.{most_bytes};
-ghost use Rattle.union_commands.specs.Readings.{Reads};
+ghost use Rattle.union_inputs.specs.Readings.{Reads};
 ghost use Rattle.union_json.specs.FromJson.{IsFromJson, end_with, from_json_notes};
 ghost use Rattle.union_json.specs.Runs.{IsFromJsonRun};
 ghost use Rattle.union_json.specs.Texts.{making_of};
@@ -19,7 +19,7 @@ use library_batches::stop::Stop;
 use library_stream::frame_reader::LARGEST_SOURCE;
 use std::alloc::{AllocError, Global};
 use union_base::library_code::LibraryCode;
-use union_commands::stop_status::stop_status;
+use union_inputs::stops::stopped_with;
 use union_io::failed::Failed;
 use union_io::sink::Sink;
 use union_io::source::Source;
@@ -37,7 +37,7 @@ fn take_source<S: Source>(
 ) -> Result<(), Stop>
     requires { converter.old.findings.lines ≡ 0 }
     ensures name { S.name source.new ≡ S.name source.old }
-    ensures reads { Reads result (record {
+    ensures reads { Reads most_bytes result (record {
       told = S.left source.old;
       before = S.faults source.old;
       after = S.faults source.new;
@@ -65,7 +65,7 @@ fn take_source<S: Source>(
 /// What came of the lines of a source.
 fn convert<S: Source>(alloc: Global, source: &mut S) -> Result<Findings, Stop>
     ensures name { S.name source.new ≡ S.name source.old }
-    ensures reads { Reads result (record {
+    ensures reads { Reads most_bytes result (record {
       told = S.left source.old;
       before = S.faults source.old;
       after = S.faults source.new;
@@ -133,7 +133,7 @@ fn made_of(alloc: Global, library: &[u8], found: Findings) -> Result<Made, Alloc
 /// What is made of a source.
 fn make<S: Source>(alloc: Global, library: &LibraryCode, source: &mut S) -> Result<Made, Stop>
     ensures name { S.name source.new ≡ S.name source.old }
-    ensures reads { Reads result (record {
+    ensures reads { Reads most_bytes result (record {
       told = S.left source.old;
       before = S.faults source.old;
       after = S.faults source.new;
@@ -190,6 +190,6 @@ pub fn from_json_run<S: Source, O: Sink, N: Sink>(
 {
     match make(alloc, library, source) {
         Ok(made) => write_made(&made, out, notes),
-        Err(stop) => stop_status(stop, Input::Library(*library)),
+        Err(stop) => stopped_with(stop, Input::Library(*library)),
     }
 }

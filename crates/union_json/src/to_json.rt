@@ -1,11 +1,12 @@
 //! `tojson`: the accepted records of a library's file as lines of JSON.
 ghost use Rattle.std.specs.Prelude.{◌≡◌, ◌+◌, ◌<◌, ◌++◌, ◌∷◌, [], ℕ, List, None, Some, IsTrue, IfOk, OnOk};
 ghost use Rattle.iso2709_frame.specs.Frames.{frames, IsWhole};
+ghost use Rattle.library_batches.specs.Reading.{most_bytes};
 ghost use Rattle.library_batches.specs.Streams.{Frame, failure_of};
 ghost use Rattle.marc_fields.specs.Spelling.{Spells};
 ghost use Rattle.marc_fields.specs.declared.marc_record.Record.{Record as RecordModel};
 ghost use Rattle.marc_json.specs.Values.{json_line};
-ghost use Rattle.union_commands.specs.Readings.{Reads};
+ghost use Rattle.union_inputs.specs.Readings.{Reads};
 ghost use Rattle.union_json.specs.Runs.{IsToJsonRun};
 ghost use Rattle.union_json.specs.Texts.{making_of};
 ghost use Rattle.union_json.specs.ToJson.{AreWritten, IsToJson, to_json_notes};
@@ -26,8 +27,8 @@ use marc_rules::check::{Refusal, check_frame};
 use std::alloc::{AllocError, Global};
 use union_base::library_code::LibraryCode;
 use union_base::memory::Memory;
-use union_commands::check::end_with;
-use union_commands::stop_status::stop_status;
+use union_inputs::endings::end_with;
+use union_inputs::stops::stopped_with;
 use union_io::sink::Sink;
 use union_io::source::Source;
 use union_reports::lines::add_refused_lines;
@@ -103,7 +104,7 @@ fn write_frame(alloc: Global, done: &mut Written, cut: Cut, frame: &[u8]) -> Res
 /// Writes the lines of the frames of a source.
 fn write_frames<S: Source>(alloc: Global, source: &mut S) -> Result<Written, Stop>
     ensures name { S.name source.new ≡ S.name source.old }
-    ensures reads { Reads result (record {
+    ensures reads { Reads most_bytes result (record {
       told = S.left source.old;
       before = S.faults source.old;
       after = S.faults source.new;
@@ -161,7 +162,7 @@ fn made_of(alloc: Global, library: &[u8], done: Written) -> Result<Made, AllocEr
 /// What is made of a source.
 fn make<S: Source>(alloc: Global, library: &LibraryCode, source: &mut S) -> Result<Made, Stop>
     ensures name { S.name source.new ≡ S.name source.old }
-    ensures reads { Reads result (record {
+    ensures reads { Reads most_bytes result (record {
       told = S.left source.old;
       before = S.faults source.old;
       after = S.faults source.new;
@@ -218,6 +219,6 @@ pub fn to_json_run<S: Source, O: Sink, N: Sink>(
 {
     match make(alloc, library, source) {
         Ok(made) => write_made(&made, out, notes),
-        Err(stop) => stop_status(stop, Input::Library(*library)),
+        Err(stop) => stopped_with(stop, Input::Library(*library)),
     }
 }

@@ -3,7 +3,7 @@ use Rattle.std.proofs.Common.{◌≡◌, Bool, true, false, List, ◌++◌, inl,
 use Rattle.std.specs.Prelude.{Result, Ok, Err, IfOk, IfErr, IfSome, ◌||◌, ◌⊎◌}
 use Rattle.catalogue_core.specs.Catalogues.{CatalogueValue}
 use Rattle.names_file.specs.Named.{Named}
-use Rattle.union_script.specs.Texts.{Contents}
+use Rattle.union_inputs.specs.Inputs.{Contents}
 use Rattle.union_words.specs.Flows.{ShelfFlow, IsCalm, Outflow, IsNoted}
 use Rattle.union_words.specs.Statuses.{is_early, end_by}
 use Rattle.union_words.specs.Texts.{early_text}

@@ -1,5 +1,3 @@
-pub mod FileLaws
-pub mod SourceLaws
 pub mod BatchLaws
 pub mod NoticeLaws
 pub mod DigitLaws

@@ -1,8 +1,7 @@
 -- What one line does.
 use Rattle.std.proofs.Common.{◌≡◌, ℕ, ◌≤◌, Bool, true, false, cond, List, [], ◌∷◌, length, inl, inr, refl, sym, ap, subst, ◌∙◌}
-use Rattle.std.specs.Prelude.{Option, Some, None, IfSome, Result, Ok, Err, ◌||◌, ◌⊎◌, nat_lt}
+use Rattle.std.specs.Prelude.{Option, Some, None, IfSome, Result, Ok, Err, ◌||◌, ◌⊎◌}
 use Rattle.std.proofs.KnownBytes.{Appends-nil}
-use Rattle.std.proofs.lemmas.Bool.{le-ltb}
 use Rattle.catalogue_core.specs.declared.history_entry.HistoryEntry.{HistoryEntry}
 use Rattle.union_io.specs.Causes.{Rose}
 use Rattle.union_io.specs.Counts.{SameCounts, SameElsewhere}
@@ -13,13 +12,15 @@ use Rattle.union_words.specs.declared.input.Input.{Input}
 use Rattle.union_words.specs.declared.input.Input.TheVariants.{Library}
 use Rattle.union_words.specs.declared.status.Status.{Status}
 use Rattle.union_words.specs.declared.status.Status.TheVariants.{Done, DoneWithRefusals, Usage, OpenFault, ReadFault, WriteFault, TooLong, Memory}
-use Rattle.union_script.specs.Inputs.{limit_of, files_loaded, AreWithin}
+use Rattle.union_script.specs.Inputs.{files_loaded}
+use Rattle.union_inputs.specs.Inputs.{limit_of, AreWithin, Contents}
 use Rattle.union_script.specs.Lines.{WritesFirst, StopsLoading, FailsUnder, LinesStop, LinesRun, Says}
-use Rattle.union_script.specs.Readings.{StopsAt}
-use Rattle.union_script.specs.Texts.{Contents, Writes, is_refused}
-use Rattle.union_script.proofs.FileLaws.{Counts, flow}
+use Rattle.union_inputs.specs.Readings.{StopsAt}
+use Rattle.union_script.specs.Texts.{Writes, is_refused}
+use Rattle.union_inputs.proofs.FileLaws.{Counts, flow}
 use Rattle.union_script.proofs.StopLaws.{Known, outflow}
-use Rattle.union_script.proofs.TextLaws.{on_files, on_all, text_of_one, front_none}
+use Rattle.union_script.proofs.TextLaws.{text_of_one, front_none}
+use Rattle.union_inputs.proofs.InputLaws.{not_over, on_files, on_all}
 
 -- the line writes that text, the file that it loads is not too long, and so much is refused
 pub record Does (contents : Contents) (line : ScriptLine) (history now : List HistoryEntry) (text : List ℕ) (told : Bool) : Type 0 where
@@ -163,10 +164,6 @@ stop_at_file Done told file history shelf written x z stops = absurd stops
 stop_at_file DoneWithRefusals told file history shelf written x z stops = absurd stops
 stop_at_file Usage told file history shelf written x z stops = absurd stops
 stop_at_file WriteFault told file history shelf written x z stops = absurd stops
-
--- a file that is not too long
-pub not_over : (limit n : ℕ) → n ≤ limit → nat_lt limit n ≡ false
-not_over limit n fits = le-ltb limit n fits
 
 pub one_within : (contents : Contents) (told : Bool) (file : LibraryFile) → length (contents file.path) ≤ limit_of (Library file.library)
     → AreWithin contents (files_loaded (Load told file ∷ []))

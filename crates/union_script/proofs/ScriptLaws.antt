@@ -8,7 +8,6 @@ use Rattle.std.proofs.lemmas.Bool.{lt-ltb}
 use Rattle.std.proofs.lemmas.List.Folds.{find-append}
 use Rattle.std.proofs.lemmas.Option.{same_Some}
 use Rattle.catalogue_core.specs.declared.history_entry.HistoryEntry.{HistoryEntry}
-use Rattle.union_io.specs.Causes.{Rose}
 use Rattle.union_io.specs.Counts.{SameCounts}
 use Rattle.union_words.specs.Flows.{ShelfFlow, IsCalm, InputFile, IsOneOf, FailsAt, NoneFails, Outflow, HasFailedAt}
 use Rattle.union_words.specs.ScriptLines.{ScriptLine, Load}
@@ -18,15 +17,17 @@ use Rattle.union_words.specs.declared.input.Input.{Input}
 use Rattle.union_words.specs.declared.input.Input.TheVariants.{Library, Script}
 use Rattle.union_words.specs.declared.status.Status.{Status}
 use Rattle.union_words.specs.declared.status.Status.TheVariants.{Done, DoneWithRefusals, Usage, OpenFault, ReadFault, WriteFault, TooLong, Memory}
-use Rattle.union_script.specs.Inputs.{files_loaded, inputs_with, inputs_of, is_overfull, first_overfull, AreWithin, IsTooLongAt}
+use Rattle.union_script.specs.Inputs.{files_loaded, inputs_with, inputs_of}
+use Rattle.union_inputs.specs.Inputs.{is_overfull, first_overfull, AreWithin, IsTooLongAt, Contents}
 use Rattle.union_script.specs.Lines.{HasRun, WritesFront, StopsLoading, StopsFor, FailsUnder, LinesStop, LinesRun}
-use Rattle.union_script.specs.Readings.{StopsAt}
+use Rattle.union_inputs.specs.Readings.{StopsAt}
 use Rattle.union_script.specs.Runs.{WritesAll, WritesBefore, IsFaultAt, named_by, IsScript}
-use Rattle.union_script.specs.Texts.{Contents, script_of, has_refusals}
-use Rattle.union_script.proofs.FileLaws.{Counts, flow, same_more}
-use Rattle.union_script.proofs.LineLaws.{library_input, not_over}
+use Rattle.union_script.specs.Texts.{script_of, has_refusals}
+use Rattle.union_inputs.proofs.FileLaws.{Counts, flow, same_more}
+use Rattle.union_script.proofs.LineLaws.{library_input}
+use Rattle.union_inputs.proofs.InputLaws.{none_fails, not_over, on_files, on_all, told, within_none}
 use Rattle.union_script.proofs.StopLaws.{Known, outflow, stop_behind}
-use Rattle.union_script.proofs.TextLaws.{on_files, on_all, files_behind, front_none, run_none}
+use Rattle.union_script.proofs.TextLaws.{files_behind, front_none, run_none}
 
 -- a run, but for what comes where nothing fails
 pub record HasEnded (path : List ℕ) (shelf : ShelfFlow) (out : Outflow) (status : Status) : Type 0 where
@@ -43,27 +44,10 @@ pub record HasEnded (path : List ℕ) (shelf : ShelfFlow) (out : Outflow) (statu
   pub part : (status ≡ WriteFault) ⊎ (status ≡ Memory)
       → IfSome shelf.files (λ contents. WritesFront contents (script_of (contents path)) [] out.old out.new)
 
--- something failed under one of the names, so it is not so that nothing did
-none_at : (shelf : ShelfFlow) (file : InputFile) (inputs : List InputFile) → IsOneOf file inputs → NoneFails inputs shelf
-    → ¬ Rose (shelf.before file.path) (shelf.after file.path)
-none_at shelf file [] one none = absurd one
-none_at shelf file (first ∷ rest) (inl is) none = subst (λ f. ¬ Rose (shelf.before f.path) (shelf.after f.path)) (sym is) none.0
-none_at shelf file (first ∷ rest) (inr more) none = none_at shelf file rest more none.1
-
-pub none_fails : (inputs : List InputFile) (shelf : ShelfFlow) (input : Input) → FailsAt inputs shelf input → NoneFails inputs shelf → ⊥
-none_fails inputs shelf input fails none = none_at shelf fails.file inputs fails.one none fails.failed
-
-pub told : (P : Contents → Type 0) (files : Option Contents) (contents : Contents) → files ≡ Some contents → IfSome files P → P contents
-told P files contents is holds = subst (λ fs. IfSome fs P) is holds
-
 no_fault : (path : List ℕ) (shelf : ShelfFlow) (contents : Contents) (i : Input) → shelf.files ≡ Some contents → IsFaultAt shelf.files path shelf i
     → NoneFails (inputs_of contents path) shelf → ⊥
 no_fault path shelf contents i is fault none =
     none_fails (inputs_of contents path) shelf i (subst (λ files. IsFaultAt files path shelf i) is fault) none
-
-pub within_none : (contents : Contents) (inputs : List InputFile) (input : Input) → AreWithin contents inputs → IsTooLongAt contents inputs input → ⊥
-within_none contents inputs input within found =
-    let clash : None ≡ Some input = sym (ap (option_map (λ (file : InputFile). file.input)) within) ∙ found in cc
 
 -- where an input is too long, and nothing fails
 long_where : (path : List ℕ) (shelf : ShelfFlow) (out : Outflow) (status : Status) → HasEnded path shelf out status

@@ -1,6 +1,6 @@
 -- Lines of a script one after the other: their texts, the files that they load, and whether something is refused.
 use Rattle.std.proofs.Common.{◌≡◌, ℕ, ◌+◌, Bool, true, false, not, cond, List, [], ◌∷◌, ◌++◌, length, take, refl, sym, ap, subst, ◌∙◌, arith, append_assoc, append-nil, length-append}
-use Rattle.std.specs.Prelude.{Option, Some, None, IfSome, ◌||◌, map, filter}
+use Rattle.std.specs.Prelude.{Option, ◌||◌, map, filter}
 use Rattle.std.specs.List.{find}
 use Rattle.std.specs.Option.{option_or}
 use Rattle.std.proofs.Math.Seq.{take-append-add}
@@ -14,23 +14,10 @@ use Rattle.catalogue_core.specs.declared.history_entry.HistoryEntry.{HistoryEntr
 use Rattle.union_io.specs.Writing.{AppendsFront}
 use Rattle.union_words.specs.Lines.{is_skipped}
 use Rattle.union_words.specs.ScriptLines.{ScriptLine, script_line}
-use Rattle.union_script.specs.Inputs.{loaded_by, files_loaded, is_overfull, AreWithin}
+use Rattle.union_script.specs.Inputs.{loaded_by, files_loaded}
+use Rattle.union_inputs.specs.Inputs.{is_overfull, AreWithin, Contents}
 use Rattle.union_script.specs.Lines.{HasRun}
-use Rattle.union_script.specs.Texts.{Contents, asked_by, told_line, tells_after, told_from, told_after, Writes, ScriptText, is_refused, has_refusals}
-
--- what follows for the files that are told
-pub on_files : {P Q : Contents → Type 0} (files : Option Contents) → ((contents : Contents) → P contents → Q contents) → IfSome files P → IfSome files Q
-on_files None follows holds = tt
-on_files (Some contents) follows holds = follows contents holds
-
-pub on_both : {P Q R : Contents → Type 0} (files : Option Contents) → ((contents : Contents) → P contents → Q contents → R contents)
-    → IfSome files P → IfSome files Q → IfSome files R
-on_both None follows one two = tt
-on_both (Some contents) follows one two = follows contents one two
-
-pub on_all : {P : Contents → Type 0} (files : Option Contents) → ((contents : Contents) → P contents) → IfSome files P
-on_all None holds = tt
-on_all (Some contents) holds = holds contents
+use Rattle.union_script.specs.Texts.{asked_by, told_line, tells_after, told_from, told_after, Writes, ScriptText, is_refused, has_refusals}
 
 -- what lines ask for, one part after the other
 pub asked_behind : (lines others : List (List ℕ)) → asked_by (lines ++ others) ≡ asked_by lines ++ asked_by others

@@ -2,7 +2,6 @@ pub mod LineTexts
 pub mod Notices
 pub mod Texts
 pub mod Inputs
-pub mod Readings
 pub mod Batches
 pub mod Lines
 pub mod Runs

@@ -10,9 +10,10 @@ use Rattle.union_words.specs.declared.input.Input.{Input}
 use Rattle.union_words.specs.declared.input.Input.TheVariants.{Library, Asks, Script, Names}
 use Rattle.union_words.specs.declared.status.Status.{Status}
 use Rattle.union_words.specs.declared.status.Status.TheVariants.{Done, DoneWithRefusals, Usage, OpenFault, ReadFault, WriteFault, TooLong, Memory}
-use Rattle.union_script.specs.Inputs.{inputs_of, AreWithin, IsTooLongAt}
+use Rattle.union_script.specs.Inputs.{inputs_of}
+use Rattle.union_inputs.specs.Inputs.{AreWithin, IsTooLongAt, Contents}
 use Rattle.union_script.specs.Lines.{FailsUnder, StopsLoading, StopsFor, WritesFront}
-use Rattle.union_script.specs.Texts.{Contents, script_of, ScriptText, has_refusals}
+use Rattle.union_script.specs.Texts.{script_of, ScriptText, has_refusals}
 
 -- the whole text of the script was written
 pub record WritesAll (contents : Contents) (script : List ScriptLine) (out : Outflow) : Type 0 where

@@ -23,12 +23,9 @@ use Rattle.library_batches.specs.Outcomes.{found_in}
 use Rattle.union_reports.specs.Reports.{report_text}
 use Rattle.union_words.specs.Lines.{lines_of, kept}
 use Rattle.union_words.specs.ScriptLines.{ScriptLine, Load, Export, Works, Notices, Ask, Word, script_line}
+use Rattle.union_inputs.specs.Inputs.{Contents}
 use Rattle.union_script.specs.Notices.{TellsTurns}
 pub use Rattle.union_script.specs.LineTexts.{refused_word, refused_unknown, ended_lines}
-
--- what is in the file of each name
-abbrev pub Contents : Type 0
-Contents = List ℕ → List ℕ
 
 -- what lines ask for, in their order, but for those that are skipped
 abbrev pub asked_by : List (List ℕ) → List ScriptLine

@@ -3,7 +3,7 @@
 //! A line loads the file of a library, writes the export, lists the works, has the turns of later loads told, or asks something. Each line's text is written before the next line
 //! is run, and the first fault ends the run. `run::script_run` does it, and its contract is `IsScript` of specs/Runs.antt; what
 //! a line writes and how it changes the catalogue's history is `Writes` of specs/Texts.antt. A file of questions has lines that
-//! are read and told in the same way: `text_file` reads either whole, and `line_texts` has what is told of a line.
+//! are read and told in the same way: `line_texts` has what is told of a line.
 //!
 //! Guarantee: what is written is exactly the text of the lines that were run, and each status comes for its own cause. Cost:
 //! the script is kept whole while it runs, and a library's file is read piece by piece; memory grows with the catalogue and
@@ -18,7 +18,4 @@ mod loading;
 mod noticing;
 pub mod run;
 mod saying;
-pub mod stops;
-pub mod text_file;
 mod union;
-mod whole;

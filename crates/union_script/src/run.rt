@@ -8,7 +8,6 @@ ghost use Rattle.union_script.specs.Runs.{IsScript};
 ghost use Rattle.union_script.specs.Texts.{script_of};
 
 use crate::lines::run_lines;
-use crate::text_file::read_text_file;
 use crate::union::Union;
 use catalogue_core::catalogue::Catalogue;
 use merge_laws::steps::Steps;
@@ -18,6 +17,7 @@ use std::mem::forget;
 use std::sync::ledger::{Blank, Ledger};
 use union_base::bytes::Bytes;
 use union_base::memory::Memory;
+use union_inputs::text_file::read_text_file;
 use union_io::shelf::Shelf;
 use union_io::sink::Sink;
 use union_words::input::Input;

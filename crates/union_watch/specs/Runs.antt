@@ -6,7 +6,7 @@ use Rattle.authority_names.specs.Leads.{Table}
 use Rattle.catalogue_editions.specs.declared.batch.Batch.{Batch}
 use Rattle.catalogue_core.specs.declared.history_entry.HistoryEntry.{HistoryEntry}
 use Rattle.names_file.specs.Named.{Named, IsNamedBy, names_inputs}
-use Rattle.union_script.specs.Texts.{Contents}
+use Rattle.union_inputs.specs.Inputs.{Contents}
 use Rattle.union_words.specs.Flows.{ShelfFlow, InputFile, Outflow}
 use Rattle.union_words.specs.Statuses.{end_by}
 use Rattle.union_words.specs.Words.{LibraryFile, Loading}

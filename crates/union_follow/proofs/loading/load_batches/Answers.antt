@@ -7,9 +7,9 @@ use Rattle.library_stream.specs.Streaming.{most_ahead}
 use Rattle.library_stream.specs.declared.frame_reader.TheConstants.{LARGEST_SOURCE}
 use Rattle.load_sessions.specs.Entries.{entries_of}
 use Rattle.load_sessions.specs.Tallies.{found as found_under}
-use Rattle.load_sessions.proofs.TallyLaws.{found-none}
-use Rattle.union_script.proofs.BatchLaws.{Hands, hands_none, hands_more, hands_rest, few_outcomes}
-use Rattle.union_script.proofs.SourceLaws.{on_told}
+use Rattle.load_sessions.proofs.TallyLaws.{found-none, few_ops, length-outcomes}
+use Rattle.union_inputs.proofs.BatchLaws.{Hands, hands_none, hands_more, hands_rest}
+use Rattle.union_inputs.proofs.SourceLaws.{on_told}
 use Rattle.union_follow.proofs.EntryLaws.{found_one_more, turns_as_more}
 use Rattle.union_follow.proofs.loading.load_batches.Goals as goal
 
@@ -65,7 +65,7 @@ loop-batch-preserved g c =
       applied = c.in_ok-found.ensures.appended ∙ ap (λ h. h ++ record { pass = pass; batch = batch } ∷ []) before.applied
           ∙ turns_as_more c.args.load.now.catalogue.history pass before.batches batch;
       found = subst (λ found. AreCounted found c.count.new.self) all (c.count.ensures.more (found_under (entries_of history) pass) before.found);
-      few = omega (arith, c.count.ensures.total, ap length items, few_outcomes batch (current history), fewer, before.few);
+      few = omega (arith, c.count.ensures.total, ap length items, length-outcomes batch.library (current history) batch.ops, few_ops batch, fewer, before.few);
     }
 
 pub returns-clause-reads : goal.returns-clause-reads

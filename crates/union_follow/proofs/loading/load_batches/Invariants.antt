@@ -5,7 +5,7 @@ use Rattle.library_stream.specs.Streaming.{most_ahead}
 use Rattle.library_stream.specs.declared.frame_reader.TheConstants.{LARGEST_SOURCE}
 use Rattle.load_sessions.specs.Entries.{entries_of}
 use Rattle.load_sessions.specs.Tallies.{found as found_under}
-use Rattle.union_script.proofs.BatchLaws.{Hands}
+use Rattle.union_inputs.proofs.BatchLaws.{Hands}
 use Rattle.union_follow.specs.Turning.{IsShown, turns_as}
 use Rattle.union_follow.proofs.loading.load_batches.Given as goal
 

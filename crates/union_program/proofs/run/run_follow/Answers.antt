@@ -2,9 +2,9 @@ use Rattle.std.proofs.Common.{◌≡◌, ◌≤◌, ◌++◌, [], length, refl, 
 use Rattle.std.specs.Prelude.{IfSome}
 use Rattle.names_file.specs.Named.{no_names}
 use Rattle.union_words.specs.Meanings.{libraries_meaning}
-use Rattle.union_script.specs.Inputs as all
-use Rattle.union_script.specs.declared.text_file.TheConstants.{LARGEST_TEXT}
-use Rattle.union_script.proofs.FileLaws.{flow, same_more}
+use Rattle.union_inputs.specs.Inputs as all
+use Rattle.union_inputs.specs.declared.text_file.TheConstants.{LARGEST_TEXT}
+use Rattle.union_inputs.proofs.FileLaws.{flow, same_more}
 use Rattle.union_files.specs.Inputs.{AreWithin, StopsAt}
 use Rattle.union_files.proofs.RunLaws.{stopped_at_libraries, within_cons}
 use Rattle.union_follow.specs.Following.{HasFollowed}

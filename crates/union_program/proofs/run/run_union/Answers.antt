@@ -3,8 +3,8 @@ use Rattle.std.specs.Prelude.{IfSome}
 use Rattle.std.specs.Option.{option_copied}
 use Rattle.names_file.specs.Named.{named_by, names_inputs}
 use Rattle.names_file.proofs.NamesLaws.{names_read}
-use Rattle.union_script.proofs.FileLaws.{flow, same_more}
-use Rattle.union_script.proofs.TextLaws.{on_all}
+use Rattle.union_inputs.proofs.FileLaws.{flow, same_more}
+use Rattle.union_inputs.proofs.InputLaws.{on_all}
 use Rattle.union_words.specs.Meanings.{loading_meaning}
 use Rattle.union_files.specs.Inputs.{AreWithin, StopsAt}
 use Rattle.union_files.specs.Interleavings.{IsInterleaving}

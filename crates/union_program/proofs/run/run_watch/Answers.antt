@@ -3,10 +3,10 @@ use Rattle.std.specs.Prelude.{◌||◌, Err, IfSome}
 use Rattle.names_file.specs.Named.{named_by, IsNamedBy, names_inputs, ReadsNames}
 use Rattle.names_file.proofs.NamesLaws.{names_read}
 use Rattle.union_words.specs.Meanings.{loading_meaning}
-use Rattle.union_script.specs.Inputs as all
-use Rattle.union_script.specs.declared.text_file.TheConstants.{LARGEST_TEXT}
-use Rattle.union_script.proofs.FileLaws.{flow, same_more}
-use Rattle.union_script.proofs.TextLaws.{on_both}
+use Rattle.union_inputs.specs.Inputs as all
+use Rattle.union_inputs.specs.declared.text_file.TheConstants.{LARGEST_TEXT}
+use Rattle.union_inputs.proofs.FileLaws.{flow, same_more}
+use Rattle.union_inputs.proofs.InputLaws.{on_both}
 use Rattle.union_files.specs.Inputs.{AreWithin, StopsAt}
 use Rattle.union_files.specs.Interleavings.{IsInterleaving}
 use Rattle.union_files.proofs.RunLaws.{stopped_at_libraries, within_cons}

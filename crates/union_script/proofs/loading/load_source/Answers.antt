@@ -5,7 +5,8 @@ use Rattle.iso2709_frame.specs.Frames.{frames}
 use Rattle.library_batches.specs.Batches.{AreBatches}
 use Rattle.library_batches.specs.Outcomes.{found_in}
 use Rattle.union_reports.specs.Reports.{report_text}
-use Rattle.union_script.proofs.SourceLaws.{on_told, some_of}
+use Rattle.union_inputs.proofs.SourceLaws.{on_told}
+use Rattle.union_script.proofs.BatchLaws.{some_of}
 use Rattle.union_script.proofs.loading.load_source.Goals as goal
 
 pub returns-clause-reads : goal.returns-clause-reads

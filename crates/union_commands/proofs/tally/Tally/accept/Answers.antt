@@ -1,7 +1,8 @@
 use Rattle.std.proofs.Common.{◌≡◌, ◌+◌, true, false, not, cond, sym, ap, ◌∙◌, add-zero}
 use Rattle.std.proofs.lemmas.List.{length_push}
 use Rattle.marc_parts.specs.Loads.{is_deleted}
-use Rattle.union_commands.proofs.TallyLaws.{refused-accepted_more, withdrawals-one_more, loads-one_more}
+use Rattle.union_commands.proofs.TallyLaws.{withdrawals-one_more, loads-one_more}
+use Rattle.union_inputs.proofs.FrameLaws.{refused-accepted_more}
 use Rattle.union_reports.specs.Reports.{loads, withdrawals}
 use Rattle.union_commands.proofs.tally.Tally.accept.Goals as goal
 

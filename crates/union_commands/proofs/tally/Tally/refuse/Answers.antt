@@ -1,7 +1,7 @@
 use Rattle.std.proofs.Common.{◌+◌, sym, ap, ◌∙◌}
 use Rattle.std.specs.Prelude.{count_by, not}
 use Rattle.std.proofs.lemmas.List.{length_push}
-use Rattle.union_commands.proofs.TallyLaws.{accepted-refused_more, refused-one_more}
+use Rattle.union_inputs.proofs.FrameLaws.{accepted-refused_more, refused-one_more}
 use Rattle.union_reports.specs.Reports.{is_withdrawing}
 use Rattle.union_commands.proofs.tally.Tally.refuse.Goals as goal
 

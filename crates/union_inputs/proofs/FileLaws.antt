@@ -10,9 +10,8 @@ use Rattle.union_words.specs.declared.status.Status.TheVariants.{Done, DoneWithR
 use Rattle.union_words.specs.declared.input.Input.{Input}
 use Rattle.library_batches.specs.declared.stop.Stop.{Stop}
 use Rattle.library_batches.specs.declared.stop.Stop.TheVariants.{TooLong as StopTooLong, Failed as StopFailed, Memory as StopMemory}
-use Rattle.union_script.specs.Inputs.{limit_of}
-use Rattle.union_script.specs.Readings.{IsStop, StopsAt, stopped_with}
-use Rattle.union_script.specs.Texts.{Contents}
+use Rattle.union_inputs.specs.Inputs.{Contents, limit_of}
+use Rattle.union_inputs.specs.Readings.{IsStop, StopsAt, stopped_with}
 
 -- the counts of a shelf
 abbrev pub Counts : Type 0

@@ -1,7 +1,7 @@
 use Rattle.std.proofs.Common.{◌≡◌, ◌<◌, ◌-◌, ◌+◌}
 use Rattle.std.specs.Prelude.{vec_len}
 use Rattle.std.specs.Io.KnownBytes.{Consumes}
-use Rattle.union_script.proofs.whole.read_whole.Given as goal
+use Rattle.union_inputs.proofs.whole.read_whole.Given as goal
 
 -- what was read so far is kept, and nothing failed
 abbrev pub invariant-loop-source : goal.invariant-loop-source

@@ -1,13 +1,13 @@
-//! The status of a run whose input was not read to its end.
+//! The status of a run that stops at an input.
 ghost use Rattle.std.specs.Prelude.{◌≡◌};
-ghost use Rattle.union_commands.specs.Stops.{stopped_with};
+ghost use Rattle.union_inputs.specs.Readings.{stopped_with};
 
 use library_batches::stop::Stop;
 use union_words::input::Input;
 use union_words::status::Status;
 
-/// The status of a run that ends so at this input. Takes no memory.
-pub fn stop_status(stop: Stop, input: Input) -> Status
+/// How a run ends whose input was not read to its end for that cause. Takes no memory.
+pub fn stopped_with(stop: Stop, input: Input) -> Status
     ensures { result ≡ stopped_with stop input }
 {
     match stop {

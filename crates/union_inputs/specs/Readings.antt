@@ -7,7 +7,7 @@ use Rattle.union_words.specs.Flows.{Inflow, HasFailed, ShelfFlow, IsCalm, InputF
 use Rattle.union_words.specs.declared.input.Input.{Input}
 use Rattle.union_words.specs.declared.status.Status.{Status}
 use Rattle.union_words.specs.declared.status.Status.TheVariants.{Done, DoneWithRefusals, Usage, OpenFault, ReadFault, WriteFault, TooLong, Memory}
-use Rattle.union_script.specs.Inputs.{limit_of}
+use Rattle.union_inputs.specs.Inputs.{limit_of}
 
 -- why a source of which so many bytes are read was not read to its end: a failure raises its count, and nothing else does
 abbrev pub IsStop : ℕ → Stop → Inflow → Type 0

@@ -1,7 +1,7 @@
 //! A file of text, read whole: a script, or a file of questions.
 ghost use Rattle.std.specs.Prelude.{◌≡◌};
-ghost use Rattle.union_script.specs.Inputs.{limit_of};
-ghost use Rattle.union_script.specs.Readings.{ReadsFile};
+ghost use Rattle.union_inputs.specs.Inputs.{limit_of};
+ghost use Rattle.union_inputs.specs.Readings.{ReadsFile};
 
 use crate::stops::stopped_with;
 use crate::whole::read_whole;

@@ -1,8 +1,7 @@
 -- What comes of a source that was read piece by piece.
-use Rattle.std.proofs.Common.{Bool, not, ◌≡◌, ℕ, ◌<◌, ◌≤◌, List, [], ◌++◌, length, sym, ap, subst, ◌∙◌, arith, length-append, append-nil}
-use Rattle.std.specs.Prelude.{Option, Some, None, IfSome, ◌==◌, nat_lt}
+use Rattle.std.proofs.Common.{◌≡◌, ℕ, ◌<◌, ◌≤◌, List, [], ◌++◌, length, sym, ap, subst, ◌∙◌, arith, length-append, append-nil}
+use Rattle.std.specs.Prelude.{Option, Some, None, IfSome}
 use Rattle.std.specs.Io.KnownBytes.{Consumes}
-use Rattle.std.proofs.lemmas.Bool.Decides.{nat_tests}
 
 -- what follows of told bytes
 pub on_told : {P Q : List ℕ → Type 0} (told : Option (List ℕ)) → ((bytes : List ℕ) → P bytes → Q bytes) → IfSome told P → IfSome told Q
@@ -24,7 +23,3 @@ whole_source limit (Some bytes) None content taken fits none = absurd taken
 whole_source limit (Some bytes) (Some rest) content taken fits none =
     let all : bytes ≡ content = taken ∙ ap (λ more. content ++ more) none ∙ append-nil content in
     (subst (λ xs. length xs ≤ limit) (sym all) fits, sym all)
-
--- what is not none is some
-pub some_of : (n : ℕ) (none : Bool) → none ≡ (n == 0) → not none ≡ nat_lt 0 n
-some_of n none is = grind (arith, nat_tests, is)

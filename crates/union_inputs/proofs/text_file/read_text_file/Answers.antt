@@ -1,8 +1,8 @@
 use Rattle.std.proofs.Common.{◌∙◌, sym, subst}
 use Rattle.union_words.specs.Flows.{InputFile, Inflow}
-use Rattle.union_script.specs.Readings.{IsStop}
-use Rattle.union_script.proofs.FileLaws.{file_stops, stops_before, not_opened}
-use Rattle.union_script.proofs.text_file.read_text_file.Goals as goal
+use Rattle.union_inputs.specs.Readings.{IsStop}
+use Rattle.union_inputs.proofs.FileLaws.{file_stops, stops_before, not_opened}
+use Rattle.union_inputs.proofs.text_file.read_text_file.Goals as goal
 
 pub returns-in-Err-clause-reads : goal.returns-in-Err-clause-reads
 returns-in-Err-clause-reads g c =

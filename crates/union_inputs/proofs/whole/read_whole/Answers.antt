@@ -2,8 +2,8 @@ use Rattle.std.proofs.Common.{◌≡◌, ◌<◌, ◌++◌, refl, sym, ap, subst
 use Rattle.std.specs.Io.KnownBytes.{Consumes}
 use Rattle.std.proofs.KnownBytes.{Consumes-nil, Consumes-trans}
 use Rattle.std.proofs.lemmas.List.{take_at}
-use Rattle.union_script.proofs.SourceLaws.{on_told, long_source, whole_source}
-use Rattle.union_script.proofs.whole.read_whole.Goals as goal
+use Rattle.union_inputs.proofs.SourceLaws.{on_told, long_source, whole_source}
+use Rattle.union_inputs.proofs.whole.read_whole.Goals as goal
 
 pub loop-source-init : goal.loop-source-init
 loop-source-init g c = record {

@@ -1,6 +1,6 @@
 //! The reading of a small source whole.
 ghost use Rattle.std.specs.Prelude.{◌≡◌};
-ghost use Rattle.union_script.specs.Readings.{Reads};
+ghost use Rattle.union_inputs.specs.Readings.{Reads};
 
 use library_batches::stop::Stop;
 use std::alloc::Global;

@@ -1,0 +1,5 @@
+pub mod FileLaws
+pub mod SourceLaws
+pub mod InputLaws
+pub mod BatchLaws
+pub mod FrameLaws

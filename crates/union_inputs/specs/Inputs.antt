@@ -1,0 +1,35 @@
+-- The inputs of a run: what is in their files, how much of each is read, and which of them is too long.
+use Rattle.std.specs.Prelude.{◌≡◌, ℕ, Bool, nat_lt, List, length, Some, None}
+use Rattle.std.specs.List.{find}
+use Rattle.std.specs.Option.{option_map}
+use Rattle.std.specs.declared.option.Option.{Option}
+use Rattle.union_words.specs.Flows.{InputFile}
+use Rattle.union_words.specs.declared.input.Input.{Input}
+use Rattle.union_words.specs.declared.input.Input.TheVariants.{Library, Asks, Script, Names}
+
+-- what is in the file of each name
+abbrev pub Contents : Type 0
+Contents = List ℕ → List ℕ
+
+-- the most bytes that are read of it: 2^40 of a library's file or a file of names, and 2^20 of a script or a file of questions
+abbrev pub limit_of : Input → ℕ
+limit_of (Library code) = 1099511627776
+limit_of Asks = 1048576
+limit_of Script = 1048576
+limit_of Names = 1099511627776
+
+-- the file has more bytes than are read
+abbrev pub is_overfull : Contents → InputFile → Bool
+is_overfull contents file = nat_lt (limit_of file.input) (length (contents file.path))
+
+-- the first of the files that has
+abbrev pub first_overfull : Contents → List InputFile → Option InputFile
+first_overfull contents inputs = find (is_overfull contents) inputs
+
+-- none of the files has
+abbrev pub AreWithin : Contents → List InputFile → Type 0
+AreWithin contents inputs = first_overfull contents inputs ≡ None
+
+-- the input is the first whose file has
+abbrev pub IsTooLongAt : Contents → List InputFile → Input → Type 0
+IsTooLongAt contents inputs input = option_map (λ file. file.input) (first_overfull contents inputs) ≡ Some input
