@@ -1,15 +1,17 @@
 -- What is appended piece by piece.
-use Rattle.std.proofs.Common.{◌≡◌, ℕ, ◌+◌, ◌<◌, ◌≤◌, Bool, true, List, [], ◌∷◌, ◌++◌, length, take, get_or, zero, suc, zero-add, refl, sym, ◌∙◌, ap, arith, append_assoc, length-append, add-zero, add-one, Result, Ok, Err}
+use Rattle.std.proofs.Common.{◌≡◌, ℕ, ◌+◌, ◌<◌, ◌≤◌, Bool, true, List, [], ◌∷◌, ◌++◌, length, take, map, get_or, zero, suc, zero-add, refl, sym, ◌∙◌, ap, arith, append_assoc, length-append, add-zero, add-one, Result, Ok, Err}
 use Rattle.std.proofs.Math.Seq.{take-append_seam, take-length, take-suc}
 use Rattle.std.proofs.lemmas.Bool.{and_parts}
+use Rattle.std.proofs.lemmas.Bool.Decides.{nat_tests}
 use Rattle.std.proofs.lemmas.Grind.{flat_map-append}
-use Rattle.std.proofs.lemmas.List.{take-take, append-nil}
+use Rattle.std.proofs.lemmas.List.{take-take, append-nil, get_or-map, length-map}
 use Rattle.std.specs.List.{flat_map, list_all}
 use Rattle.std.specs.Prelude.{if◌then◌else◌, is_ok, IsErr}
 use Rattle.marc_leader.specs.declared.entry.Entry.{Entry}
 use Rattle.union_base.specs.declared.field.Field.{Field}
 use Rattle.marc_fields.specs.Appending.{Appends}
-use Rattle.marc_fields.specs.Spelling.{stored, entry_at, entries_from, entry_bytes}
+use Rattle.union_base.specs.Fields.{spelled, field_terminator}
+use Rattle.marc_fields.specs.Spelling.{stored, is_short, entry_at, entries_from, entry_bytes}
 
 -- one piece, appended whole or not at all
 pub Appends-extended : {T E : Type 0} (answer : Result T E) (old new text piece : List ℕ)
@@ -56,6 +58,25 @@ list_all-at p (y ∷ xs) zero x all below is = ap p is ∙ (and_parts (p y) (lis
 list_all-at p (y ∷ xs) (suc i) x all below is =
     let less : i < length xs = omega arith in
     list_all-at p xs i x (and_parts (p y) (list_all p xs) all).1 less is
+
+-- a field's bytes and its terminator
+pub length-stored : (f : Field) → length (stored f) ≡ length (spelled f.body) + 1
+length-stored f = length-append (spelled f.body) (field_terminator ∷ [])
+
+-- where all fields are short, the one at a place is
+pub short-at : (fields : List Field) (i : ℕ) (f : Field) → list_all is_short fields ≡ true → i < length fields → f ≡ get_or fields i f
+    → length (stored f) ≤ 9999
+short-at fields i f all below is =
+    let short : is_short f ≡ true = list_all-at is_short fields i f all below is in
+    grind (arith, nat_tests, short)
+
+-- what is seen of the element at a place
+pub seen-at : {X Y : Type 0} (h : X → Y) (xs : List X) (i : ℕ) (x : X) (y : Y) → i < length xs → x ≡ get_or xs i x → y ≡ h x
+    → y ≡ get_or (map h xs) i y
+seen-at h xs i x y below is seen = seen ∙ (ap h is ∙ sym (get_or-map h xs i x y below))
+
+pub seen-below : {X Y : Type 0} (h : X → Y) (xs : List X) (i : ℕ) → i < length xs → i < length (map h xs)
+seen-below h xs i below = rw (length-map xs h) below
 
 -- the elements up to a place, and the one there
 pub take_one_more : {A : Type 0} (xs : List A) (i : ℕ) (x : A) → i < length xs → x ≡ get_or xs i x

@@ -1,5 +1,6 @@
 -- How a record stands in a frame (ISO 2709; MARC 21, 'Leader' and 'Directory').
-use Rattle.std.specs.Prelude.{◌≡◌, ℕ, ◌+◌, ◌*◌, ◌<◌, ◌≤◌, Bool, ◌&&◌, nat_le, nat_lt, IsTrue, List, [], ◌∷◌, ◌++◌, length, take, drop, if◌then◌else◌}
+use Rattle.std.specs.Prelude.{◌≡◌, ℕ, ◌+◌, ◌*◌, ◌<◌, ◌≤◌, Bool, ◌&&◌, nat_le, nat_lt, IsTrue, List, [], ◌∷◌, ◌++◌, length, take, drop, map, if◌then◌else◌}
+use Rattle.std.proofs.Common.{Bor}
 use Rattle.std.specs.List.{flat_map}
 use Rattle.marc_leader.specs.Codes.{Codes, are_printable}
 use Rattle.marc_leader.specs.Entry.{entry_text}
@@ -88,3 +89,11 @@ spelling r = frame_text (frame_size r) r.leader (entries_from 0 r.fields) (flat_
 -- four digits can say how long the field is
 abbrev pub is_short : Field → Bool
 is_short f = nat_le (length (stored f)) longest_field
+
+-- the record of these codes and these fields
+abbrev pub record_of : Codes → List Field → Record
+record_of codes fields = record { leader = codes; fields = fields }
+
+-- the record of these codes and the fields that are borrowed
+abbrev pub borrowed_record : Codes → List (Bor Field) → Record
+borrowed_record codes fields = record_of codes (map (λ f. f.now) fields)

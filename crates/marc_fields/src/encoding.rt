@@ -1,11 +1,12 @@
 //! Records written as frames.
-ghost use Rattle.std.specs.Prelude.{◌≡◌, ◌+◌, ◌*◌, ◌++◌, ◌≤◌, min, length, OnOk, OnErr, IfErr, Some, None, if◌then◌else◌, nat_le, IsTrue};
+ghost use Rattle.std.specs.Prelude.{◌≡◌, ◌+◌, ◌*◌, ◌++◌, ◌≤◌, min, length, map, OnOk, OnErr, IfErr, Some, None, if◌then◌else◌, nat_le, IsTrue};
 ghost use Rattle.std.specs.List.{list_all, flat_map};
 ghost use Rattle.marc_leader.specs.Codes.{are_printable};
 ghost use Rattle.union_base.specs.Fields.{spelled};
-ghost use Rattle.marc_fields.specs.Spelling.{stored, is_short, longest_frame, entry_bytes, entries_from, leader_bytes, frame_size, spelling, Spells};
+ghost use Rattle.marc_fields.specs.Spelling.{stored, is_short, longest_frame, entry_bytes, entries_from, leader_bytes, frame_size, spelling, Spells, record_of, borrowed_record};
 ghost use Rattle.marc_fields.specs.Appending.{Appends, too_long, IsCause};
 
+use crate::has_field::HasField;
 use crate::marc_record::Record;
 use marc_leader::codes::LeaderCodes;
 use marc_leader::entry::{ENTRY_SIZE, Entry, write_entry};
@@ -45,13 +46,13 @@ pub fn stored_size(body: &Body) -> usize
 }
 
 /// How many bytes the fields have, at most one more than a frame may have; None where a field is too long.
-fn data_size(fields: &[Field]) -> Option<usize>
-    ensures { result ≡ (if list_all is_short fields.now then Some
-        (min (length (flat_map stored fields.now)) 100000) else None) }
+fn data_size<F: HasField>(fields: &[F]) -> Option<usize>
+    ensures { result ≡ (if list_all is_short (map F.field fields.now) then Some
+        (min (length (flat_map stored (map F.field fields.now))) 100000) else None) }
 {
     let mut size = 0;
-    for field in fields {
-        let more = stored_size(&field.body);
+    for each in fields {
+        let more = stored_size(&each.field().body);
         if more > LONGEST_FIELD {
             return None;
         }
@@ -84,11 +85,12 @@ fn append_body(body: &Body, into: &mut Vec<u8>) -> Result<(), AllocError>
 }
 
 /// Appends the fields, each with its terminator.
-fn append_data(fields: &[Field], into: &mut Vec<u8>) -> Result<(), AllocError>
-    ensures { Appends result into.old.items into.new.items (flat_map stored fields.now) }
+fn append_data<F: HasField>(fields: &[F], into: &mut Vec<u8>) -> Result<(), AllocError>
+    ensures { Appends result into.old.items into.new.items
+        (flat_map stored (map F.field fields.now)) }
 {
-    for field in fields {
-        append_body(&field.body, into)?;
+    for each in fields {
+        append_body(&each.field().body, into)?;
         into.extend_from_slice(&[FIELD_TERMINATOR])?;
     }
     Ok(())
@@ -106,14 +108,15 @@ fn append_entry(entry: &Entry, into: &mut Vec<u8>) -> Result<(), AllocError>
 }
 
 /// Appends the entries of fields that lie one after the other.
-fn append_entries(fields: &[Field], into: &mut Vec<u8>) -> Result<(), AllocError>
-    requires short { IsTrue (list_all is_short fields.now) }
-    requires few { length (flat_map stored fields.now) ≤ 99999 }
+fn append_entries<F: HasField>(fields: &[F], into: &mut Vec<u8>) -> Result<(), AllocError>
+    requires short { IsTrue (list_all is_short (map F.field fields.now)) }
+    requires few { length (flat_map stored (map F.field fields.now)) ≤ 99999 }
     ensures { Appends result into.old.items into.new.items
-        (flat_map entry_bytes (entries_from 0 fields.now)) }
+        (flat_map entry_bytes (entries_from 0 (map F.field fields.now))) }
 {
     let mut start = 0;
-    for field in fields {
+    for each in fields {
+        let field = each.field();
         let length = stored_size(&field.body) as u32;
         append_entry(
             &Entry {
@@ -152,20 +155,60 @@ fn append_leader(
     into.extend_from_slice(&text)
 }
 
-/// Appends the record's frame, which has that size.
-fn append_frame(rec: &Record, size: usize, into: &mut Vec<u8>) -> Result<(), AllocError>
-    requires short { IsTrue (list_all is_short rec.now.fields) }
-    requires size { size ≡ frame_size rec.now }
+/// Appends the frame of these codes and these fields, which has that size.
+fn append_frame<F: HasField>(
+    codes: LeaderCodes,
+    fields: &[F],
+    size: usize,
+    into: &mut Vec<u8>,
+) -> Result<(), AllocError>
+    requires short { IsTrue (list_all is_short (map F.field fields.now)) }
+    requires size { size ≡ frame_size (record_of codes (map F.field fields.now)) }
     requires few { size ≤ 99999 }
-    ensures text { Appends result into.old.items into.new.items (spelling rec.now) }
-    ensures codes { IsTrue (are_printable rec.now.leader) }
+    ensures text { Appends result into.old.items into.new.items
+        (spelling (record_of codes (map F.field fields.now))) }
+    ensures codes { IsTrue (are_printable codes) }
 {
-    let fields = rec.fields.as_slice();
-    append_leader(rec.leader, size, fields.len(), into)?;
+    append_leader(codes, size, fields.len(), into)?;
     append_entries(fields, into)?;
     into.extend_from_slice(&[FIELD_TERMINATOR])?;
     append_data(fields, into)?;
     into.extend_from_slice(&[RECORD_TERMINATOR])
+}
+
+/// Appends the frame of these codes and these fields, or leaves `into` as it was.
+fn encode_all<F: HasField>(
+    codes: LeaderCodes,
+    fields: &[F],
+    into: &mut Vec<u8>,
+) -> Result<(), EncodeRefusal>
+    ensures written { OnOk result (into.new.items ≡ into.old.items
+        ++ spelling (record_of codes (map F.field fields.now))) }
+    ensures spells { OnOk result (Spells (spelling (record_of codes (map F.field fields.now)))
+        (record_of codes (map F.field fields.now))) }
+    ensures written_exactly { OnOk result
+        (too_long (record_of codes (map F.field fields.now)) ≡ None) }
+    ensures refused_exactly { IfErr result (λ refusal. IsCause refusal
+        (too_long (record_of codes (map F.field fields.now)))) }
+    ensures err { OnErr result (into.new.items ≡ into.old.items) }
+{
+    let Some(bytes) = data_size(fields) else {
+        return Err(EncodeRefusal::FieldTooLong);
+    };
+    let Some(size) = counted_size(fields.len(), bytes) else {
+        return Err(EncodeRefusal::RecordTooLong);
+    };
+    let before = into.len();
+    if into.reserve(size).is_err() {
+        return Err(EncodeRefusal::Memory);
+    }
+    match append_frame(codes, fields, size, into) {
+        Ok(()) => Ok(()),
+        Err(_) => {
+            into.truncate(before);
+            Err(EncodeRefusal::Memory)
+        }
+    }
 }
 
 /// Appends the frame that spells the record (ISO 2709; MARC 21), with the fields' bytes in the order of the directory.
@@ -177,22 +220,24 @@ pub fn encode(rec: &Record, into: &mut Vec<u8>) -> Result<(), EncodeRefusal>
     ensures refused_exactly { IfErr result (λ refusal. IsCause refusal (too_long rec.now)) }
     ensures err { OnErr result (into.new.items ≡ into.old.items) }
 {
-    let fields = rec.fields.as_slice();
-    let Some(bytes) = data_size(fields) else {
-        return Err(EncodeRefusal::FieldTooLong);
-    };
-    let Some(size) = counted_size(fields.len(), bytes) else {
-        return Err(EncodeRefusal::RecordTooLong);
-    };
-    let before = into.len();
-    if into.reserve(size).is_err() {
-        return Err(EncodeRefusal::Memory);
-    }
-    match append_frame(rec, size, into) {
-        Ok(()) => Ok(()),
-        Err(_) => {
-            into.truncate(before);
-            Err(EncodeRefusal::Memory)
-        }
-    }
+    encode_all(rec.leader, rec.fields.as_slice(), into)
+}
+
+/// Appends the frame that spells the record of these codes and these fields, as [`encode`] does of a record. The fields are
+/// borrowed, so no record is made of them.
+pub fn encode_fields(
+    codes: LeaderCodes,
+    fields: &[&Field],
+    into: &mut Vec<u8>,
+) -> Result<(), EncodeRefusal>
+    ensures written { OnOk result (into.new.items ≡ into.old.items
+        ++ spelling (borrowed_record codes fields.now)) }
+    ensures spells { OnOk result (Spells (spelling (borrowed_record codes fields.now))
+        (borrowed_record codes fields.now)) }
+    ensures written_exactly { OnOk result (too_long (borrowed_record codes fields.now) ≡ None) }
+    ensures refused_exactly { IfErr result (λ refusal. IsCause refusal
+        (too_long (borrowed_record codes fields.now))) }
+    ensures err { OnErr result (into.new.items ≡ into.old.items) }
+{
+    encode_all(codes, fields, into)
 }

@@ -9,6 +9,7 @@ pub mod directory;
 pub mod encoding;
 pub mod ending;
 pub mod fields;
+mod has_field;
 pub mod head;
 pub mod laws;
 pub mod marc_record;
