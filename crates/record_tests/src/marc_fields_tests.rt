@@ -2,7 +2,7 @@
 use crate::frames::{ONE, accepted, record_of};
 use crate::refused_frames::{content, directories, leaders, shapes_behind};
 use marc_fields::decoding::{DecodeRefusal, decode, is_frame};
-use marc_fields::encoding::{EncodeRefusal, encode};
+use marc_fields::encoding::{EncodeRefusal, encode, encode_fields};
 use marc_fields::marc_record::Record;
 use marc_fields::rules::Rule;
 use marc_leader::codes::LeaderCodes;
@@ -23,6 +23,23 @@ fn a_frame_is_read_and_written_back(rt: HostRuntime) -> Result<(), Fail> {
     let mut out = Vec::new(rt.alloc());
     encode(&again, &mut out)?;
     assert_eq!(rt; out.as_slice(), ONE);
+    Ok(())
+}
+
+#[test]
+fn borrowed_fields_are_written_as_their_record(rt: HostRuntime) -> Result<(), Fail> {
+    for frame in accepted() {
+        let rec = record_of(rt.alloc(), frame)?;
+        let mut fields = Vec::new(rt.alloc());
+        for field in rec.fields.as_slice() {
+            fields.push(field)?;
+        }
+        let mut whole = Vec::new(rt.alloc());
+        encode(&rec, &mut whole)?;
+        let mut out = Vec::new(rt.alloc());
+        encode_fields(rec.leader, fields.as_slice(), &mut out)?;
+        assert_eq!(rt; out.as_slice(), whole.as_slice());
+    }
     Ok(())
 }
 
