@@ -178,7 +178,7 @@ all_storable-short (f ∷ fields) h =
 
 module _ (c : Content) (sound : is_sound c ≡ true) where
   -- each field of a sound content is short
-  pub united-short : list_all is_short c.united ≡ true
+  united-short : list_all is_short c.united ≡ true
   united-short = all_storable-short c.united (sound-united c sound).0
 
   slot_fields-short : list_all is_short (slot_fields c) ≡ true
@@ -193,7 +193,7 @@ module _ (c : Content) (sound : is_sound c ≡ true) where
       (short_append (slot_field c.f240) _ (slot_field-short (has_tag (codes "240")) c.f240 slots.1.0)
       (slot_field-short (has_tag (codes "245")) (Some c.f245) slots.1.1))))))
 
-  pub own_parts-short : (key : List ℕ) → list_all is_short (own_parts c key) ≡ true
+  own_parts-short : (key : List ℕ) → list_all is_short (own_parts c key) ≡ true
   unfolding own_parts
   own_parts-short key =
       short_append (number_field c.contributors) _ (number_field-short c.contributors (sound-ids c sound))
@@ -202,10 +202,12 @@ module _ (c : Content) (sound : is_sound c ≡ true) where
       (short_append (key_field key) _ (key_field-short_within longest_key key (omega arith))
       (contributor_fields-short c.contributors (sound-ids c sound)))))
 
+  pub parts-short : (key : List ℕ) → list_all is_short (parts c key) ≡ true
+  parts-short key = short_append (own_parts c key) c.united (own_parts-short key) united-short
+
   exported-short : (key : List ℕ) → list_all is_short (in_tag_order (fitting (parts c key))) ≡ true
   exported-short key =
-      in_tag_order-all is_short (fitting (parts c key))
-      ∙ fitting_in-all is_short (longest_frame - frame_rest) (parts c key) (short_append (own_parts c key) c.united (own_parts-short key) united-short)
+      in_tag_order-all is_short (fitting (parts c key)) ∙ fitting_in-all is_short (longest_frame - frame_rest) (parts c key) (parts-short key)
 
   exported-size : (key : List ℕ) → frame_size (exported c key) ≤ longest_frame
   exported-size key =

@@ -1,5 +1,5 @@
 -- Fields in order of their tags.
-use Rattle.std.proofs.Common.{◌≡◌, ℕ, suc, ◌+◌, Bool, true, false, ◌&&◌, List, [], ◌∷◌, ◌++◌, length, length-append, refl, ◌∙◌, ap, arith}
+use Rattle.std.proofs.Common.{◌≡◌, ℕ, suc, ◌+◌, Bool, true, false, ◌&&◌, List, [], ◌∷◌, ◌++◌, length, map, length-append, refl, ◌∙◌, ap, arith}
 use Rattle.std.specs.Prelude.{if◌then◌else◌}
 use Rattle.std.specs.Cmp.{IsStrictWeakOrder}
 use Rattle.std.specs.Cmp.Lexicographic.{nat_list_cmp_total}
@@ -20,6 +20,28 @@ put-is f (g ∷ fields) = ap (λ rest. if is_lower g f then g ∷ rest else f �
 pub in_tag_order-is : (fields : List Field) → in_tag_order fields ≡ in_order is_lower fields
 in_tag_order-is [] = refl
 in_tag_order-is (f ∷ fields) = ap (put_by_tag f) (in_tag_order-is fields) ∙ put-is f (in_order is_lower fields)
+
+module _ {X : Type 0} (see : X → Field) where
+  -- the tag of the field that is seen of the first is less
+  abbrev pub seen_lower : X → X → Bool
+  seen_lower x y = is_lower (see x) (see y)
+
+  pub seen_lower-order : IsStrictWeakOrder seen_lower
+  seen_lower-order = ranks_by nat_list_cmp_total (λ x. (see x).tag)
+
+  put-seen : (x : X) (xs : List X) → map see (put_before seen_lower x xs) ≡ put_by_tag (see x) (map see xs)
+  put-seen x [] = refl
+  put-seen x (y ∷ ys) =
+      elim (is_lower (see y) (see x)) as (λ r. map see (if r then y ∷ put_before seen_lower x ys else x ∷ y ∷ ys)
+      ≡ (if r then see y ∷ put_by_tag (see x) (map see ys) else see x ∷ see y ∷ map see ys)) [
+        | true ↦ ap (λ rest. see y ∷ rest) (put-seen x ys)
+        | false ↦ refl
+      ]
+
+  -- the fields that are seen of values in order of tags are in order of tags
+  pub in_order-seen : (xs : List X) → map see (in_order seen_lower xs) ≡ in_tag_order (map see xs)
+  in_order-seen [] = refl
+  in_order-seen (x ∷ xs) = put-seen x (in_order seen_lower xs) ∙ ap (put_by_tag (see x)) (in_order-seen xs)
 
 -- a test that all the fields pass in one order they pass in the other
 put-all : (p : Field → Bool) (f : Field) (fields : List Field) → list_all p (put_by_tag f fields) ≡ (p f && list_all p fields)

@@ -1,13 +1,14 @@
 //! The fields that the catalogue writes itself.
-ghost use Rattle.std.specs.Prelude.{◌≡◌, ◌<◌, ◌≤◌, ◌∷◌, [], IfOk, IsTrue, codes, length};
-ghost use Rattle.union_base.specs.Fields.{is_field, is_text};
+ghost use Rattle.std.specs.Prelude.{◌≡◌, ◌<◌, ◌≤◌, ◌∷◌, [], IfOk, OnOk, IsTrue, codes, length};
+ghost use Rattle.std.specs.List.{list_all};
+ghost use Rattle.union_base.specs.Fields.{is_field, is_subfield, is_text, spelled};
 ghost use Rattle.union_base.specs.Bodies.{Control, Data};
 ghost use Rattle.workset_keys.specs.WorkKeys.{own_name};
 ghost use Rattle.catalogue_core.specs.Sound.{is_id};
 ghost use Rattle.catalogue_export.specs.Exported.{field_of, control_field, last_boundary, begins_character, front_within, key_field, contributor_field};
 
 use std::alloc::Global;
-use union_base::body::Body;
+use union_base::body::{Body, DELIMITER};
 use union_base::bytes::Bytes;
 use union_base::copied::Copied;
 use union_base::field::Field;
@@ -46,8 +47,8 @@ pub(crate) fn fixed_field(alloc: Global, text: &Bytes) -> Result<Field, Memory>
     Ok(made_control(b"008", text.copied(alloc)?))
 }
 
-/// 991, the work key, as far as it is shown.
-pub(crate) fn key_field(alloc: Global, key: &[u8]) -> Result<Field, Memory>
+/// 991, the work key, as far as it is shown. The buffer, which the data fields of an edition share, is written over.
+pub(crate) fn key_field(alloc: Global, key: &[u8], buffer: &mut Vec<u8>) -> Result<Field, Memory>
     requires { IsTrue (is_text key.now) }
     ensures { IfOk result (λ f. key_field key.now ≡ f ∷ []) }
 {
@@ -55,11 +56,15 @@ pub(crate) fn key_field(alloc: Global, key: &[u8]) -> Result<Field, Memory>
         code: b'a',
         text: front_within(key, LONGEST_KEY),
     }];
-    made_blank(alloc, b"991", &subfields)
+    made_blank(alloc, b"991", &subfields, buffer)
 }
 
-/// 993, a contributor: its library in $a and its control number there in $b.
-pub(crate) fn contributor_field(alloc: Global, id: &RecordId) -> Result<Field, Memory>
+/// 993, a contributor: its library in $a and its control number there in $b. The buffer is written over.
+pub(crate) fn contributor_field(
+    alloc: Global,
+    id: &RecordId,
+    buffer: &mut Vec<u8>,
+) -> Result<Field, Memory>
     requires { IsTrue (is_id id.now) }
     ensures { IfOk result (λ f. contributor_field id.now ≡ f ∷ []) }
 {
@@ -73,7 +78,7 @@ pub(crate) fn contributor_field(alloc: Global, id: &RecordId) -> Result<Field, M
             text: id.control.bytes(),
         },
     ];
-    made_blank(alloc, b"993", &subfields)
+    made_blank(alloc, b"993", &subfields, buffer)
 }
 
 /// The longest prefix of the text of at most so many bytes that ends between two characters.
@@ -117,11 +122,43 @@ fn made_control(tag: &[u8; 3], text: Bytes) -> Field
     }
 }
 
-/// A data field with blank indicators.
-fn made_blank(alloc: Global, tag: &[u8; 3], subfields: &[Subfield<'_>]) -> Result<Field, Memory>
+/// A data field with blank indicators. The buffer is written over.
+fn made_blank(
+    alloc: Global,
+    tag: &[u8; 3],
+    subfields: &[Subfield<'_>],
+    buffer: &mut Vec<u8>,
+) -> Result<Field, Memory>
     requires { IsTrue (is_field tag.now (Data 0x20 0x20 subfields.now)) }
     ensures { IfOk result (λ f. field_of tag.now (Data 0x20 0x20 subfields.now) ≡ f ∷ []) }
 {
-    let body = Body::of_subfields(alloc, b' ', b' ', subfields)?;
+    let body = blank_body(alloc, subfields, buffer)?;
     Ok(Field { tag: *tag, body })
+}
+
+/// The content of a data field with blank indicators. It is spelled in the buffer, and copied from there in its size.
+fn blank_body(
+    alloc: Global,
+    subfields: &[Subfield<'_>],
+    buffer: &mut Vec<u8>,
+) -> Result<Body, Memory>
+    requires some { 1 ≤ length subfields.now }
+    requires formed { IsTrue (list_all is_subfield subfields.now) }
+    ensures { IfOk result (λ b. b ≡ Data 0x20 0x20 subfields.now) }
+{
+    spell_blank(subfields, buffer)?;
+    Ok(Body::spelled_by(Bytes::of(alloc, buffer.as_slice())?))
+}
+
+/// Leaves in the buffer the bytes of blank indicators and these subfields alone.
+fn spell_blank(subfields: &[Subfield<'_>], buffer: &mut Vec<u8>) -> Result<(), Memory>
+    ensures { OnOk result (buffer.new.items ≡ spelled (Data 0x20 0x20 subfields.now)) }
+{
+    buffer.clear();
+    buffer.extend_from_slice(b"  ")?;
+    for subfield in subfields {
+        buffer.extend_from_slice(&[DELIMITER, subfield.code])?;
+        buffer.extend_from_slice(subfield.text)?;
+    }
+    Ok(())
 }

@@ -4,8 +4,8 @@
 //! contributor, and the united fields, as many of them in this order as a frame has room for.
 //!
 //! Guarantee: `edition::edition_bytes` and `editions::append_editions` append exactly the bytes that specs/Exported.antt and
-//! specs/Editions.antt define. Cost: each field is copied once, the fields of an edition are sorted once by their tags, and
-//! each record is written once.
+//! specs/Editions.antt define. Cost: the fields of an edition are borrowed, and only those that it does not have are made;
+//! they are sorted once by their tags, and each record is written once.
 #![tactic(auto)]
 
 pub mod edition;
@@ -15,5 +15,7 @@ pub mod export_fail;
 mod fields;
 mod fitting;
 pub mod laws;
+mod own_fields;
 pub mod pending;
+mod shown_fields;
 pub mod works_text;

@@ -3,8 +3,8 @@ use Rattle.catalogue_export.specs.Exported.{field_of}
 use Rattle.catalogue_export.proofs.FieldLaws.{field_of-is, are_subfields-data}
 use Rattle.catalogue_export.proofs.fields.made_blank.Goals as goal
 
-pub of_subfields-requires : goal.of_subfields-requires
-of_subfields-requires c =
+pub blank_body-requires : goal.blank_body-requires
+blank_body-requires c =
     let parts = are_subfields-data c.args.tag.now 0x20 0x20 c.args.subfields.now c.requires in
     record { some = parts.0; formed = parts.1 }
 
