@@ -1,5 +1,5 @@
 -- Ascending lists of numbers: what a search finds in them, and what stays where a number is put in or taken out.
-use Rattle.std.proofs.Common.{◌≡◌, ◌≢◌, ℕ, zero, suc, ◌+◌, ◌-◌, ◌<◌, ◌≤◌, List, ◌∷◌, length, get_or, Ok, Err, sym, ◌∙◌, inl, inr, arith}
+use Rattle.std.proofs.Common.{◌≡◌, ◌≢◌, ℕ, zero, suc, ◌+◌, ◌-◌, ◌<◌, ◌≤◌, List, ◌∷◌, length, get_or, take, Ok, Err, sym, ◌∙◌, inl, inr, arith}
 use Rattle.std.specs.Prelude.{◌⊎◌, Contains, insert, remove}
 use Rattle.std.specs.Ordering.{nat_cmp}
 use Rattle.std.specs.List.Sorted.{IsPermutation, IsBinarySearchResult}
@@ -8,7 +8,7 @@ use Rattle.std.proofs.lemmas.List.{get_or_default}
 use Rattle.std.proofs.lemmas.List.Edits.{length-insert, get_or-insert_below, get_or-insert_at, get_or-insert_above, length-remove, get_or-remove_below, get_or-remove_above}
 use Rattle.std.proofs.lemmas.List.Quantifiers.{all_pairs_remove}
 use Rattle.std.proofs.lemmas.List.Sorted.{searched, IsPermutation-insert, IsPermutation-remove, IsPermutation-sym, Contains-permutation}
-use Rattle.feature_index.specs.Postings.{Ascends, Gains, Loses}
+use Rattle.feature_index.specs.Postings.{Ascends, Exchanges, Gains, Loses}
 
 -- an earlier number is at most a later one
 rising : (xs : List ℕ) → Ascends xs → (i j : ℕ) → i ≤ j → j < length xs → get_or xs i 0 ≤ get_or xs j 0
@@ -147,3 +147,21 @@ Loses-remove xs x place a within is =
               let l = length-remove xs place within in
               let more = a place (k + 1) 0 (omega arith) (omega arith) in omega arith)
         ]
+
+-- a number that is not there is not there either once another is taken out
+pub absent-after : (old mid : List ℕ) (from to : ℕ) → Loses old mid from → (Contains old to → ⊥) → Contains mid to → ⊥
+absent-after old mid from to loses absent there = absent ((loses.numbers to).0 there).0
+
+-- a number that is taken out, and another that is put in
+pub Exchanges-then : (old mid new : List ℕ) (from to : ℕ) → Loses old mid from → Gains mid new to → Exchanges old new from to
+Exchanges-then old mid new from to loses gains = record {
+  numbers = λ n. (
+    λ c. elim ((gains.numbers n).0 c) [ inl there ↦ inl ((loses.numbers n).0 there) | inr same ↦ inr same ],
+    λ h. (gains.numbers n).1 (elim h [ inl there ↦ inl ((loses.numbers n).1 there) | inr same ↦ inr same ]),
+  );
+}
+
+-- where a number is among the first ones, there is a first one
+pub one-less : (places : List ℕ) (count x : ℕ) → Contains (take count places) x → count - 1 + 1 ≡ count
+one-less places zero x (k, kl, e) = absurd (omega arith)
+one-less places (suc n) x there = omega arith

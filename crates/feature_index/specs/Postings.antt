@@ -14,6 +14,10 @@ pub record Gains (old new : List ℕ) (number : ℕ) : Type 0 where
 pub record Loses (old new : List ℕ) (number : ℕ) : Type 0 where
   pub numbers : (n : ℕ) → Contains new n ↔ (Contains old n × (n ≢ number))
 
+-- the new list has the numbers of the old one but the first of these two, and the second
+pub record Exchanges (old new : List ℕ) (from to : ℕ) : Type 0 where
+  pub numbers : (n : ℕ) → Contains new n ↔ ((Contains old n × (n ≢ from)) ⊎ (n ≡ to))
+
 -- the numbers under a key, and how many more are sure to find room
 pub record Posting : Type 0 where
   pub numbers : List ℕ

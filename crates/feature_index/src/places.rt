@@ -3,7 +3,7 @@
 //! Guarantee: a number is put in or taken out without taking memory, and the order stays. What the places after the first
 //! ones hold means nothing. Cost: two comparisons at most, and a copy of the places.
 ghost use Rattle.std.specs.Prelude.{◌+◌, ◌-◌, ◌<◌, ◌≤◌, take, Contains};
-ghost use Rattle.feature_index.specs.Postings.{Ascends, Gains, Loses};
+ghost use Rattle.feature_index.specs.Postings.{Ascends, Exchanges, Gains, Loses};
 ghost use Rattle.feature_index.specs.Rows.{most_in_place};
 
 /// How many numbers are held in place.
@@ -43,4 +43,21 @@ pub(crate) fn take_out(places: [u64; MOST_IN_PLACE], count: u8, number: u64) -> 
     } else {
         [first, second, 0]
     }
+}
+
+/// The first `count` numbers, with one in the place of another, which is among them.
+pub(crate) fn exchange(
+    places: [u64; MOST_IN_PLACE],
+    count: u8,
+    from: u64,
+    to: u64,
+) -> [u64; MOST_IN_PLACE]
+    requires count { count ≤ most_in_place }
+    requires ascending { Ascends (take count places) }
+    requires present { Contains (take count places) from }
+    requires absent { Contains (take count places) to → ⊥ }
+    ensures ascending { Ascends (take count result) }
+    ensures numbers { Exchanges (take count places) (take count result) from to }
+{
+    put_in(take_out(places, count, from), count - 1, to)
 }

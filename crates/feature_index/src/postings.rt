@@ -1,6 +1,6 @@
 //! Postings: the numbers under each key.
-ghost use Rattle.std.specs.Prelude.{◌≡◌, ◌+◌, ◌<◌, ◌≤◌, [], false, OnOk, Contains, count_by, if◌then◌else◌};
-ghost use Rattle.feature_index.specs.Postings.{Ascends, Gains, Loses, posting_of, numbers_of, spare_of};
+ghost use Rattle.std.specs.Prelude.{◌≡◌, ◌+◌, ◌<◌, ◌≤◌, [], false, OnOk, OnErr, Contains, count_by, if◌then◌else◌};
+ghost use Rattle.feature_index.specs.Postings.{Ascends, Exchanges, Gains, Loses, posting_of, numbers_of, spare_of};
 
 use crate::row::Row;
 use indexmap::IndexMap;
@@ -61,20 +61,35 @@ impl<K: Eq + Hash + Drop> Postings<K> {
     }
 
     /// Makes room for one number more under the key. Memory where it runs out, and then all stays.
-    fn make_room_once(&mut self, alloc: Global, key: K) -> Result<(), Memory>
+    pub fn make_room_once(&mut self, alloc: Global, key: K) -> Result<(), Memory>
         ensures numbers { (k : K) → numbers_of K.eq self.new k ≡ numbers_of K.eq self.old k }
         ensures kept { (k : K) → spare_of K.eq self.old k ≤ spare_of K.eq self.new k }
         ensures room { OnOk result ((k : K) → spare_of K.eq self.old k +
             (if K.eq k key then 1 else 0)
             ≤ spare_of K.eq self.new k) }
     {
-        match self.rows.get_mut(&key) {
-            Some(row) => row.make_room(alloc),
-            None => {
-                self.rows.insert(key, Row::with_room())?;
-                Ok(())
-            }
-        }
+        self.rows
+            .entry(key)?
+            .or_insert(Row::empty())
+            .make_room(alloc)
+    }
+
+    /// Puts a number under the key, and makes the room for it. What stands under all other keys stays, and so does the spare.
+    /// Memory where it runs out, and then all numbers stay.
+    pub fn put(&mut self, alloc: Global, key: K, number: u64) -> Result<(), Memory>
+        requires { Contains (numbers_of K.eq self.old key) number → ⊥ }
+        ensures numbers { OnOk result (Gains (numbers_of K.eq self.old key)
+            (numbers_of K.eq self.new key) number) }
+        ensures spare { spare_of K.eq self.old key ≤ spare_of K.eq self.new key }
+        ensures others { (k : K) → K.eq key k ≡ false
+            → posting_of K.eq self.new k ≡ posting_of K.eq self.old k }
+        ensures refused { OnErr result (numbers_of K.eq self.new key
+            ≡ numbers_of K.eq self.old key) }
+    {
+        let under_key = self.rows.entry(key)?.or_insert(Row::empty());
+        under_key.make_room(alloc)?;
+        under_key.add(number);
+        Ok(())
     }
 
     /// Puts a number under the key, in the room that was made. What stands under all other keys stays. Takes no memory.
@@ -103,6 +118,22 @@ impl<K: Eq + Hash + Drop> Postings<K> {
     {
         if let Some(row) = self.rows.get_mut(key) {
             row.remove(number);
+        }
+    }
+
+    /// Puts a number under the key in the place of another, which is taken out. The spare stays, and what stands under all
+    /// other keys. Takes no memory.
+    pub fn renumber(&mut self, key: &K, from: u64, to: u64)
+        requires present { Contains (numbers_of K.eq self.old key.now) from }
+        requires absent { Contains (numbers_of K.eq self.old key.now) to → ⊥ }
+        ensures numbers { Exchanges (numbers_of K.eq self.old key.now)
+            (numbers_of K.eq self.new key.now) from to }
+        ensures spare { spare_of K.eq self.new key.now ≡ spare_of K.eq self.old key.now }
+        ensures others { (k : K) → K.eq key.now k ≡ false
+            → posting_of K.eq self.new k ≡ posting_of K.eq self.old k }
+    {
+        if let Some(row) = self.rows.get_mut(key) {
+            row.renumber(from, to);
         }
     }
 }

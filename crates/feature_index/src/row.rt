@@ -1,6 +1,6 @@
 //! The numbers under one key.
 ghost use Rattle.std.specs.Prelude.{◌≡◌, ◌+◌, ◌<◌, ◌≤◌, [], length, vec_capacity, IfOk, OnOk, Contains};
-ghost use Rattle.feature_index.specs.Postings.{Ascends, Gains, Loses};
+ghost use Rattle.feature_index.specs.Postings.{Ascends, Exchanges, Gains, Loses};
 
 use crate::places::{self, MOST_IN_PLACE};
 use std::alloc::Global;
@@ -49,14 +49,14 @@ impl Model for Row {
 }
 
 impl Row {
-    /// No numbers, with room for one. Takes no memory.
-    pub(crate) fn with_room() -> Row
-        ensures { result ≡ record { numbers = []; spare = 1 } }
+    /// No numbers, and no room asked for. Takes no memory.
+    pub(crate) fn empty() -> Row
+        ensures { result ≡ record { numbers = []; spare = 0 } }
     {
         Row {
             numbers: Numbers::Few {
                 count: 0,
-                spare: 1,
+                spare: 0,
                 places: [0; MOST_IN_PLACE],
             },
         }
@@ -153,6 +153,29 @@ impl Row {
             Numbers::Many { list, .. } => take_from(list, number),
         }
     }
+
+    /// Puts a number in the place of another, which is taken out. Takes no memory.
+    pub(crate) fn renumber(&mut self, from: u64, to: u64)
+        requires present { Contains self.old.numbers from }
+        requires absent { Contains self.old.numbers to → ⊥ }
+        ensures numbers { Exchanges self.old.numbers self.new.numbers from to }
+        ensures spare { self.new.spare ≡ self.old.spare }
+    {
+        match &mut self.numbers {
+            &mut Numbers::Few {
+                count,
+                spare,
+                places,
+            } => {
+                self.numbers = Numbers::Few {
+                    count,
+                    spare,
+                    places: places::exchange(places, count, from, to),
+                };
+            }
+            Numbers::Many { list, .. } => exchange_among(list, from, to),
+        }
+    }
 }
 
 /// A list of the numbers, with room for so many more.
@@ -193,4 +216,18 @@ fn take_from(list: &mut Vec<u64>, number: u64)
     if let Ok(place) = list.as_slice().binary_search(&number) {
         list.remove(place);
     }
+}
+
+/// Puts a number into a list in the place of another, which is taken out. Takes no memory.
+fn exchange_among(list: &mut Vec<u64>, from: u64, to: u64)
+    requires ascending { Ascends list.old.items }
+    requires present { Contains list.old.items from }
+    requires absent { Contains list.old.items to → ⊥ }
+    ensures ascending { Ascends list.new.items }
+    ensures numbers { Exchanges list.old.items list.new.items from to }
+    ensures size { length list.new.items ≡ length list.old.items }
+    ensures room { vec_capacity list.old ≤ vec_capacity list.new }
+{
+    take_from(list, from);
+    put_among(list, to);
 }
