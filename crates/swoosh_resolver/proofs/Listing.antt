@@ -5,7 +5,7 @@ use Rattle.std.proofs.lemmas.List.{map-append, length-map, length-set, get_or-se
 use Rattle.feature_index.specs.Postings.{Posting, numbers_of}
 use Rattle.swoosh_resolver.specs.Tables.{Entry, ArePosted, AreListed, block_at, blocks_in, put_block}
 use Rattle.swoosh_resolver.specs.Insertions.{passes}
-use Rattle.swoosh_resolver.proofs.Opening.{reposted, posted-put, put-past, put-within, one_or_not}
+use Rattle.swoosh_resolver.proofs.Opening.{posted-put, put-past, put-within, one_or_not}
 
 module _ {X : Type 0} where
   -- the value at a place, and none past them
@@ -112,7 +112,3 @@ module _ {R K : Type 0} {eq : K → K → Bool} {has_key : R → K → Type 0} w
         rw is (posted-same (slice_set (slice_set (slice_set (map Some xs) i None) m None) i (Some (get_or xs m d))) _ p
         (λ n. rewritten (map Some xs) m (get_or xs m d) (omega arith) i less n ∙ swapped-at m xs i d len (omega arith) n)
         (subst (λ L. ArePosted eq has_key L p) (put-within (slice_set (slice_set (map Some xs) i None) m None) i (get_or xs m d) (omega arith)) posted))
-
-  -- the numbers stay, and so the values are listed as before
-  pub relisted : (xs : List (Entry R K)) (old new : List (K × Posting)) → ((k : K) → numbers_of eq new k ≡ numbers_of eq old k) → AreListed eq has_key xs old → AreListed eq has_key xs new
-  relisted xs old new same listed = reposted (map Some xs) old new same listed

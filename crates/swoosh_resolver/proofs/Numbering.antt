@@ -4,14 +4,18 @@ use Rattle.std.specs.Prelude.{◌↔◌, ◌⊎◌, Contains, count_by}
 use Rattle.std.specs.Cmp.{IsEquivalence}
 use Rattle.std.proofs.lemmas.List.Elements.{Contains-append_left, Contains-push, Contains-push_cases}
 use Rattle.std.proofs.lemmas.List.Sums.{sum_by-append}
-use Rattle.feature_index.specs.Postings.{Posting, posting_of, numbers_of, spare_of, Gains, Loses}
+use Rattle.feature_index.specs.Postings.{Posting, posting_of, numbers_of, spare_of, Exchanges, Gains, Loses}
 
 -- new has the number no more under the keys, and all else is as in old
 pub record IsUnposted {K : Type 0} (eq : K → K → Bool) (old : List (K × Posting)) (keys : List K) (number : ℕ) (new : List (K × Posting)) : Type 0 where
   pub numbers : (k : K) (n : ℕ) → Contains (numbers_of eq new k) n ↔ (Contains (numbers_of eq old k) n × (Contains keys k → n ≢ number))
   pub spares : (k : K) → spare_of eq new k ≡ spare_of eq old k
 
--- new has the number under the keys too, and for each key a spare is used
+-- new has the second number in the place of the first under the keys, and all else is as in old
+pub record IsRenumbered {K : Type 0} (eq : K → K → Bool) (old : List (K × Posting)) (keys : List K) (from to : ℕ) (new : List (K × Posting)) : Type 0 where
+  pub numbers : (k : K) (n : ℕ) → Contains (numbers_of eq new k) n ↔ ((Contains (numbers_of eq old k) n × (Contains keys k → n ≢ from)) ⊎ (Contains keys k × (n ≡ to)))
+
+-- new has the number under the keys too, and for each key at most a spare is used
 pub record IsPosted {K : Type 0} (eq : K → K → Bool) (old : List (K × Posting)) (keys : List K) (number : ℕ) (new : List (K × Posting)) : Type 0 where
   pub numbers : (k : K) (n : ℕ) → Contains (numbers_of eq new k) n ↔ (Contains (numbers_of eq old k) n ⊎ (Contains keys k × (n ≡ number)))
   pub spares : (k : K) → spare_of eq old k ≤ spare_of eq new k + count_by (eq k) keys
@@ -61,7 +65,7 @@ module _ {K : Type 0} {eq : K → K → Bool} (laws : IsEquivalence eq) (exact :
   }
 
   pub posted_more : (old now then' : List (K × Posting)) (keys : List K) (number : ℕ) (key : K) → IsPosted eq old keys number now
-      → Gains (numbers_of eq now key) (numbers_of eq then' key) number → spare_of eq then' key + 1 ≡ spare_of eq now key
+      → Gains (numbers_of eq now key) (numbers_of eq then' key) number → spare_of eq now key ≤ spare_of eq then' key + 1
       → ((k : K) → eq key k ≡ false → posting_of eq then' k ≡ posting_of eq now k)
       → IsPosted eq old (keys ++ key ∷ []) number then'
   posted_more old now then' keys number key h gains used others = record {
@@ -90,8 +94,48 @@ module _ {K : Type 0} {eq : K → K → Bool} (laws : IsEquivalence eq) (exact :
           | inl same ↦
               (let itself : eq k key ≡ true = subst (λ z. eq z key ≡ true) same (laws.refl key) in
               let longer' : count_by (eq k) (keys ++ key ∷ []) ≡ count_by (eq k) keys + 1 = rw itself at longer in
-              let used' : spare_of eq then' k + 1 ≡ spare_of eq now k = subst (λ z. spare_of eq then' z + 1 ≡ spare_of eq now z) same used in
+              let used' : spare_of eq now k ≤ spare_of eq then' k + 1 = subst (λ z. spare_of eq now z ≤ spare_of eq then' z + 1) same used in
               let before = h.spares k in omega arith)
           | inr apart ↦ (let stays : spare_of eq then' k ≡ spare_of eq now k = ap (λ (p : Posting). p.spare) (others k apart) in let before = h.spares k in omega arith)
         ];
+  }
+
+  pub renumbered_none : (old : List (K × Posting)) (from to : ℕ) → IsRenumbered eq old [] from to old
+  renumbered_none old from to = record {
+    numbers = λ k n. (
+      λ c. inl (c, λ (i, il, e). absurd (omega arith)),
+      λ h. elim h as (λ _. Contains (numbers_of eq old k) n) [ inl (c, ne) ↦ c | inr ((i, il, e), same) ↦ absurd (omega arith) ],
+    );
+  }
+
+  pub renumbered_more : (old now then' : List (K × Posting)) (keys : List K) (from to : ℕ) (key : K) → IsRenumbered eq old keys from to now
+      → Exchanges (numbers_of eq now key) (numbers_of eq then' key) from to
+      → ((k : K) → eq key k ≡ false → posting_of eq then' k ≡ posting_of eq now k)
+      → IsRenumbered eq old (keys ++ key ∷ []) from to then'
+  renumbered_more old now then' keys from to key h exchanges others = record {
+    numbers = λ k n. elim (cases key k) as (λ _. Contains (numbers_of eq then' k) n ↔ ((Contains (numbers_of eq old k) n × (Contains (keys ++ key ∷ []) k → n ≢ from)) ⊎ (Contains (keys ++ key ∷ []) k × (n ≡ to)))) [
+      | inl same ↦ subst (λ k. Contains (numbers_of eq then' k) n ↔ ((Contains (numbers_of eq old k) n × (Contains (keys ++ key ∷ []) k → n ≢ from)) ⊎ (Contains (keys ++ key ∷ []) k × (n ≡ to)))) same (
+        λ c. elim ((exchanges.numbers n).0 c) as (λ _. (Contains (numbers_of eq old key) n × (Contains (keys ++ key ∷ []) key → n ≢ from)) ⊎ (Contains (keys ++ key ∷ []) key × (n ≡ to))) [
+          | inl (c', ne) ↦ elim ((h.numbers key n).0 c') as (λ _. (Contains (numbers_of eq old key) n × (Contains (keys ++ key ∷ []) key → n ≢ from)) ⊎ (Contains (keys ++ key ∷ []) key × (n ≡ to))) [
+            | inl (c'', ne') ↦ inl (c'', λ _. ne)
+            | inr (ck, e) ↦ inr (Contains-push keys key, e)
+          ]
+          | inr e ↦ inr (Contains-push keys key, e)
+        ],
+        λ w. elim w as (λ _. Contains (numbers_of eq then' key) n) [
+          | inl (c, ne) ↦ (exchanges.numbers n).1 (inl ((h.numbers key n).1 (inl (c, λ _. ne (Contains-push keys key))), ne (Contains-push keys key)))
+          | inr (ck, e) ↦ (exchanges.numbers n).1 (inr e)
+        ],
+      )
+      | inr apart ↦ (let same : numbers_of eq then' k ≡ numbers_of eq now k = ap (λ (p : Posting). p.numbers) (others k apart) in rw same (
+        λ c. elim ((h.numbers k n).0 c) as (λ _. (Contains (numbers_of eq old k) n × (Contains (keys ++ key ∷ []) k → n ≢ from)) ⊎ (Contains (keys ++ key ∷ []) k × (n ≡ to))) [
+          | inl (c', ne) ↦ inl (c', λ ck. elim (Contains-push_cases keys key k ck) as (λ _. n ≢ from) [ inl old' ↦ ne old' | inr e ↦ absurd (other key k apart e) ])
+          | inr (ck, e) ↦ inr (Contains-append_left keys (key ∷ []) k ck, e)
+        ],
+        λ w. (h.numbers k n).1 (elim w as (λ _. (Contains (numbers_of eq old k) n × (Contains keys k → n ≢ from)) ⊎ (Contains keys k × (n ≡ to))) [
+          | inl (c, ne) ↦ inl (c, λ ck. ne (Contains-append_left keys (key ∷ []) k ck))
+          | inr (ck, e) ↦ elim (Contains-push_cases keys key k ck) as (λ _. (Contains (numbers_of eq old k) n × (Contains keys k → n ≢ from)) ⊎ (Contains keys k × (n ≡ to))) [ inl c ↦ inr (c, e) | inr same' ↦ absurd (other key k apart same') ]
+        ]),
+      ))
+    ];
   }

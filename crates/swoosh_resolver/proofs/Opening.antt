@@ -111,6 +111,41 @@ module _ {R K : Type 0} {eq : K → K → Bool} {has_key : R → K → Type 0} (
         );
       }
 
+  -- the block is moved to a number with none
+  pub posted-moved : (e : Entry R K) (to : ℕ) → block_at blocks n ≡ Some e → block_at blocks to ≡ None → to ≤ length blocks
+      → ((k : K) (m : ℕ) → Contains (numbers_of eq new k) m ↔ ((Contains (numbers_of eq old k) m × (has_key e.value k → m ≢ n)) ⊎ (has_key e.value k × (m ≡ to))))
+      → ArePosted eq has_key (put_block (slice_set blocks n None) to e) new
+  posted-moved e to at free le changed =
+      let within : n < length blocks = within-from_some blocks n (rw at refl) in
+      let emptied : block_at (slice_set blocks n None) n ≡ None = get_or-set_same blocks n None None within in
+      let len : length (slice_set blocks n None) ≡ length blocks = length-set blocks n None in
+      let le' : to ≤ length (slice_set blocks n None) = omega arith in
+      let here : block_at (put_block (slice_set blocks n None) to e) to ≡ Some e = put-at (slice_set blocks n None) to e le' in
+      record {
+        stands = λ k m. (
+          λ c. elim ((changed k m).0 c) as (λ _. (f : Entry R K) × (block_at (put_block (slice_set blocks n None) to e) m ≡ Some f) × has_key f.value k) [
+            | inl (there, apart) ↦
+                (let (f, at', has) = (posted.stands k m).0 there in
+                let other : m ≢ to = λ same. (let none : block_at blocks m ≡ None = subst (λ z. block_at blocks z ≡ None) (sym same) free in absurd cc) in
+                let left : m ≢ n = λ same.
+                (let one : f ≡ e = let at'' : block_at blocks m ≡ Some e = subst (λ z. block_at blocks z ≡ Some e) (sym same) at in cc in
+                apart (subst (λ (z : Entry R K). has_key z.value k) one has) same) in
+                (f, put-other (slice_set blocks n None) to e le' m other ∙ (get_or-set_other blocks n m None None left ∙ at'), has))
+            | inr (has, same) ↦ (e, subst (λ z. block_at (put_block (slice_set blocks n None) to e) z ≡ Some e) (sym same) here, has)
+          ],
+          λ (f, at', has). elim (one_or_not m to) as (λ _. Contains (numbers_of eq new k) m) [
+            | inl same ↦
+                (let here' : block_at (put_block (slice_set blocks n None) to e) m ≡ Some e = subst (λ z. block_at (put_block (slice_set blocks n None) to e) z ≡ Some e) (sym same) here in
+                let one : f ≡ e = cc in
+                (changed k m).1 (inr (subst (λ (z : Entry R K). has_key z.value k) one has, same)))
+            | inr ne ↦
+                (let stays : block_at (slice_set blocks n None) m ≡ Some f = sym (put-other (slice_set blocks n None) to e le' m ne) ∙ at' in
+                let left : m ≢ n = λ same. (let none : block_at (slice_set blocks n None) m ≡ None = subst (λ z. block_at (slice_set blocks n None) z ≡ None) (sym same) emptied in absurd cc) in
+                (changed k m).1 (inl ((posted.stands k m).1 (f, sym (get_or-set_other blocks n m None None left) ∙ stays, has), λ _. left)))
+          ],
+        );
+      }
+
 module _ {X : Type 0} where
   -- the blocks with one that is put under a number that had none
   put-set-view : (blocks : List (Option X)) (n : ℕ) (x : X) → n < length blocks → block_at blocks n ≡ None → IsPermutation (x ∷ blocks_in blocks) (blocks_in (slice_set blocks n (Some x)))

@@ -104,7 +104,7 @@ impl<R: Resolvable> Blocks<R> {
         }
         match change.opened.first_match(alloc, value, steps)? {
             Some(place) => {
-                let other = change.opened.swap_remove(alloc, place)?;
+                let other = change.opened.swap_remove(place);
                 Ok(Some(other.value.joined(alloc, &value.value)?))
             }
             None => Ok(None),
@@ -142,7 +142,8 @@ impl<R: Resolvable> Blocks<R> {
             value = Seeker::of(alloc, merged)?;
         }
         let keyed = value.keyed(alloc)?;
-        change.opened.push(alloc, keyed)?;
-        Ok(change)
+        let Change { closed, opened } = change;
+        let opened = opened.with_last(alloc, keyed)?;
+        Ok(Change { closed, opened })
     }
 }

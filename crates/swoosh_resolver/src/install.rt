@@ -3,14 +3,14 @@ ghost use Rattle.std.specs.Prelude.{◌≡◌, ◌≢◌, ◌+◌, ◌-◌, ◌^
 ghost use Rattle.std.specs.Prelude.{OnOk, AllPairs, Contains, length, slice_set, vec_capacity};
 ghost use Rattle.std.specs.Prelude.{count_by};
 ghost use Rattle.std.specs.List.Sorted.{IsPermutation};
-ghost use Rattle.feature_index.specs.Postings.{spare_of};
+ghost use Rattle.feature_index.specs.Postings.{numbers_of, spare_of};
 ghost use Rattle.swoosh_resolver.specs.Tables.{Entry, ArePosted, block_at, blocks_in, put_block, values_of};
 ghost use Rattle.swoosh_resolver.specs.Changes.{AreNumbers, AreOpened, Fits, HasRoom, keys_in, number_at, view_of, without};
 
 use crate::blocks::Blocks;
 use crate::change::Change;
 use crate::keyed::Keyed;
-use crate::posting::{post, push_copies, unpost};
+use crate::posting::{make_room_for, post, unpost};
 use feature_index::postings::Postings;
 use merge_laws::resolvable::Resolvable;
 use std::alloc::Global;
@@ -125,15 +125,21 @@ fn open_all<R: Resolvable>(
     }
 }
 
-/// Copies the keys of each of the values. Returns `Memory` if allocation fails.
-fn copies_of_keys<R: Resolvable>(alloc: Global, opened: &[Keyed<R>]) -> Result<Vec<R::Key>, Memory>
-    ensures { IfOk result (λ keys. keys.items ≡ keys_in opened.now) }
+/// Makes room for one number more under each key of each of the values. The numbers stay. Returns `Memory` if allocation fails.
+fn make_room_for_all<R: Resolvable>(
+    alloc: Global,
+    postings: &mut Postings<R::Key>,
+    opened: &[Keyed<R>],
+) -> Result<(), Memory>
+    ensures numbers { (k : R.Key) → numbers_of R.Key.eq postings.new k
+        ≡ numbers_of R.Key.eq postings.old k }
+    ensures room { OnOk result ((k : R.Key) → count_by (R.Key.eq k) (keys_in opened.now)
+        ≤ spare_of R.Key.eq postings.new k) }
 {
-    let mut keys = Vec::new(alloc);
     for keyed in opened.iter() {
-        push_copies(alloc, keyed, &mut keys)?;
+        make_room_for(alloc, postings, keyed)?;
     }
-    Ok(keys)
+    Ok(())
 }
 
 /// The numbers of so many opened values, in their order. Returns `Memory` if allocation fails.
@@ -170,8 +176,7 @@ impl<R: Resolvable> Blocks<R> {
             → Contains change.now.closed.items n ⊎
             (block_at self.old.blocks n ≡ None)) }
     {
-        let keys = copies_of_keys(alloc, change.opened.as_slice())?;
-        self.postings.make_room(alloc, keys)?;
+        make_room_for_all(alloc, &mut self.postings, change.opened.as_slice())?;
         self.blocks.reserve(change.opened.len())?;
         numbers_of_opened(
             alloc,

@@ -1,12 +1,11 @@
 //! The opened values of a change.
-ghost use Rattle.std.specs.Prelude.{◌≡◌, ◌+◌, ◌-◌, ◌<◌, ◌≤◌, ◌++◌, ◌∷◌, [], Some, false, IsTrue, is_some, map, if◌then◌else◌};
-ghost use Rattle.std.specs.Prelude.{IfOk, IfSome, IfNone, OnOk, All, length, slice_index_or, swap_remove, count_by};
+ghost use Rattle.std.specs.Prelude.{◌≡◌, ◌+◌, ◌<◌, ◌≤◌, ◌++◌, ◌∷◌, [], Some, false, IsTrue, is_some, map, if◌then◌else◌};
+ghost use Rattle.std.specs.Prelude.{IfOk, IfSome, IfNone, All, length, slice_index_or, swap_remove, count_by};
 ghost use Rattle.swoosh_resolver.specs.Tables.{Entry, AreListed, block_at};
-ghost use Rattle.feature_index.specs.Postings.{spare_of};
 ghost use Rattle.swoosh_resolver.specs.Insertions.{passes};
 
 use crate::keyed::{Keyed, Seeker};
-use crate::posting::{candidates, make_room_for, post, unpost};
+use crate::posting::{candidates, post_copies, repost, unpost};
 use feature_index::postings::Postings;
 use merge_laws::resolvable::Resolvable;
 use merge_laws::steps::Steps;
@@ -32,22 +31,17 @@ impl<R: Resolvable> Model for Opened<R> {
     ghost invariant = { λ o. AreListed R.Key.eq R.is_posted o.values.items o.places };
 }
 
-/// Makes the index one of the values without that at the place, whose place the last one takes, in the room that was made for
-/// the last one. Takes no memory.
+/// Makes the index one of the values without that at the place, whose place the last one takes. Takes no memory.
 fn unlist<R: Resolvable>(places: &mut Postings<R::Key>, values: &[Keyed<R>], place: usize)
     requires within { place < length values.now }
     requires listed { AreListed R.Key.eq R.is_posted values.now places.old }
-    requires room { (k : R.Key) (d : Entry R R.Key)
-        → count_by (R.Key.eq k) (slice_index_or values.now
-        (length values.now - 1) d).keys ≤ spare_of R.Key.eq places.old k }
     ensures { (d : Entry R R.Key) → AreListed R.Key.eq R.is_posted (swap_remove values.now place d)
         places.new }
 {
     let last = values.len() - 1;
     unpost(places, &values[place], place as u64);
     if place < last {
-        unpost(places, &values[last], last as u64);
-        post(places, &values[last], place as u64);
+        repost(places, &values[last], last as u64, place as u64);
     }
 }
 
@@ -84,27 +78,26 @@ impl<R: Resolvable> Opened<R> {
         values
     }
 
-    /// Puts the value last. Memory where it runs out, and then all stays.
-    pub(crate) fn push(&mut self, alloc: Global, keyed: Keyed<R>) -> Result<(), Memory>
-        ensures items { OnOk result (self.new.items ≡ self.old.items ++ keyed ∷ []) }
+    /// The values, and the given one last. Returns `Memory` if allocation fails.
+    pub(crate) fn with_last(self, alloc: Global, keyed: Keyed<R>) -> Result<Opened<R>, Memory>
+        ensures { IfOk result (λ o. o.items ≡ self.items ++ keyed ∷ []) }
     {
-        self.values.reserve(1)?;
-        make_room_for(alloc, &mut self.places, &keyed)?;
-        post(&mut self.places, &keyed, self.values.len() as u64);
-        self.values.push(keyed)?;
-        Ok(())
+        let Opened { values, places } = self;
+        let mut values = values;
+        let mut places = places;
+        post_copies(alloc, &mut places, &keyed, values.len() as u64)?;
+        values.push(keyed)?;
+        Ok(Opened { values, places })
     }
 
-    /// Takes the value at the place out, and the last value takes its place. Returns `Memory` if allocation fails.
-    pub(crate) fn swap_remove(&mut self, alloc: Global, place: usize) -> Result<Keyed<R>, Memory>
+    /// Takes the value at the place out, and the last value takes its place. Takes no memory.
+    pub(crate) fn swap_remove(&mut self, place: usize) -> Keyed<R>
         requires { place < length self.old.items }
-        ensures value { IfOk result (λ e. e ≡ slice_index_or self.old.items place e) }
-        ensures items { IfOk result (λ e. self.new.items ≡ swap_remove self.old.items place e) }
+        ensures value { result ≡ slice_index_or self.old.items place result }
+        ensures items { self.new.items ≡ swap_remove self.old.items place result }
     {
-        let last = self.values.len() - 1;
-        make_room_for(alloc, &mut self.places, &self.values[last])?;
         unlist(&mut self.places, self.values.as_slice(), place);
-        Ok(self.values.swap_remove(place))
+        self.values.swap_remove(place)
     }
 
     /// Whether the value matches the one at the place. Takes no memory.

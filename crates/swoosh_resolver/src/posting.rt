@@ -1,5 +1,5 @@
 //! The postings of one block, and the blocks under some keys.
-ghost use Rattle.std.specs.Prelude.{◌≡◌, ◌≢◌, ◌+◌, ◌≤◌, ◌↔◌, ◌⊎◌, ◌++◌, ℕ, List, Option, Some, IfOk, OnOk, Contains, count_by};
+ghost use Rattle.std.specs.Prelude.{◌≡◌, ◌≢◌, ◌+◌, ◌≤◌, ◌↔◌, ◌⊎◌, ℕ, List, Option, Some, IfOk, OnOk, Contains, count_by};
 ghost use Rattle.feature_index.specs.Postings.{Ascends, numbers_of, spare_of};
 ghost use Rattle.swoosh_resolver.specs.Tables.{Entry, ArePosted, block_at};
 
@@ -42,21 +42,50 @@ pub(crate) fn unpost<R: Resolvable>(postings: &mut Postings<R::Key>, keyed: &Key
     }
 }
 
-/// Puts copies of the value's keys at the end. Returns `Memory` if allocation fails.
-pub(crate) fn push_copies<R: Resolvable>(
+/// Puts the number under a copy of each key of the value, and makes the room for it. Memory where it runs out, and then it may
+/// stand under some of them.
+pub(crate) fn post_copies<R: Resolvable>(
     alloc: Global,
+    postings: &mut Postings<R::Key>,
     keyed: &Keyed<R>,
-    keys: &mut Vec<R::Key>,
+    number: u64,
 ) -> Result<(), Memory>
-    ensures { OnOk result (keys.new.items ≡ keys.old.items ++ keyed.now.keys) }
+    requires { (k : R.Key) → R.is_posted keyed.now.value k
+        → Contains (numbers_of R.Key.eq postings.old k) number → ⊥ }
+    ensures { OnOk result ((k : R.Key) (n : ℕ) → Contains (numbers_of R.Key.eq postings.new k) n
+        ↔ (Contains (numbers_of R.Key.eq postings.old k) n
+        ⊎ (R.is_posted keyed.now.value k × (n ≡ number)))) }
 {
     for key in keyed.keys.iter() {
-        keys.push(R::copy_key(alloc, key)?)?;
+        let copy = R::copy_key(alloc, key)?;
+        postings.put(alloc, copy, number)?;
     }
     Ok(())
 }
 
-/// Makes room for one number more under each key of the value. The numbers stay. Returns `Memory` if allocation fails.
+/// Puts a number in the place of another under each key of the value. Takes no memory.
+pub(crate) fn repost<R: Resolvable>(
+    postings: &mut Postings<R::Key>,
+    keyed: &Keyed<R>,
+    from: u64,
+    to: u64,
+)
+    requires present { (k : R.Key) → R.is_posted keyed.now.value k
+        → Contains (numbers_of R.Key.eq postings.old k) from }
+    requires absent { (k : R.Key) → R.is_posted keyed.now.value k
+        → Contains (numbers_of R.Key.eq postings.old k) to → ⊥ }
+    ensures { (k : R.Key) (n : ℕ) → Contains (numbers_of R.Key.eq postings.new k) n
+        ↔ ((Contains (numbers_of R.Key.eq postings.old k) n
+        × (R.is_posted keyed.now.value k → n ≢ from))
+        ⊎ (R.is_posted keyed.now.value k × (n ≡ to))) }
+{
+    for key in keyed.keys.iter() {
+        postings.renumber(key, from, to);
+    }
+}
+
+/// Makes room for one number more under each key of the value, beside the room that there is. The numbers stay. Returns
+/// `Memory` if allocation fails.
 pub(crate) fn make_room_for<R: Resolvable>(
     alloc: Global,
     postings: &mut Postings<R::Key>,
@@ -64,12 +93,14 @@ pub(crate) fn make_room_for<R: Resolvable>(
 ) -> Result<(), Memory>
     ensures numbers { (k : R.Key) → numbers_of R.Key.eq postings.new k
         ≡ numbers_of R.Key.eq postings.old k }
-    ensures room { OnOk result ((k : R.Key) → count_by (R.Key.eq k) keyed.now.keys
-        ≤ spare_of R.Key.eq postings.new k) }
+    ensures room { OnOk result ((k : R.Key) → spare_of R.Key.eq postings.old k
+        + count_by (R.Key.eq k) keyed.now.keys ≤ spare_of R.Key.eq postings.new k) }
 {
-    let mut keys = Vec::new(alloc);
-    push_copies(alloc, keyed, &mut keys)?;
-    postings.make_room(alloc, keys)
+    for key in keyed.keys.iter() {
+        let copy = R::copy_key(alloc, key)?;
+        postings.make_room_once(alloc, copy)?;
+    }
+    Ok(())
 }
 
 /// The numbers of the blocks that have one of the keys, in ascending order, whichever blocks the postings are of. Memory where

@@ -1,5 +1,5 @@
 //! The taking apart of a member of the view.
-ghost use Rattle.std.specs.Prelude.{◌≡◌, ◌∷◌, ◌++◌, IsSome, IfOk, IfSome, OnOk, option_copied, option_map};
+ghost use Rattle.std.specs.Prelude.{◌≡◌, ◌∷◌, ◌++◌, IsSome, IfOk, IfSome, option_copied, option_map};
 ghost use Rattle.std.specs.List.Sorted.{IsPermutation};
 ghost use Rattle.merge_laws.specs.Resolution.{AreApart};
 ghost use Rattle.swoosh_resolver.specs.Changes.{Fits, view_of};
@@ -13,18 +13,19 @@ use merge_laws::resolvable::Resolvable;
 use std::alloc::Global;
 use union_base::memory::Memory;
 
-/// Opens the values, in their order. Returns `Memory` if allocation fails.
+/// The opened values, and the given ones after them, in their order. Returns `Memory` if allocation fails.
 fn open_values<R: Resolvable>(
     alloc: Global,
-    opened: &mut Opened<R>,
+    opened: Opened<R>,
     values: Vec<R>,
-) -> Result<(), Memory>
-    ensures { OnOk result (Opens opened.old.items values.items opened.new.items) }
+) -> Result<Opened<R>, Memory>
+    ensures { IfOk result (λ new. Opens opened.items values.items new.items) }
 {
+    let mut opened = opened;
     for value in values {
-        opened.push(alloc, Keyed::of(alloc, value)?)?;
+        opened = opened.with_last(alloc, Keyed::of(alloc, value)?)?;
     }
-    Ok(())
+    Ok(opened)
 }
 
 impl<R: Resolvable> Blocks<R> {
@@ -46,7 +47,7 @@ impl<R: Resolvable> Blocks<R> {
     }
 
     /// The change without the member at the place. Returns `Memory` if allocation fails.
-    fn taken_out(&self, alloc: Global, change: Change<R>, at: Place) -> Result<Change<R>, Memory>
+    fn taken_out(&self, change: Change<R>, at: Place) -> Result<Change<R>, Memory>
         requires { IsSome (member_at self.now.blocks change.closed.items change.opened.items at) }
         ensures closed { IfOk result (λ new. new.closed.items
             ≡ closed_after change.closed.items at) }
@@ -60,7 +61,7 @@ impl<R: Resolvable> Blocks<R> {
                 Ok(change)
             }
             Place::Fresh(place) => {
-                change.opened.swap_remove(alloc, place as usize)?;
+                change.opened.swap_remove(place as usize);
                 Ok(change)
             }
         }
@@ -91,8 +92,8 @@ impl<R: Resolvable> Blocks<R> {
             parts.items
             new.closed.items new.opened.items) }
     {
-        let mut change = self.taken_out(alloc, change, at)?;
-        open_values(alloc, &mut change.opened, parts)?;
-        Ok(change)
+        let Change { closed, opened } = self.taken_out(change, at)?;
+        let opened = open_values(alloc, opened, parts)?;
+        Ok(Change { closed, opened })
     }
 }

@@ -28,7 +28,7 @@ loop-key-preserved g c =
     let longer : take (i + 1) keys ≡ take i keys ++ key ∷ [] = take_more keys i key (omega arith) ∙ ap (λ k. take i keys ++ k ∷ []) (sym c.key-item.is) in
     rw longer
     (posted_more g.met.R.Key.Eq.laws g.met.R.Resolvable.exact_keys c.args.postings.now c.loop-key.postings c.add.new.self (take i keys) c.args.number key
-    c.loop-key.invariant c.add.ensures.numbers c.add.ensures.used c.add.ensures.others)
+    c.loop-key.invariant c.add.ensures.numbers (let used = c.add.ensures.used in omega arith) c.add.ensures.others)
 
 pub returns-clause-numbers : goal.returns-clause-numbers
 returns-clause-numbers g c =

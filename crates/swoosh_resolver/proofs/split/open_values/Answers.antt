@@ -2,7 +2,7 @@ use Rattle.swoosh_resolver.proofs.Adding.{opens_none, opens_more}
 use Rattle.swoosh_resolver.proofs.split.open_values.Goals as goal
 
 pub loop-value-init : goal.loop-value-init
-loop-value-init g c = opens_none c.args.opened.now.items
+loop-value-init g c = opens_none c.args.opened.items
 
 pub loop-value-preserved : goal.loop-value-preserved
-loop-value-preserved g c = rw c.in_ok-push.ensures.items (opens_more c.args.opened.now.items c.loop-value.yielded c.loop-value.opened.items c.in_ok-of.field-0 c.in-Some.value c.loop-value.invariant c.in_ok-of.ensures)
+loop-value-preserved g c = rw c.in_ok-opened.ensures (opens_more c.args.opened.items c.loop-value.yielded c.loop-value.opened.items c.in_ok-of.field-0 c.in-Some.value c.loop-value.invariant c.in_ok-of.ensures)

@@ -3,4 +3,4 @@ use Rattle.swoosh_resolver.specs.Splits.{Opens}
 use Rattle.swoosh_resolver.proofs.split.open_values.Given as goal
 
 abbrev pub invariant-loop-value : goal.invariant-loop-value
-invariant-loop-value g l = Opens l.initial.opened.items l.yielded l.opened.items
+invariant-loop-value g l = Opens l.fn.opened.items l.yielded l.opened.items

@@ -8,21 +8,21 @@ use Rattle.swoosh_resolver.proofs.blocks.Blocks.make_room.Goals as goal
 pub invariant_of-self : goal.invariant_of-self
 invariant_of-self g c = record {
   apart = c.self.invariant.apart;
-  posted = reposted c.self.inside.blocks.items c.self.inside.postings c.make_room.new.self c.make_room.ensures.numbers c.self.invariant.posted;
+  posted = reposted c.self.inside.blocks.items c.self.inside.postings c.make_room_for_all.new.postings c.make_room_for_all.ensures.numbers c.self.invariant.posted;
   counted = c.self.invariant.counted;
 }
 
 pub invariant_of-self-in_err-reserve : goal.invariant_of-self-in_err-reserve
 invariant_of-self-in_err-reserve g c = rw c.reserve.ensures.items (record {
   apart = c.self.invariant.apart;
-  posted = reposted c.self.inside.blocks.items c.self.inside.postings c.make_room.new.self c.make_room.ensures.numbers c.self.invariant.posted;
+  posted = reposted c.self.inside.blocks.items c.self.inside.postings c.make_room_for_all.new.postings c.make_room_for_all.ensures.numbers c.self.invariant.posted;
   counted = c.self.invariant.counted;
 })
 
 pub invariant_of-self-2 : goal.invariant_of-self-2
 invariant_of-self-2 g c = rw c.reserve.ensures.items (record {
   apart = c.self.invariant.apart;
-  posted = reposted c.self.inside.blocks.items c.self.inside.postings c.make_room.new.self c.make_room.ensures.numbers c.self.invariant.posted;
+  posted = reposted c.self.inside.blocks.items c.self.inside.postings c.make_room_for_all.new.postings c.make_room_for_all.ensures.numbers c.self.invariant.posted;
   counted = c.self.invariant.counted;
 })
 

@@ -26,14 +26,14 @@ pub returns-in_ok-joined-in-Some-2-clause-merged : goal.returns-in_ok-joined-in-
 returns-in_ok-joined-in-Some-2-clause-merged g c =
     let change = c.args.change.now in
     let place = c.in-Some-2.place in
-    let other = c.in_ok-other-in-Some-2.other in
+    let other = c.swap_remove-other.result in
     let within : place < length change.opened.items = rw c.in-Some-2.is at c.in_ok-place.ensures.within in
     let found : IsTrue (g.R.Resolvable.meets c.args.value.now.value (get_or change.opened.items place other).value) = (rw c.in-Some-2.is at c.in_ok-place.ensures.found) other in
-    let is = c.in_ok-other-in-Some-2.ensures.value in
+    let is = c.swap_remove-other.ensures.value in
     let matches : IsTrue (g.R.Resolvable.meets c.args.value.now.value other.value) = subst (λ (e : Entry g.row.R.Denot g.row.R-Key.Denot). IsTrue (g.R.Resolvable.meets c.args.value.now.value e.value)) (sym is) found in
     let value = ap (λ (e : Entry g.row.R.Denot g.row.R-Key.Denot). e.value) c.value.view_is in
     let its = ap (λ (e : Entry g.row.R.Denot g.row.R-Key.Denot). e.value) c.other.view_is in
-    rw c.in_ok-other-in-Some-2.ensures.items
+    rw c.swap_remove-other.ensures.items
     (merges-fresh c.args.self.now.blocks change.closed.items change.opened.items g.met.R.Join.join_laws g.met.R.Resolvable.match_laws c.args.value.now.value c.in_ok-joined-in-Some-2.field-0 place other within is matches
     (c.in_ok-joined-in-Some-2.ensures ∙ ap (λ v. g.R.Join.join v c.value.inside.value) its ∙ ap (g.R.Join.join other.value) value))
 
@@ -42,8 +42,8 @@ returns-in_ok-joined-in-Some-2-clause-fits g c =
     let change = c.args.change.now in
     let place = c.in-Some-2.place in
     let within : place < length change.opened.items = rw c.in-Some-2.is at c.in_ok-place.ensures.within in
-    rw c.in_ok-other-in-Some-2.ensures.items
-    (fits-fresh c.args.self.now.blocks change.closed.items change.opened.items c.requires place c.in_ok-other-in-Some-2.other within c.in_ok-other-in-Some-2.ensures.value)
+    rw c.swap_remove-other.ensures.items
+    (fits-fresh c.args.self.now.blocks change.closed.items change.opened.items c.requires place c.swap_remove-other.result within c.swap_remove-other.ensures.value)
 
 pub returns-in-None-clause-none : goal.returns-in-None-clause-none
 returns-in-None-clause-none g c =
@@ -76,11 +76,6 @@ returns-in-Some-clause-cost g c =
 
 pub returns-in_err-place-clause-cost : goal.returns-in_err-place-clause-cost
 returns-in_err-place-clause-cost g c =
-    spent-fresh c.args.self.now.blocks c.args.change.now.closed.items c.args.change.now.opened.items g.R.Resolvable.shares c.args.value.now.value c.args.steps.now c.first_kept.new.steps c.first_match.new.steps
-    (rw c.as_slice.ensures.value at c.first_kept.ensures.cost) c.first_match.ensures.cost
-
-pub returns-in_err-other-in-Some-2-clause-cost : goal.returns-in_err-other-in-Some-2-clause-cost
-returns-in_err-other-in-Some-2-clause-cost g c =
     spent-fresh c.args.self.now.blocks c.args.change.now.closed.items c.args.change.now.opened.items g.R.Resolvable.shares c.args.value.now.value c.args.steps.now c.first_kept.new.steps c.first_match.new.steps
     (rw c.as_slice.ensures.value at c.first_kept.ensures.cost) c.first_match.ensures.cost
 

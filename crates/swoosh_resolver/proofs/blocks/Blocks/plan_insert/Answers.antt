@@ -42,7 +42,7 @@ loop-value-preserved g c =
 pub returns-clause-inserts : goal.returns-clause-inserts
 returns-clause-inserts g c =
     let none = rw c.in_default.is at c.in_ok-merged.ensures.none in
-    rw (c.in_ok-push.ensures.items, none.0, none.1)
+    rw (c.in_ok-opened.ensures, none.0, none.1)
     (record {
       by = c.in_ok-keyed.keyed;
       before = c.loop-value.change.opened.items;
@@ -61,7 +61,7 @@ returns-clause-fits g c =
     let none = rw c.in_default.is at c.in_ok-merged.ensures.none in
     let kept : IsResolving g.R.Resolvable.meets g.R.Join.join list [] (view ++ keyed.value ∷ []) =
     rw c.in_ok-keyed.ensures (resolving_kept g.met.R.Join.join_laws g.met.R.Resolvable.match_laws list [] view c.loop-value.value.value c.loop-value.invariant.inserting.resolving none.2) in
-    rw (c.in_ok-push.ensures.items, none.0, none.1) (fits-push blocks change.closed.items change.opened.items c.loop-value.invariant.fits keyed kept.apart)
+    rw (c.in_ok-opened.ensures, none.0, none.1) (fits-push blocks change.closed.items change.opened.items c.loop-value.invariant.fits keyed kept.apart)
 
 pub returns-clause-resolved : goal.returns-clause-resolved
 returns-clause-resolved g c =
@@ -73,7 +73,7 @@ returns-clause-resolved g c =
     let none = rw c.in_default.is at c.in_ok-merged.ensures.none in
     let kept : IsResolving g.R.Resolvable.meets g.R.Join.join list [] (view ++ keyed.value ∷ []) =
     rw c.in_ok-keyed.ensures (resolving_kept g.met.R.Join.join_laws g.met.R.Resolvable.match_laws list [] view c.loop-value.value.value c.loop-value.invariant.inserting.resolving none.2) in
-    rw (c.in_ok-push.ensures.items, none.0, none.1, view-push blocks change.closed.items change.opened.items keyed)
+    rw (c.in_ok-opened.ensures, none.0, none.1, view-push blocks change.closed.items change.opened.items keyed)
     (IsResolution-from_resolving g.met.R.Join.join_laws g.met.R.Resolvable.match_laws list (view ++ keyed.value ∷ []) kept)
 
 pub returns-in_err-merged-clause-cost : goal.returns-in_err-merged-clause-cost
@@ -94,8 +94,8 @@ returns-in_err-keyed-clause-cost g c all x r cx d =
     inserting_bound g.met.R.Join.join_laws g.met.R.Resolvable.match_laws g.met.R.Resolvable.key_laws (view_of c.args.self.now.blocks c.args.change.closed.items c.args.change.opened.items) c.args.value
     c.args.steps.now c.loop-value.steps c.loop-value.value.value view c.merge_next.new.steps c.loop-value.invariant.inserting c.merge_next.ensures.cost all x r cx d
 
-pub returns-in_err-push-clause-cost : goal.returns-in_err-push-clause-cost
-returns-in_err-push-clause-cost g c all x r cx d =
+pub returns-in_err-opened-clause-cost : goal.returns-in_err-opened-clause-cost
+returns-in_err-opened-clause-cost g c all x r cx d =
     let view = view_of c.args.self.now.blocks c.loop-value.change.closed.items c.loop-value.change.opened.items in
     inserting_bound g.met.R.Join.join_laws g.met.R.Resolvable.match_laws g.met.R.Resolvable.key_laws (view_of c.args.self.now.blocks c.args.change.closed.items c.args.change.opened.items) c.args.value
     c.args.steps.now c.loop-value.steps c.loop-value.value.value view c.merge_next.new.steps c.loop-value.invariant.inserting c.merge_next.ensures.cost all x r cx d

@@ -1,4 +1,4 @@
-use Rattle.std.proofs.Common.{◌≡◌, ◌++◌, map, take}
+use Rattle.std.proofs.Common.{◌≡◌, map, take}
 use Rattle.swoosh_resolver.specs.Tables.{blocks_in, values_of}
 use Rattle.swoosh_resolver.proofs.blocks.Blocks.values.Given as goal
 

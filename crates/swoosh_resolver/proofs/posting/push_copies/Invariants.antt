@@ -1,5 +1,0 @@
-use Rattle.std.proofs.Common.{◌≡◌, ◌++◌, take}
-use Rattle.swoosh_resolver.proofs.posting.push_copies.Given as goal
-
-abbrev pub invariant-loop-key : goal.invariant-loop-key
-invariant-loop-key g l = l.keys.items ≡ l.initial.keys.items ++ take l.key-index l.key-items
