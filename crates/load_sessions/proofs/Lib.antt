@@ -1,4 +1,3 @@
 pub mod TallyLaws
 pub mod TurnLaws
 pub mod AskLaws
-pub mod EachLaws

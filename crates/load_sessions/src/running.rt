@@ -103,23 +103,6 @@ pub(crate) fn run_session<R: Threads + Wait + Sync, S: Source, G: Gate>(
     }
 }
 
-/// Runs the sessions in their order, on one worker.
-fn run_in_order<R: Threads + Wait + Sync, S: Source, G: Gate>(
-    rt: &R,
-    alloc: Global,
-    desk: &Desk<Served>,
-    gate: &G,
-    sessions: &mut [Session<S>],
-)
-    requires { All (IsReady desk.now.board.shared.table_id) sessions.old }
-    ensures { RunsEach S.name S.left S.faults desk.now.board.shared.table_id sessions.old
-        sessions.new }
-{
-    for session in sessions.iter_mut() {
-        run_session(rt, alloc, desk, gate, session, 1);
-    }
-}
-
 /// How many workers prepare the batches of each session: all of them where there is one session. Else there is one for each,
 /// since the sessions themselves are in threads of their own, and while one waits for its turn the others prepare.
 fn preparers(workers: u32, sessions: usize) -> u32
@@ -131,8 +114,8 @@ fn preparers(workers: u32, sessions: usize) -> u32
     if sessions == 1 { workers } else { 1 }
 }
 
-/// Runs the sessions on `workers` threads.
-fn run_at_once<R: Threads + Wait + Sync, S: Source + Send, G: Gate>(
+/// Runs the sessions on at most `workers` threads, each of which runs neighbouring sessions in their order.
+fn run_each<R: Threads + Wait + Sync, S: Source + Send, G: Gate>(
     rt: &R,
     alloc: Global,
     desk: &Desk<Served>,
@@ -156,59 +139,7 @@ fn run_at_once<R: Threads + Wait + Sync, S: Source + Send, G: Gate>(
     thread::for_each_mut(rt, sessions, workers as usize, &each);
 }
 
-/// Runs the sessions, with no asker.
-fn run_alone<R: Threads + Wait + Sync, S: Source + Send, G: Gate>(
-    rt: &R,
-    alloc: Global,
-    desk: &Desk<Served>,
-    gate: &G,
-    sessions: &mut [Session<S>],
-    workers: u32,
-)
-    requires some { 1 ≤ workers }
-    requires most { workers ≤ 64 }
-    requires ready { All (IsReady desk.now.board.shared.table_id) sessions.old }
-    ensures { RunsEach S.name S.left S.faults desk.now.board.shared.table_id sessions.old
-        sessions.new }
-{
-    if workers == 1 {
-        run_in_order(rt, alloc, desk, gate, sessions)
-    } else {
-        run_at_once(rt, alloc, desk, gate, sessions, workers)
-    }
-}
-
-/// Runs the sessions on `workers` threads, and the asker beside them.
-fn run_beside<R: Threads + Wait + Sync, S: Source + Send, G: Gate>(
-    rt: &R,
-    alloc: Global,
-    desk: &Desk<Served>,
-    gate: &G,
-    sessions: &mut [Session<S>],
-    asker: &mut Asker,
-    workers: u32,
-)
-    requires some { 1 ≤ workers }
-    requires most { workers ≤ 64 }
-    requires ready { All (IsReady desk.now.board.shared.table_id) sessions.old }
-    requires asker { IsAsker desk.now.board.shared.table_id asker.old }
-    ensures sessions { RunsEach S.name S.left S.faults desk.now.board.shared.table_id sessions.old
-        sessions.new }
-    ensures asker { Asks desk.now.board.shared.table_id asker.old asker.new }
-{
-    join_mut(
-        rt,
-        &mut || -> ()
-            requires { (1 ≤ workers) × (workers ≤ 64)
-                × All (IsReady desk.now.board.shared.table_id) sessions.now }
-            ensures { RunsEach S.name S.left S.faults desk.entry.now.board.shared.table_id
-                sessions.entry.now sessions.exit.now }
-        { run_at_once(rt, alloc, desk, gate, sessions, workers) },
-        &mut || ask_all(rt, alloc, desk, asker),
-    );
-}
-
-/// Runs the sessions and the asker.
+/// Runs the sessions, and the asker beside them, or after them with one worker.
 fn run_with_asker<R: Threads + Wait + Sync, S: Source + Send, G: Gate>(
     rt: &R,
     alloc: Global,
@@ -227,11 +158,20 @@ fn run_with_asker<R: Threads + Wait + Sync, S: Source + Send, G: Gate>(
     ensures asker { Asks desk.now.board.shared.table_id asker.old asker.new }
 {
     if workers == 1 {
-        run_in_order(rt, alloc, desk, gate, sessions);
-        ask_all(rt, alloc, desk, asker)
-    } else {
-        run_beside(rt, alloc, desk, gate, sessions, asker, workers)
+        run_each(rt, alloc, desk, gate, sessions, workers);
+        ask_all(rt, alloc, desk, asker);
+        return;
     }
+    join_mut(
+        rt,
+        &mut || -> ()
+            requires { (1 ≤ workers) × (workers ≤ 64)
+                × All (IsReady desk.now.board.shared.table_id) sessions.now }
+            ensures { RunsEach S.name S.left S.faults desk.entry.now.board.shared.table_id
+                sessions.entry.now sessions.exit.now }
+        { run_each(rt, alloc, desk, gate, sessions, workers) },
+        &mut || ask_all(rt, alloc, desk, asker),
+    );
 }
 
 /// Runs sessions at the desk, and an asker beside them, and answers when each has ended; it waits. No end is NotRun then.
@@ -262,6 +202,6 @@ pub fn run_sessions<R: Threads + Wait + Sync, S: Source + Send, G: Gate>(
 {
     match asker {
         Some(asker) => run_with_asker(rt, alloc, desk, gate, sessions, asker, workers),
-        None => run_alone(rt, alloc, desk, gate, sessions, workers),
+        None => run_each(rt, alloc, desk, gate, sessions, workers),
     }
 }
