@@ -4,6 +4,7 @@ use crate::records::{ONE, OTHER};
 use crate::runs::{Files, calm, run, shelf_of};
 use crate::texts::words_between;
 use authority_names::name_table::NameTable;
+use load_sessions::questions::Questions;
 use std::alloc::Global;
 use std::hint::spin_loop;
 use std::sync::Wait;
@@ -13,7 +14,8 @@ use std::thread::Threads;
 use union_base::bytes::Bytes;
 use union_base::memory::Memory;
 use union_io::gate::{Gate, OpenGate};
-use union_load::sessions::load_by_sessions;
+use union_load::sessions::load_and_ask;
+use union_load::start::Start;
 use union_words::job::Job;
 use union_words::loading::Loading;
 use union_words::status::Status;
@@ -191,10 +193,14 @@ fn sessions_of_turns<R: Threads + Wait + Sync, G: Gate>(
     let Some(loading) = loading_of(words.as_slice()) else {
         return Ok(sessions);
     };
-    let names = NameTable::empty(alloc);
-    if let Ok(loaded) = load_by_sessions(rt, alloc, &loading, names, &mut shelf, gate) {
-        for turn in 0..loaded.catalogue.turns() {
-            sessions.push(loaded.catalogue.entry(turn).pass)?;
+    let start = Start {
+        names: NameTable::empty(alloc),
+        questions: Questions::none(alloc),
+    };
+    if let Ok(watched) = load_and_ask(rt, alloc, &loading, start, &mut shelf, gate) {
+        let catalogue = &watched.loaded.catalogue;
+        for turn in 0..catalogue.turns() {
+            sessions.push(catalogue.entry(turn).pass)?;
         }
     }
     Ok(sessions)

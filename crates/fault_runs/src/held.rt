@@ -7,12 +7,14 @@ use authority_names::name_table::NameTable;
 use catalogue_core::catalogue::Catalogue;
 use catalogue_export::export::export;
 use field_merge::preference::Preference;
+use load_sessions::questions::Questions;
 use std::alloc::Global;
 use std::sync::Wait;
 use std::thread::Threads;
 use union_base::memory::Memory;
 use union_io::gate::OpenGate;
-use union_load::sessions::load_by_sessions;
+use union_load::sessions::load_and_ask;
+use union_load::start::Start;
 use union_words::libraries::Libraries;
 use union_words::loading::Loading;
 use union_words::status::Status;
@@ -90,12 +92,15 @@ fn run_sessions_held<R: Threads + Wait + Sync, G: Met>(
         names: None,
         libraries,
     };
-    let names = NameTable::empty(alloc);
-    match load_by_sessions(rt, alloc, &loading, names, &mut shelf, gate) {
-        Ok(loaded) => Ok(Ended {
+    let start = Start {
+        names: NameTable::empty(alloc),
+        questions: Questions::none(alloc),
+    };
+    match load_and_ask(rt, alloc, &loading, start, &mut shelf, gate) {
+        Ok(watched) => Ok(Ended {
             number: 0,
-            out: exported(alloc, &loaded.catalogue)?,
-            notes: turns_line(alloc, &loaded.catalogue)?,
+            out: exported(alloc, &watched.loaded.catalogue)?,
+            notes: turns_line(alloc, &watched.loaded.catalogue)?,
         }),
         Err(status) => Ok(quiet(alloc, status)),
     }

@@ -29,7 +29,7 @@ impl Loaded {
 
     /// The same with a text before the reports, which tells of something that was refused, or of nothing. Returns the error where
     /// allocation fails.
-    pub fn behind(self, text: Vec<u8>, refused: bool) -> Result<Loaded, AllocError>
+    pub fn with_text_before(self, text: Vec<u8>, refused: bool) -> Result<Loaded, AllocError>
         ensures catalogue { IfOk result (λ all. all.catalogue ≡ self.catalogue) }
         ensures reports { IfOk result (λ all. all.reports.items ≡ text.items
             ++ self.reports.items) }

@@ -1,6 +1,6 @@
 -- What was loaded by the names of a file, with what is told of that file before the reports.
 use Rattle.std.proofs.Common.{◌≡◌, Bool, true, false, List, ◌++◌, inl, inr, map, sym, ap, subst, ◌∙◌}
-use Rattle.std.specs.Prelude.{Result, Ok, Err, IfOk, IfErr, IfSome, ◌||◌, ◌⊎◌}
+use Rattle.std.specs.Prelude.{IfSome, ◌||◌, ◌⊎◌}
 use Rattle.catalogue_core.specs.Catalogues.{CatalogueValue}
 use Rattle.names_file.specs.Named.{Named}
 use Rattle.union_inputs.specs.Inputs.{Contents}
@@ -11,17 +11,17 @@ use Rattle.union_words.specs.Words.{LibraryFile}
 use Rattle.union_words.specs.declared.status.Status.{Status}
 use Rattle.union_words.specs.declared.status.Status.TheVariants.{WriteFault, Memory}
 use Rattle.union_files.specs.Deliveries.{Delivery, batches_of}
-use Rattle.union_files.specs.Inputs.{AreWithin, Gathers, StopsAt}
+use Rattle.union_files.specs.Inputs.{AreWithin}
 use Rattle.union_files.specs.Interleavings.{IsInterleaving}
 use Rattle.union_files.specs.Unions.{HasUnited}
 use Rattle.union_files.specs.declared.loaded.Loaded.{Loaded}
 use Rattle.union_commands.specs.Runs.{HasTurned}
 use Rattle.union_commands.proofs.RunLaws.{on_told}
 
-pub turned_behind : (names : Named) (all : List Delivery) (first loaded : Loaded) → loaded.catalogue ≡ first.catalogue
+pub turned_before : (names : Named) (all : List Delivery) (first loaded : Loaded) → loaded.catalogue ≡ first.catalogue
     → loaded.reports.items ≡ names.report ++ first.reports.items → loaded.refused ≡ (names.refused || first.refused) → HasUnited names.table all first
     → HasTurned IsInterleaving names all loaded
-turned_behind names all first loaded same reports refused united = record {
+turned_before names all first loaded same reports refused united = record {
   names_are = ap (λ (catalogue : CatalogueValue). catalogue.names) same ∙ united.names_are;
   refused = refused ∙ ap (λ other. names.refused || other) united.refused;
   streams = united.union.streams;
@@ -31,19 +31,15 @@ turned_behind names all first loaded same reports refused united = record {
   reports = reports ∙ ap (λ text. names.report ++ text) united.union.reports;
 }
 
--- the same, or memory ran out
-pub gathers_behind : (result : Result Loaded Status) (names : Named) (first : Loaded) (libraries : List LibraryFile) (shelf : ShelfFlow)
-    (all_of : Contents → List Delivery) → IsCalm shelf
-    → IfSome shelf.files (λ contents. AreWithin contents libraries × HasUnited names.table (all_of contents) first)
-    → IfOk result (λ loaded. loaded.catalogue ≡ first.catalogue) → IfOk result (λ loaded. loaded.reports.items ≡ names.report ++ first.reports.items)
-    → IfOk result (λ loaded. loaded.refused ≡ (names.refused || first.refused)) → IfErr result (λ status. status ≡ Memory)
-    → Gathers result libraries shelf (λ loaded contents. HasTurned IsInterleaving names (all_of contents) loaded)
-gathers_behind (Ok loaded) names first libraries shelf all_of calm united same reports refused memory = (
-  calm,
-  on_told shelf.files (λ contents holds. (holds.0, turned_behind names (all_of contents) first loaded same reports refused holds.1)) united,
+-- the same of the files of libraries
+pub gathers_before : (names : Named) (first loaded : Loaded) (libraries : List LibraryFile) (shelf : ShelfFlow) (all_of : Contents → List Delivery)
+    → loaded.catalogue ≡ first.catalogue → loaded.reports.items ≡ names.report ++ first.reports.items → loaded.refused ≡ (names.refused || first.refused)
+    → IsCalm shelf × IfSome shelf.files (λ contents. AreWithin contents libraries × HasUnited names.table (all_of contents) first)
+    → IsCalm shelf × IfSome shelf.files (λ contents. AreWithin contents libraries × HasTurned IsInterleaving names (all_of contents) loaded)
+gathers_before names first loaded libraries shelf all_of same reports refused found = (
+  found.0,
+  on_told shelf.files (λ contents holds. (holds.0, turned_before names (all_of contents) first loaded same reports refused holds.1)) found.1,
 )
-gathers_behind (Err status) names first libraries shelf all_of calm united same reports refused memory =
-    subst (λ status. StopsAt status libraries shelf) (sym memory) calm
 
 -- what is noted of a run that wrote what it came to and ended early: memory ran out
 pub noted_early : (refused : Bool) (status : Status) (notes : Outflow) → (status ≡ end_by refused) ⊎ ((status ≡ WriteFault) ⊎ (status ≡ Memory))

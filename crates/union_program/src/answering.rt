@@ -1,5 +1,5 @@
 //! The loading of libraries' files, and the answers to the questions of a file beside it.
-ghost use Rattle.std.specs.Prelude.{◌≡◌, ◌++◌, ◌||◌, [], map, length, IfOk, IfErr};
+ghost use Rattle.std.specs.Prelude.{◌≡◌, ◌++◌, [], map, length, IfOk};
 ghost use Rattle.std.specs.FinMap.{empty};
 ghost use Rattle.names_file.specs.Named.{named_by};
 ghost use Rattle.union_words.specs.Flows.{shelf_flow};
@@ -7,6 +7,7 @@ ghost use Rattle.union_words.specs.Meanings.{libraries_meaning, loading_meaning}
 ghost use Rattle.union_files.specs.Inputs.{Gathers, deliveries};
 ghost use Rattle.union_files.specs.Interleavings.{IsInterleaving};
 ghost use Rattle.union_follow.specs.Following.{HasFollowed};
+ghost use Rattle.union_load.specs.Replies.{AreReplies};
 ghost use Rattle.union_watch.specs.AskLines.{line_meaning, asked_lines, lines_in, questions_in, has_refused_line};
 ghost use Rattle.union_watch.specs.Lateness.{beside, late, AreTimely};
 ghost use Rattle.union_watch.specs.Told.{AreTold, numbers_of, told_of};
@@ -19,11 +20,10 @@ use std::alloc::{AllocError, Global};
 use std::sync::Wait;
 use std::thread::Threads;
 use union_base::memory::Memory;
-use union_files::loaded::Loaded;
 use union_follow::following::follow_and_ask;
 use union_io::gate::Gate;
 use union_io::shelf::Shelf;
-use union_load::sessions::{load_and_ask, load_by_sessions};
+use union_load::sessions::load_and_ask;
 use union_load::start::Start;
 use union_load::watched::Watched;
 use union_watch::answered::Answered;
@@ -90,70 +90,49 @@ fn answered(watched: Watched, lines: Vec<AskLine<'_>>, refused: bool) -> Answere
     }
 }
 
-/// What was loaded, with what is told of the file of names before the reports. Returns `Memory` if allocation fails.
-fn behind_names(loaded: Loaded, report: Vec<u8>, refused: bool) -> Result<Loaded, Status>
-    ensures catalogue { IfOk result (λ all. all.catalogue ≡ loaded.catalogue) }
-    ensures reports { IfOk result (λ all. all.reports.items ≡ report.items
-        ++ loaded.reports.items) }
-    ensures refused { IfOk result (λ all. all.refused ≡ (refused || loaded.refused)) }
-    ensures memory { IfErr result (λ status. status ≡ Status.Memory) }
-{
-    match loaded.behind(report, refused) {
-        Ok(all) => Ok(all),
-        Err(AllocError) => Err(Status::Memory),
-    }
-}
-
-/// The same of what was loaded and asked.
-fn watched_behind(watched: Watched, report: Vec<u8>, refused: bool) -> Result<Watched, Status>
-    ensures catalogue { IfOk result (λ all. all.loaded.catalogue ≡ watched.loaded.catalogue) }
-    ensures reports { IfOk result (λ all. all.loaded.reports.items ≡ report.items
-        ++ watched.loaded.reports.items) }
-    ensures refused { IfOk result (λ all. all.loaded.refused
-        ≡ (refused || watched.loaded.refused)) }
-    ensures beside { IfOk result (λ all. all.beside ≡ watched.beside) }
-    ensures late { IfOk result (λ all. all.late ≡ watched.late) }
-    ensures memory { IfErr result (λ status. status ≡ Status.Memory) }
-{
-    let Watched {
-        loaded,
-        beside,
-        late,
-    } = watched;
-    match behind_names(loaded, report, refused) {
-        Ok(loaded) => Ok(Watched {
-            loaded,
-            beside,
-            late,
-        }),
-        Err(status) => Err(status),
-    }
-}
-
-/// Loads the files of the libraries by these names.
+/// Loads the files of the libraries by these names, and asks the questions beside the load and after it. What is told of the file
+/// of names stands before the reports.
 ///
 /// # Errors
 ///
-/// As those of `load_by_sessions`: the first file that could not be opened, or read to its end, or is too long; or `Memory`.
+/// As those of `load_and_ask`: the first file that could not be opened, or read to its end, or is too long; or `Memory`.
 pub fn load_by_names<R: Threads + Wait + Sync, F: Shelf, G: Gate>(
     host: &Host<'_, R, G>,
     loading: &Loading<'_>,
     names: NamesRead,
+    questions: Questions,
     shelf: &mut F,
-) -> Result<Loaded, Status>
-    ensures { Gathers result (libraries_meaning loading.now.libraries)
+) -> Result<Watched, Status>
+    ensures gathers { Gathers result (libraries_meaning loading.now.libraries)
         (shelf_flow F.files F.faults shelf.old shelf.new)
-        (λ loaded contents. HasTurned IsInterleaving (named_by names)
-        (deliveries_of contents (loading_meaning loading.now)) loaded) }
+        (λ watched contents. HasTurned IsInterleaving (named_by names)
+        (deliveries_of contents (loading_meaning loading.now)) watched.loaded) }
+    ensures beside { IfOk result (λ watched. AreReplies names.table
+        watched.loaded.catalogue.history 0 questions.beside.items watched.beside.items) }
+    ensures late { IfOk result (λ watched. AreReplies names.table watched.loaded.catalogue.history
+        (length watched.loaded.catalogue.history) questions.late.items watched.late.items) }
 {
     let NamesRead {
         table,
         report,
         refused,
     } = names;
-    match load_by_sessions(host.rt, host.alloc, loading, table, shelf, host.gate) {
-        Ok(loaded) => behind_names(loaded, report, refused),
-        Err(status) => Err(status),
+    let start = Start {
+        names: table,
+        questions,
+    };
+    let Watched {
+        loaded,
+        beside,
+        late,
+    } = load_and_ask(host.rt, host.alloc, loading, start, shelf, host.gate)?;
+    match loaded.with_text_before(report, refused) {
+        Ok(loaded) => Ok(Watched {
+            loaded,
+            beside,
+            late,
+        }),
+        Err(AllocError) => Err(Status::Memory),
     }
 }
 
@@ -161,7 +140,7 @@ pub fn load_by_names<R: Threads + Wait + Sync, F: Shelf, G: Gate>(
 ///
 /// # Errors
 ///
-/// As those of `load_and_ask`: the first file that could not be opened, or read to its end, or is too long; or `Memory`.
+/// As those of `load_by_names`.
 pub fn load_and_answer<'a, R: Threads + Wait + Sync, F: Shelf, G: Gate>(
     host: &Host<'_, R, G>,
     text: &'a [u8],
@@ -192,20 +171,8 @@ pub fn load_and_answer<'a, R: Threads + Wait + Sync, F: Shelf, G: Gate>(
         questions,
         refused,
     } = asked;
-    let NamesRead {
-        table,
-        report,
-        refused: is_refused,
-    } = names;
-    let start = Start {
-        names: table,
-        questions,
-    };
-    match load_and_ask(host.rt, host.alloc, loading, start, shelf, host.gate) {
-        Ok(watched) => match watched_behind(watched, report, is_refused) {
-            Ok(watched) => Ok(answered(watched, lines, refused)),
-            Err(status) => Err(status),
-        },
+    match load_by_names(host, loading, names, questions, shelf) {
+        Ok(watched) => Ok(answered(watched, lines, refused)),
         Err(status) => Err(status),
     }
 }

@@ -21,6 +21,7 @@ ghost use Rattle.union_json.specs.Runs.{IsToJsonRun, IsFromJsonRun};
 use crate::answering::{follow_and_answer, load_and_answer, load_by_names};
 use crate::host::Host;
 use crate::json::{from_json_file, to_json_file};
+use load_sessions::questions::Questions;
 use names_file::shelved::names_of;
 use std::alloc::Global;
 use std::sync::Wait;
@@ -195,10 +196,13 @@ fn run_union<R: Threads + Wait + Sync, F: Shelf, O: Sink, N: Sink, G: Gate>(
         → IsNoted (outflow N.written N.faults notes.old notes.new) (early_text result) }
 {
     match names_of(host.alloc, loading.names, shelf) {
-        Ok(names) => match load_by_names(host, loading, names, shelf) {
-            Ok(loaded) => write_shown(host.alloc, shown, loaded, out, notes),
-            Err(status) => end(notes, status),
-        },
+        Ok(names) => {
+            let none = Questions::none(host.alloc);
+            match load_by_names(host, loading, names, none, shelf) {
+                Ok(watched) => write_shown(host.alloc, shown, watched.loaded, out, notes),
+                Err(status) => end(notes, status),
+            }
+        }
         Err(status) => end(notes, status),
     }
 }

@@ -21,17 +21,17 @@ returns-in-Ok-load_by_names-clause-run g c =
     let between = g.F.Shelf.faults c.names_of.new.shelf in
     let after = g.F.Shelf.faults c.load_by_names.new.shelf in
     let names = named_by c.in-Ok.names in
-    let loaded = c.in-Ok-load_by_names.loaded in
+    let loaded = c.in-Ok-load_by_names.watched.loaded in
     let named = names_read (option_copied c.args.loading.now.names) c.in-Ok.names (flow files before between) c.in-Ok.ensures.reads in
     loaded_run (showing_of c.args.shown) names loaded c.write_shown.result loading (flow files before after) _ _
-    (same_more before between after named.0 c.in-Ok-load_by_names.ensures.0) named.1
+    (same_more before between after named.0 c.in-Ok-load_by_names.ensures.gathers.0) named.1
     (subst (λ fs. IfSome fs (λ contents. AreWithin contents loading.libraries × HasTurned IsInterleaving names (deliveries_of contents loading) loaded))
-    c.in-Ok.ensures.files c.in-Ok-load_by_names.ensures.1)
+    c.in-Ok.ensures.files c.in-Ok-load_by_names.ensures.gathers.1)
     c.write_shown.ensures
 
 pub returns-in-Ok-load_by_names-clause-noted : goal.returns-in-Ok-load_by_names-clause-noted
 returns-in-Ok-load_by_names-clause-noted g c =
-    λ early. loaded_noted (showing_of c.args.shown) c.in-Ok-load_by_names.loaded c.write_shown.result _ _ c.write_shown.ensures early
+    λ early. loaded_noted (showing_of c.args.shown) c.in-Ok-load_by_names.watched.loaded c.write_shown.result _ _ c.write_shown.ensures early
 
 pub returns-in-Err-load_by_names-clause-run : goal.returns-in-Err-load_by_names-clause-run
 returns-in-Err-load_by_names-clause-run g c =
@@ -45,7 +45,7 @@ returns-in-Err-load_by_names-clause-run g c =
     rw c.end.ensures.same
     (stopped_at_libraries (IsUnionOf (showing_of c.args.shown) loading) status (names_inputs loading.names) loading.libraries files before between after _ _
     named.0 (on_told files (λ contents holds. holds.0) named.1)
-    (subst (λ fs. StopsAt status loading.libraries (flow fs between after)) c.in-Ok.ensures.files c.in-Err-load_by_names.ensures)
+    (subst (λ fs. StopsAt status loading.libraries (flow fs between after)) c.in-Ok.ensures.files c.in-Err-load_by_names.ensures.gathers)
     (keeps_all (g.O.Sink.written c.args.out.now)))
 
 pub returns-in-Err-clause-run : goal.returns-in-Err-clause-run
