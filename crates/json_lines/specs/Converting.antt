@@ -1,4 +1,4 @@
--- What a converter holds that has taken the front of a text.
+-- What a converter holds that has taken a prefix of a text.
 use Rattle.std.specs.Prelude.{◌≡◌, ℕ, false, List, ◌++◌}
 use Rattle.std.specs.List.{All, AllZip}
 use Rattle.json_lines.specs.Counts.{AreCounted}

@@ -8,7 +8,7 @@ use Rattle.json_lines.specs.declared.gathered.Gathered.TheInside.{Inside}
 abbrev pub text_of : Inside → List ℕ
 text_of gathered = flat_map (λ piece. piece.items) gathered.full.items ++ gathered.last.items
 
--- of a line with so many bytes too many nothing is kept, and of any other all of it
+-- of a line with more than `longest_line` bytes nothing is kept, and of any other all of it
 abbrev pub Holds : Bool → List ℕ → List ℕ → Type 0
 Holds true bytes begun = longest_line < length begun
 Holds false bytes begun = (begun ≡ bytes) × (length begun ≤ longest_line)

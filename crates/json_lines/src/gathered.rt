@@ -64,7 +64,7 @@ impl Gathered {
     }
 }
 
-/// Sets the last piece aside, and begins a new one with the room of a piece, and of so many bytes at least.
+/// Sets the last piece aside, and begins a new one with the room of a piece, and of `size` bytes at least.
 fn next_piece(full: &mut Vec<Vec<u8>>, last: &mut Vec<u8>, size: usize) -> Result<(), AllocError>
     ensures { OnOk result (flat_map (λ piece. piece.items) full.new.items ++ last.new.items
         ≡ flat_map (λ piece. piece.items) full.old.items ++ last.old.items) }

@@ -26,7 +26,7 @@ fn take(alloc: Global, converter: &mut Converter, piece: &[u8]) -> Result<(), Fa
     Ok(())
 }
 
-/// What came of the lines of a text that comes in two pieces, of which the first has so many bytes at most.
+/// What came of the lines of a text that comes in two pieces, of which the first has at most `first` bytes.
 fn converted(alloc: Global, text: &[u8], first: usize) -> Result<Findings, Fail> {
     let mut converter = Converter::open(alloc)?;
     let (one, other) = text.split_at(first.min(text.len()));
@@ -55,7 +55,7 @@ fn reason(alloc: Global, line: &[u8]) -> Result<Reason, Fail> {
     }
 }
 
-/// A record with so many fields 500, each with a text of so many bytes.
+/// A record with `fields` fields 500, each with a text of `size` bytes.
 fn record_of(alloc: Global, fields: usize, size: usize) -> Result<Vec<u8>, Fail> {
     let text = vec![in alloc; b'x'; size]?;
     let mut line = Vec::new(alloc);

@@ -43,7 +43,7 @@ static NO_JSON: [&[u8]; 20] = [
     b"{\"fields\":[{\"001\"\"id\"},{\"008\":\"240101s1999    xx                  eng d\"},{\"245\":{\"ind1\":\"0\",\"ind2\":\"0\",\"subfields\":[{\"a\":\"Cat\"}]}}],\"leader\":\"00000nam a2200000 a 4500\"}",
     // No JSON: single quotes.
     b"{'fields':[{'001':'id'},{'008':'240101s1999    xx                  eng d'},{'245':{'ind1':'0','ind2':'0','subfields':[{'a':'Cat'}]}}],'leader':'00000nam a2200000 a 4500'}",
-    // No JSON: byte order mark in front.
+    // No JSON: byte order mark at the start.
     b"\xEF\xBB\xBF{\"fields\":[{\"001\":\"id\"},{\"008\":\"240101s1999    xx                  eng d\"},{\"245\":{\"ind1\":\"0\",\"ind2\":\"0\",\"subfields\":[{\"a\":\"Cat\"}]}}],\"leader\":\"00000nam a2200000 a 4500\"}",
     // Not UTF-8: 0xFF in a text.
     b"{\"fields\":[{\"001\":\"id\"},{\"008\":\"240101s1999    xx                  eng d\"},{\"245\":{\"ind1\":\"0\",\"ind2\":\"0\",\"subfields\":[{\"a\":\"Cat\"}]}},{\"500\":{\"ind1\":\" \",\"ind2\":\" \",\"subfields\":[{\"a\":\"\xFF\"}]}}],\"leader\":\"00000nam a2200000 a 4500\"}",

@@ -3,7 +3,7 @@
 /// How far a source was read, as it stands to the limit on its bytes.
 #[derive(Clone, Copy, Debug, PartialEq, Eq)]
 pub enum Course {
-    /// So many bytes more are within the limit.
+    /// This many bytes more are within the limit.
     Open(u64),
     /// It answered its end within the limit.
     Ended,

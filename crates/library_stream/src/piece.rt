@@ -57,7 +57,7 @@ impl Piece {
             .1
     }
 
-    /// Passes over so many bytes. Takes no memory.
+    /// Passes over the first `count` bytes. Takes no memory.
     pub fn skip(&mut self, count: usize)
         requires { count ≤ length self.old }
         ensures { self.new ≡ drop count self.old }
@@ -65,7 +65,7 @@ impl Piece {
         self.from += count;
     }
 
-    /// Keeps so many bytes, and forgets those after them. Takes no memory.
+    /// Keeps the first `count` bytes, and forgets those after them. Takes no memory.
     pub fn keep(&mut self, count: usize)
         requires { count ≤ length self.old }
         ensures { self.new ≡ take count self.old }

@@ -34,7 +34,7 @@ Appends-frame (Err e) old a b c d new leader directory bytes p q r s t =
     let whole : d ≡ old ++ (leader ++ (directory ++ (0x1E ∷ bytes))) = rw (s, r, q, p) (simp append_assoc) in
     rw (t, whole) (take-append_seam old _)
 
--- what stood before the first of two pieces stands in front still where the second was not appended
+-- what stood before the first of two pieces is still a prefix where the second was not appended
 pub front_kept : (old middle new text : List ℕ) → middle ≡ old ++ text → take (length middle) new ≡ middle → take (length old) new ≡ old
 front_kept old middle new text is kept =
     let short : length old ≤ length middle = rw is (omega (arith, length-append old text)) in

@@ -17,7 +17,7 @@ use Rattle.marc_fields.specs.Rules.{entry_in, entry_texts, has_digits, has_tag, 
 use Rattle.marc_fields.specs.Spelling.{entry_bytes}
 use Rattle.marc_fields.specs.declared.rules.Rule.TheVariants.{EntryDigits, Tag as TagRule}
 
--- the first of so many texts
+-- the first of n texts
 pub texts-step : (n : ℕ) (rest : List ℕ) → 0 < n → entry_texts n rest ≡ take 12 rest ∷ entry_texts (n - 1) (drop 12 rest)
 texts-step zero rest some = absurd (omega arith)
 texts-step (suc n) rest some = let less : suc n - 1 ≡ n = omega arith in rw less refl

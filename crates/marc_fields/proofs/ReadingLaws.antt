@@ -20,7 +20,7 @@ use Rattle.union_base.specs.Fields.{is_tag, is_tag_byte}
 use Rattle.marc_fields.specs.Spelling.{entry_bytes, leader_bytes, longest_frame}
 use Rattle.marc_fields.proofs.SpellingLaws.{length-leader_bytes}
 
--- the frame is a leader with its length, so many entries and these codes, and then the rest
+-- the frame is a leader with its length, `entries` entries and these codes, and then the rest
 pub record IsHead (frame : List ℕ) (codes : Codes) (entries : ℕ) (rest : List ℕ) : Type 0 where
   pub short : length frame ≤ longest_frame
   pub base : 25 + 12 * entries ≤ longest_frame

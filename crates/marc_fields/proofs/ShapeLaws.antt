@@ -14,7 +14,7 @@ use Rattle.union_base.proofs.ReadingLaws.{body_in-control}
 use Rattle.union_base.proofs.SubfieldLaws.{undelimited-take}
 use Rattle.marc_fields.specs.Shapes.{is_inner, are_inner, begins_with_code, are_coded, has_control_shape, has_data_shape, has_shape, IsFirstSubfield}
 
--- bytes without a delimiter in front ask nothing
+-- leading bytes without a delimiter ask nothing
 pub are_coded-append : (text rest : List ℕ) → has_control_shape text ≡ true → are_coded (text ++ rest) ≡ are_coded rest
 are_coded-append [] rest none = refl
 are_coded-append (b ∷ text) rest none =
@@ -25,7 +25,7 @@ are_coded-append (b ∷ text) rest none =
 code_undelimited : (code : ℕ) → is_subfield_code code ≡ true → (code == 0x1F) ≡ false
 code_undelimited code fits = grind (arith, nat_tests)
 
--- a subfield in front asks nothing more
+-- a leading subfield asks nothing more
 pub are_coded-first : (code : ℕ) (text rest : List ℕ) → is_subfield_code code ≡ true → has_control_shape text ≡ true
     → are_coded (0x1F ∷ code ∷ (text ++ rest)) ≡ are_coded rest
 are_coded-first code text rest fits none =

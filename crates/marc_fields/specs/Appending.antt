@@ -6,7 +6,7 @@ use Rattle.marc_fields.specs.declared.marc_record.Record.{Record}
 use Rattle.marc_fields.specs.declared.encoding.EncodeRefusal.{EncodeRefusal}
 use Rattle.marc_fields.specs.declared.encoding.EncodeRefusal.TheVariants.{FieldTooLong, RecordTooLong, Memory}
 
--- the text is appended, or what stood before stands in front still
+-- the text is appended, or what stood before is still a prefix
 abbrev pub Appends : {T E : Type 0} → Result T E → List ℕ → List ℕ → List ℕ → Type 0
 Appends answer old new text = MatchResult answer (λ _. new ≡ old ++ text) (λ _. take (length old) new ≡ old)
 
@@ -17,7 +17,7 @@ too_long r =
     then (if nat_le (frame_size r) longest_frame then None else Some RecordTooLong)
     else Some FieldTooLong)
 
--- the refusal is that one, or want of memory
+-- the refusal is that one, or lack of memory
 abbrev pub IsCause : EncodeRefusal → Option EncodeRefusal → Type 0
 IsCause Memory cause = Unit {0}
 IsCause FieldTooLong cause = cause ≡ Some FieldTooLong

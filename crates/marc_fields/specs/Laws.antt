@@ -21,7 +21,7 @@ IsSpelled = (r : Record) → IsTrue (are_printable r.leader) → too_long r ≡ 
 abbrev pub BreaksNoRule : Type 0
 BreaksNoRule = (frame : List ℕ) (r : Record) → Spells frame r → first_failure frame ≡ None
 
--- the rule on ranges fails at the least entry without a place of its own, or else behind the last one where a byte has none
+-- the rule on ranges fails at the least entry without a place of its own, or else after the last one where a byte has none
 abbrev pub TilingPlaceIsLeast : Type 0
 TilingPlaceIsLeast = (bytes : List ℕ) (entries : List Entry) (place : ℕ)
     → (tiling_failure bytes entries ≡ Some (record { rule = Tiling; place = place }))

@@ -24,7 +24,7 @@ abbrev pub or_then : Option Failure → Option Failure → Option Failure
 or_then None later = later
 or_then (Some first) later = Some first
 
--- the refusal is that failure, or want of memory
+-- the refusal is that failure, or lack of memory
 abbrev pub IsRefusal : DecodeRefusal → Option Failure → Type 0
 IsRefusal (RuleRefusal rule place) failure = failure ≡ Some (record { rule = rule; place = place })
 IsRefusal Memory failure = Unit {0}
@@ -33,12 +33,12 @@ IsRefusal Memory failure = Unit {0}
 abbrev pub Answers : {T : Type 0} → Result T DecodeRefusal → Option Failure → (T → Type 0) → Type 0
 Answers result failure P = MatchResult result (λ value. (failure ≡ None) × P value) (λ refusal. IsRefusal refusal failure)
 
--- one of so many numbers from that one on passes the test
+-- one of this many numbers from that one on passes the test
 abbrev pub any_from : (ℕ → Bool) → ℕ → ℕ → Bool
 any_from passes start zero = false
 any_from passes start (suc n) = passes start || any_from passes (suc start) n
 
--- each of so many numbers from that one on passes the test
+-- each of this many numbers from that one on passes the test
 abbrev pub all_from : (ℕ → Bool) → ℕ → ℕ → Bool
 all_from passes start zero = true
 all_from passes start (suc n) = passes start && all_from passes (suc start) n

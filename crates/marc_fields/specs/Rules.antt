@@ -68,7 +68,7 @@ leader_failure leader frame =
 unfoldable pub head_failure : List ℕ → Option Failure
 head_failure frame = or_then (too_short frame) (leader_failure (leader_of_frame frame) frame)
 
--- so many texts of 12 bytes
+-- this many texts of 12 bytes
 abbrev pub entry_texts : ℕ → List ℕ → List (List ℕ)
 entry_texts zero directory = []
 entry_texts (suc n) directory = take 12 directory ∷ entry_texts n (drop 12 directory)

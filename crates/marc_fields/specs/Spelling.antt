@@ -22,7 +22,7 @@ longest_field = 9999
 abbrev pub stored : Field → List ℕ
 stored f = spelled f.body ++ field_terminator ∷ []
 
--- the leader's 24 bytes, of a frame of that size with so many entries
+-- the leader's 24 bytes, of a frame of `size` bytes with `entries` entries
 unfoldable pub leader_bytes : ℕ → ℕ → Codes → List ℕ
 leader_bytes size entries codes = leader_text (record { length = size; base = 25 + 12 * entries; codes = codes })
 

@@ -87,7 +87,7 @@ fn decode_data(alloc: Global, entries: &[Entry], bytes: &[u8]) -> Result<Vec<Fie
     }
 }
 
-/// The fields that a directory of so many entries and the data have, or the first rule on them that fails.
+/// The fields that a directory of `count` entries and the data have, or the first rule on them that fails.
 fn decode_parts(
     alloc: Global,
     directory: &[u8],

@@ -19,7 +19,7 @@ fn are_numbers(text: &[u8]) -> bool
     digits(&text[3..7]).is_some() && digits(&text[7..12]).is_some()
 }
 
-/// The number of the first entry whose length or start is not all digits, after so many others.
+/// The number of the first entry whose length or start is not all digits, after `before` others.
 fn first_undigited(directory: &[u8], before: usize, count: usize) -> Option<u32>
     requires size { length directory.now ≡ 12 * count }
     requires few { before + count ≤ 9999 }
@@ -36,7 +36,7 @@ fn first_undigited(directory: &[u8], before: usize, count: usize) -> Option<u32>
     None
 }
 
-/// The first rule that entries break, after so many others that break none, where the first of them breaks that one: a
+/// The first rule that entries break, after `before` others that break none, where the first of them breaks that one: a
 /// tag that is none is named only where all numbers are digits.
 fn failure_at(rule: EntryRule, directory: &[u8], before: usize, count: usize) -> DecodeRefusal
     requires size { length directory.now ≡ 12 * count }
@@ -64,7 +64,7 @@ fn failure_at(rule: EntryRule, directory: &[u8], before: usize, count: usize) ->
     }
 }
 
-/// The entries of a directory of so many (ISO 2709, 'Directory'; MARC 21, 'Directory'), or the first rule on them that
+/// The `count` entries of a directory (ISO 2709, 'Directory'; MARC 21, 'Directory'), or the first rule on them that
 /// fails. One walk over the directory where none fails.
 pub fn check_directory(
     alloc: Global,

@@ -61,7 +61,7 @@ fn data_size<F: HasField>(fields: &[F]) -> Option<usize>
     Some(size)
 }
 
-/// The bytes of a frame with so many entries and so many bytes of data; None where they are more than a frame may have.
+/// The size of a frame with `entries` entries and `bytes` bytes of data; None where it is more than a frame may have.
 fn counted_size(entries: usize, bytes: usize) -> Option<usize>
     ensures { result ≡ (if nat_le (26 + 12 * entries + bytes) longest_frame then Some
         (26 + 12 * entries + bytes) else None) }
@@ -131,7 +131,7 @@ fn append_entries<F: HasField>(fields: &[F], into: &mut Vec<u8>) -> Result<(), A
     Ok(())
 }
 
-/// Appends the leader of a frame of that size with so many entries.
+/// Appends the leader of a frame of `size` bytes with `entries` entries.
 fn append_leader(
     codes: LeaderCodes,
     size: usize,

@@ -1,4 +1,4 @@
-//! The front of a frame: its leader, looked at rule by rule.
+//! The head of a frame: its leader, looked at rule by rule.
 ghost use Rattle.std.specs.Prelude.{◌≡◌, ◌+◌, ◌≤◌, true, length, Some, None, Ok, Err, if◌then◌else◌};
 ghost use Rattle.marc_leader.specs.Leader.{length_place, base_place, misfit};
 ghost use Rattle.marc_leader.specs.Numeral.{are_digits};

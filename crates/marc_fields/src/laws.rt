@@ -17,7 +17,7 @@ pub fn breaks_no_rule()
 {}
 
 /// The rule on ranges is broken at the least entry whose range is no field of the data, or has an offset that is in the range
-/// of an earlier entry; where there is none, behind the last entry if an offset of the data is in no range.
+/// of an earlier entry; where there is none, after the last entry if an offset of the data is in no range.
 pub fn tiling_place_is_least()
     ensures { TilingPlaceIsLeast }
 {}

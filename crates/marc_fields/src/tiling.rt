@@ -46,7 +46,7 @@ fn is_free_tile(entry: &Entry, marks: &[bool], bytes: &[u8]) -> bool
     ends_in_only(FIELD_TERMINATOR, range) && !has_mark(owned)
 }
 
-/// Marks so many bytes from that one on.
+/// Marks `size` bytes from `start` on.
 fn mark(marks: &mut [bool], start: usize, size: usize)
     requires { start + size ≤ length marks.old }
     ensures { (k : ℕ) → slice_index_or marks.new k false

@@ -108,7 +108,7 @@ no_misfit r at h misfit =
     no_wrong r.fields first.before first.wrong first.behind
     (items_of-same (map field_value r.fields) (map field_value first.before ++ first.wrong ∷ first.behind) first.parts) first.no_field
 
--- a line that was written is read as its record, or not at all for want of memory
+-- a line that was written is read as its record, or not at all for lack of memory
 pub read_back : (line : List ℕ) (answer : Result Record JsonRefusal) → IfOk answer (λ s. IsSomeAnd (value_in line) (λ value. StandsFor value s))
     → IfErr answer (λ refusal. IsCause refusal (value_in line))
     → (r : Record) → are_printable r.leader ≡ true → list_all is_utf8_field r.fields ≡ true → line ≡ json_line r → IsReadAs (unicode_record r) answer

@@ -60,7 +60,7 @@ IsMisfit None items at = at ≡ 0
 IsMisfit (Some leader) None at = at ≡ 0
 IsMisfit (Some leader) (Some items) at = IsFirstWrong items at
 
--- why a line is read as no record: it is no JSON, or its value has not the form. Want of memory may come at any time
+-- why a line is read as no record: it is no JSON, or its value has not the form. Lack of memory may come at any time
 abbrev pub IsCause : JsonRefusal → Option Json → Type 0
 IsCause NoJson value = value ≡ None
 IsCause (Shape at) None = ⊥

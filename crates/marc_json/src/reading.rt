@@ -360,8 +360,8 @@ fn read_line(alloc: Global, line: &[u8]) -> Result<Record, JsonRefusal>
 /// The record that the line stands for. The line is one JSON text, and a line feed or other blanks may stand around it.
 ///
 /// `Json` comes exactly where the line is no JSON, and `Shape` exactly where its value has not the form of a record, with the place;
-/// both yield to want of memory. The leader's bytes outside the nine codes are ignored, and so is its character coding: the coding
-/// of the answer is `a`.
+/// if allocation fails, `Memory` may come instead of either. The leader's bytes outside the nine codes are ignored, and so is its
+/// character coding: the coding of the answer is `a`.
 pub fn from_json(alloc: Global, line: &[u8]) -> Result<Record, JsonRefusal>
     ensures found { IfOk result (λ r. IsSomeAnd (value_in line.now) (λ value. StandsFor value r)) }
     ensures refused { IfErr result (λ refusal. IsCause refusal (value_in line.now)) }

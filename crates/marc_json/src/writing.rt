@@ -161,7 +161,7 @@ fn write_record(rec: &Record, out: &mut Writer) -> Result<(), AllocError>
     out.end_object()
 }
 
-/// Appends the record's line; on a refusal what stood before stands in front still.
+/// Appends the record's line; on a refusal what stood before is still a prefix.
 fn append_line(rec: &Record, into: &mut Vec<u8>) -> Result<(), AllocError>
     requires { IsTrue (list_all is_utf8_field rec.now.fields) }
     ensures { Appends result into.old.items into.new.items (json_line rec.now) }

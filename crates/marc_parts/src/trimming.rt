@@ -9,7 +9,7 @@ pub fn trimmed(text: &[u8]) -> &[u8]
     trimmed_end(trimmed_start(text))
 }
 
-/// The text without the blanks in front.
+/// The text without its leading blanks.
 fn trimmed_start(text: &[u8]) -> &[u8]
     ensures { result.now ≡ trim_start text.now }
 {

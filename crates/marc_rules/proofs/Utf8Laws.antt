@@ -56,7 +56,7 @@ plain-all bytes (e ∷ entries) all =
     let both = and_parts (is_plain_at bytes e) (list_all (is_plain_at bytes) entries) all in
     and_from _ _ (plain-is_utf8 _ both.0) (plain-all bytes entries both.1)
 
--- a delimiter in front
+-- a delimiter before a text
 delimited : (t : List ℕ) → IsUtf8 t → IsUtf8 (0x1F ∷ t)
 delimited t u = IsUtf8-append (0x1F ∷ []) t (IsUtf8-from_ascii (0x1F ∷ []) (all_ascii (0x1F ∷ []) refl)) u
 

@@ -4,7 +4,7 @@ use Rattle.marc_fields.specs.declared.rules.Failure.{Failure}
 use Rattle.marc_rules.specs.declared.check.Refusal.{Refusal}
 use Rattle.marc_rules.specs.declared.check.Refusal.TheVariants.{Rule as RuleRefusal, Memory}
 
--- the refusal is that failure, or want of memory
+-- the refusal is that failure, or lack of memory
 abbrev pub IsFrameRefusal : Refusal → Option Failure → Type 0
 IsFrameRefusal (RuleRefusal rule place) failure = failure ≡ Some (record { rule = rule; place = place })
 IsFrameRefusal Memory failure = Unit {0}

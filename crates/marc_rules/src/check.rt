@@ -103,7 +103,7 @@ fn check_entries(
     }
 }
 
-/// The entries of a directory of so many, or the first rule on them and the data that fails.
+/// The `count` entries of a directory, or the first rule on them and the data that fails.
 fn check_record(
     alloc: Global,
     status: u8,

@@ -85,7 +85,7 @@ fn streams_are_read_whatever_their_pieces(rt: HostRuntime) -> Result<(), Fail> {
     Ok(())
 }
 
-/// So many records, and a text after them.
+/// `times` records, and a text after them.
 fn records(alloc: Global, times: usize, tail: &[u8]) -> Result<Bytes, Memory> {
     let mut stream = Vec::new(alloc);
     for _ in 0..times {
@@ -126,7 +126,7 @@ fn limits_are_met_and_passed(rt: HostRuntime) -> Result<(), Fail> {
     Ok(())
 }
 
-/// What so many calls answer, a letter each: W whole, T truncated, L a frame that is too long, E the end, X too long, F
+/// What `calls` calls answer, a letter each: W whole, T truncated, L a frame that is too long, E the end, X too long, F
 /// failed; and a small letter where a frame is lent, or else a full stop.
 fn answers<S: Source>(
     alloc: Global,

@@ -75,7 +75,7 @@ fn frames_are_read_or_refused_by_rule_and_place(rt: HostRuntime) -> Result<(), F
     Ok(())
 }
 
-/// A general note with a text of so many bytes.
+/// A general note with a text of `size` bytes.
 fn note(alloc: Global, size: usize) -> Result<Field, Fail> {
     let text = vec![in alloc; b'a'; size]?;
     let subfields = [Subfield {

@@ -68,7 +68,7 @@ fn frames_are_accepted_or_refused_by_rule_and_place(rt: HostRuntime) -> Result<(
     Ok(())
 }
 
-/// A frame with so many entries of one field, of 13 bytes, and as many bytes as the leader says.
+/// A frame with `entries` entries of one field, of 13 bytes, and as many bytes as the leader says.
 fn crowded_frame(alloc: Global, front: &[u8], entries: usize) -> Result<Vec<u8>, Fail> {
     let mut frame = Vec::new(alloc);
     frame.extend_from_slice(front)?;

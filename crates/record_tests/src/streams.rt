@@ -48,7 +48,7 @@ static RUNS: [(usize, &[u8], usize); 83] = [
     (15, b"\x0d\x0a", 1),
     // CR LF inside a record stays
     (16, b"ab\x0d\x0acd\x1d", 1),
-    // CR LF in front and inside
+    // CR LF at the start and inside
     (17, b"\x0d\x0a\x0d\x0aab\x0d\x0a\x0d\x0acd\x1d", 1),
     // CR LF just before the record terminator
     (18, b"ab\x0d\x0a\x1d", 1),
@@ -56,16 +56,16 @@ static RUNS: [(usize, &[u8], usize); 83] = [
     (19, b" \x0aab\x1d", 1),
     // LF, blank, LF: skipping ends at the blank
     (20, b"\x0a \x0aab\x1d", 1),
-    // NUL in front stays
+    // NUL at the start stays
     (21, b"\x00ab\x1d", 1),
-    // tab in front stays
+    // tab at the start stays
     (22, b"\x09ab\x1d", 1),
-    // byte order mark in front stays
+    // byte order mark at the start stays
     (23, b"\xef\xbb\xbf", 1),
     (23, ONE, 1),
-    // NEL (0x85) in front stays
+    // NEL (0x85) at the start stays
     (24, b"\x85ab\x1d", 1),
-    // field and unit separators in front stay
+    // field and unit separators at the start stay
     (25, b"\x1e\x1fab\x1d", 1),
     // rest of one byte
     (26, b"x", 1),

@@ -38,7 +38,7 @@ fn read_once<S: Source>(source: &mut S, into: &mut [u8], text: &mut Vec<u8>) -> 
     Ok(())
 }
 
-/// What so many reads answer.
+/// What `calls` reads answer.
 fn reads<S: Source>(
     alloc: Global,
     source: &mut S,
@@ -55,7 +55,7 @@ fn reads<S: Source>(
     Ok(text)
 }
 
-/// What an open and then so many reads answer; `!` alone if the open fails. The source is given back.
+/// What an open and then `calls` reads answer; `!` alone if the open fails. The source is given back.
 fn opens<F: Shelf>(alloc: Global, shelf: &mut F, path: &[u8], calls: u32) -> Result<Vec<u8>, Fail> {
     let path = Bytes::of(alloc, path)?;
     match shelf.open(alloc, &path) {
@@ -171,7 +171,7 @@ fn scripted_shelf(alloc: Global, fail: u64) -> Result<MemShelf, Memory> {
     Ok(shelf)
 }
 
-/// What the opens of `a.mrc`, `b.mrc` and `a.mrc` answer, each with so many reads, one after the other.
+/// What the opens of `a.mrc`, `b.mrc` and `a.mrc` answer, each with `calls` reads, one after the other.
 fn three_opens<F: Shelf>(alloc: Global, shelf: &mut F, calls: u32) -> Result<Vec<u8>, Fail> {
     let mut text = Vec::new(alloc);
     for path in [b"a.mrc", b"b.mrc", b"a.mrc"] {

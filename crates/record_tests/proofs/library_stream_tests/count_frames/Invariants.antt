@@ -4,7 +4,7 @@ use Rattle.library_stream.specs.Streaming.{opened, most_ahead}
 use Rattle.library_stream.specs.Answering.{Takes}
 use Rattle.record_tests.proofs.library_stream_tests.count_frames.Given as goal
 
--- so many frames were handed out, and they and those ahead are the frames of the source
+-- `count` frames were handed out, and they and those ahead are the frames of the source
 abbrev pub invariant-loop-count : goal.invariant-loop-count
 invariant-loop-count g l = record {
   name : g.S.Source.name l.source ≡ g.S.Source.name l.fn.source;

@@ -2,7 +2,7 @@ use Rattle.std.proofs.Common.{◌≡◌, ◌+◌, ◌≤◌, ℕ, List, ◌++◌
 use Rattle.json_lines.specs.Converting.{HasTaken}
 use Rattle.json_lines.proofs.converter.Converter.take.Given as goal
 
--- the front of the piece was taken
+-- a prefix of the piece was taken
 abbrev pub invariant-loop-at : goal.invariant-loop-at
 invariant-loop-at l = record {
   front : List ℕ;
