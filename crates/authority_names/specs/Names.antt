@@ -43,7 +43,7 @@ name_at records x = if is_established records x then None else the_one (led_to r
 abbrev pub see : List Authority → List ℕ → List ℕ
 see records x = unwrap_or (name_at records x) x
 
--- the table has so many headings: those of a list without repeats are the ones at which it has a value
+-- the table has `size` headings: those of a list without repeats are the ones at which it has a value
 pub record IsSize (table : List ℕ → Option (List ℕ)) (size : ℕ) : Type 0 where
   pub headings : List (List ℕ)
   pub distinct : IsDistinct (pointwise nat_eq) headings

@@ -83,7 +83,7 @@ refusal_of r =
     (if not (is_coded r) then Some Coding else
     (if not (list_all is_utf8_field r.fields) then Some NotUtf8 else heading_refusal r.fields))
 
--- the refusal is that one, or want of memory
+-- the refusal is that one, or lack of memory
 abbrev pub IsNameRefusal : NameRefusal → Option NameRefusal → Type 0
 IsNameRefusal Memory first = Unit {0}
 IsNameRefusal refusal first = first ≡ Some refusal

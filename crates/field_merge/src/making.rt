@@ -1,7 +1,7 @@
 //! The content of one record.
 //!
 //! Guarantee: `content_of` answers what specs/Contents.antt defines. Cost: one walk over the fields, in which each is moved or
-//! dropped, then one sort of the united fields. Besides, the look-ups of 001, 005 and 008 end at those fields, which stand in front.
+//! dropped, then one sort of the united fields. Besides, the look-ups of 001, 005 and 008 end at those fields, which come first.
 ghost use Rattle.std.specs.Prelude.{◌≡◌, ◌∷◌, [], IfOk, IsTrue};
 ghost use Rattle.marc_parts.specs.Loads.{is_loadable};
 ghost use Rattle.field_merge.specs.Contents.{codes_of, contributor, fixed_part, content};

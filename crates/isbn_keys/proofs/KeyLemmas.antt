@@ -26,7 +26,7 @@ without_hyphens-kept xs i c h e other =
     no_hyphen true same = absurd (other (eqb-true c 0x2D same))
     no_hyphen false same = same
 
--- a front leaves no more than the whole
+-- a prefix leaves no more than the whole
 pub length-without_hyphens-take : (xs : List ℕ) (n : ℕ) → length (without_hyphens (take n xs)) ≤ length (without_hyphens xs)
 length-without_hyphens-take xs n =
     let parts = filter-append (λ c. not (eqb c 0x2D)) (take n xs) (drop n xs) in

@@ -19,7 +19,7 @@ const OCLC: [u8; 5] = *b"OCoLC";
 /// or `on` that only digits follow, and then its leading zeros.
 ///
 /// Answers `None` exactly where the source is not 1 to 64 bytes, begins with `=` or has `(` or `)`, or where the number
-/// is empty in the end; and `Memory` where memory ran out.
+/// is empty in the end; and `Memory` if allocation fails.
 pub fn pair(alloc: Global, source: &[u8], number: &[u8]) -> Result<Option<(Bytes, Bytes)>, Memory>
     ensures { IfOk result (λ key. key ≡ pair_key source.now number.now) }
 {
@@ -35,7 +35,7 @@ pub fn pair(alloc: Global, source: &[u8], number: &[u8]) -> Result<Option<(Bytes
 /// The key of a text `(SOURCE)number`, trimmed of blanks, where SOURCE ends at the first `)`: that of `pair`.
 /// `(OCoLC)ocm00012345` gives `OCoLC` and `12345`.
 ///
-/// Answers `None` exactly where the text has no such form or `pair` has no key, and `Memory` where memory ran out.
+/// Answers `None` exactly where the text has no such form or `pair` has no key, and `Memory` if allocation fails.
 pub fn system_number(alloc: Global, text: &[u8]) -> Result<Option<(Bytes, Bytes)>, Memory>
     ensures { IfOk result (λ key. key ≡ system_key text.now) }
 {

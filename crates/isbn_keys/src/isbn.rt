@@ -12,7 +12,7 @@ const ISBN10_WEIGHTS: [u8; 10] = [10, 9, 8, 7, 6, 5, 4, 3, 2, 1];
 
 const ISBN13_WEIGHTS: [u8; 13] = [1, 3, 1, 3, 1, 3, 1, 3, 1, 3, 1, 3, 1];
 
-/// The key of an ISBN text: the thirteen digits of the number that stands in front.
+/// The key of an ISBN text: the thirteen digits of the number at its start.
 ///
 /// The text is read after its leading blanks, up to the first blank, `(` or `:`, and without its hyphens. A number of
 /// ten characters whose check holds is converted to thirteen digits; a number of thirteen that begins with `978` or

@@ -10,7 +10,7 @@ const KEY_LENGTH: usize = 8;
 
 const WEIGHTS: [u8; 8] = [8, 7, 6, 5, 4, 3, 2, 1];
 
-/// The key of an ISSN text: the eight characters of the number that stands in front, X as a capital.
+/// The key of an ISSN text: the eight characters of the number at its start, X as a capital.
 ///
 /// The text is read after its leading blanks, up to the first blank, `(` or `:`. One hyphen after the fourth character
 /// may stand or not. `0378-5955` gives `03785955`.

@@ -14,7 +14,7 @@ const PADDING: [u8; 6] = *b"000000";
 /// The key of an LCCN text: without blanks, without a `/` and all after it, and without its first hyphen, where what
 /// followed the hyphen is padded on the left with `0` to six bytes. `85-2` gives `85000002`.
 ///
-/// Answers `None` exactly where nothing is left, and `Memory` where memory ran out.
+/// Answers `None` exactly where nothing is left, and `Memory` if allocation fails.
 pub fn lccn(alloc: Global, text: &[u8]) -> Result<Option<Bytes>, Memory>
     ensures { IfOk result (λ key. key ≡ lccn_key text.now) }
 {

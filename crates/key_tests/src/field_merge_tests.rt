@@ -65,7 +65,7 @@ fn reads_preference(_alloc: Global, case: &str) -> Result<bool, Fail> {
     }
 }
 
-/// Whether the libraries of the cells have the levels behind them, one at least.
+/// Whether the libraries of the cells have the levels in the cells after them, one at least.
 fn has_levels(preference: &Preference, cells: &mut Split<'_, char>) -> Result<bool, Fail> {
     let mut agrees = false;
     for _ in 0..u64::MAX {

@@ -40,7 +40,7 @@ fn system_numbers(rt: HostRuntime) -> Result<(), Fail> {
     assert_lines(&rt, rt.alloc(), cases::SYSTEM_NUMBERS, 54, has_pair)
 }
 
-/// Asserts that the table has so many lines, and that each is right, by its first cell and what stands after it.
+/// Asserts that the table has `count` lines, and that each is right, by its first cell and what stands after it.
 fn assert_lines<F: Fn(Global, &[u8], &[u8]) -> Result<bool, Memory>>(
     rt: &impl Abort,
     alloc: Global,

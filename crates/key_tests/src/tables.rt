@@ -10,7 +10,7 @@ pub(crate) const CELL_END: char = '¦';
 /// Ends a case.
 const CASE_END: char = '‡';
 
-/// Asserts that the table has so many cases, and that each of them is right.
+/// Asserts that the table has `count` cases, and that each of them is right.
 pub(crate) fn assert_cases<F: Fn(Global, &str) -> Result<bool, Fail>>(
     rt: &impl Abort,
     alloc: Global,

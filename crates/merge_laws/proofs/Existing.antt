@@ -26,7 +26,7 @@ module _ {A : Type 0} {match : A → A → Bool} {merge : A → A → A} (join :
   kept : (list : List A) (v : A) (done : List A) → IsResolving match merge list (v ∷ []) done → ((x : A) → Contains done x → match v x ≡ false) → (resolution : List A) × IsResolution match merge list resolution
   kept list v done s none = (done ++ v ∷ [], IsResolution-from_resolving join laws list (done ++ v ∷ []) (resolving_kept join laws list [] done v s (All-from_members (λ x. match v x ≡ false) done none)))
 
-  -- one value that is left, beside so many that are done
+  -- one value that is left, beside at most n that are done
   settled : (n : ℕ) (list : List A) (v : A) (done : List A) → length done ≤ n → IsResolving match merge list (v ∷ []) done → (resolution : List A) × IsResolution match merge list resolution
   settled zero list v done few s = elim (first-found match v done) [
     | inl none ↦ kept list v done s none

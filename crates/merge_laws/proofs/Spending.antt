@@ -13,7 +13,7 @@ one_less xs x rest p = let l = length_permutation xs (x ∷ rest) p in omega ari
 pub measure_falls : (left left' left'' done done' : ℕ) → left ≡ left' + 1 → left'' ≡ left' + 1 → done ≡ done' + 1 → 2 * left'' + done' < 2 * left + done
 measure_falls left left' left'' done done' l l' d = omega arith
 
--- So many of k values are left, and so many are done, after so many steps from the start.
+-- Of k values `left` are left and `done` are done; the steps were `start` at first, and are `steps` now.
 pub record IsSpent (start k steps left done : ℕ) : Type 0 where
   pub cost : 2 * steps + 2 * ((left + done) * (left + done)) ≤ 2 * start + 2 * (k * k) + done * done
 

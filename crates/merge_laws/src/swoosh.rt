@@ -62,8 +62,8 @@ fn push_joined<R: Resolvable>(values: &mut Vec<R>, one: R, other: R) -> Result<(
 }
 
 /// The resolution of values of which no two match, and of more values, in an order that is not fixed. Those that do not match
-/// are not tested against one another. Counts at most n * n steps for n values in all, also where it answers Memory. Memory
-/// where it runs out.
+/// are not tested against one another. Counts at most n * n steps for n values in all, also where it answers Memory.
+/// Returns `Memory` if allocation fails.
 pub fn resolve_onto<R: Resolvable, L: Ledger>(
     apart: Vec<R>,
     more: Vec<R>,

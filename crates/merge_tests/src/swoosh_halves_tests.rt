@@ -33,7 +33,7 @@ fn masks_of(alloc: Global, sets: &[SmallSet]) -> Result<Vec<u64>, Memory> {
     Ok(masks)
 }
 
-/// The masks that the masks resolve to by so many workers, in ascending order.
+/// The masks that the masks resolve to by `workers` workers, in ascending order.
 fn resolved<R: Threads + Sync>(
     rt: &R,
     alloc: Global,
@@ -62,7 +62,7 @@ fn plainly_resolved<L: Ledger>(
     masks_of(alloc, resolve_plain(sets, &mut steps)?.as_slice())
 }
 
-/// So many masks of one or two numbers, drawn one after the other.
+/// `count` masks of one or two numbers, drawn one after the other.
 fn drawn(alloc: Global, seed: u64, count: u64) -> Result<Vec<u64>, Memory> {
     let mut state = seed;
     let mut masks = Vec::new(alloc);

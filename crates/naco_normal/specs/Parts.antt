@@ -1,4 +1,4 @@
--- The forms of a field's subfields, read from the front.
+-- The forms of a field's subfields, read from the start.
 use Rattle.std.specs.Prelude.{ℕ, ◌==◌, ◌&&◌, Bool, not, if◌then◌else◌, List, map}
 use Rattle.union_base.specs.Bodies.{Subfield}
 use Rattle.naco_normal.specs.declared.heading.FirstPart.{FirstPart}

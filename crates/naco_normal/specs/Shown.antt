@@ -1,4 +1,4 @@
--- Which characters show in a form, read from the front.
+-- Which characters show in a form, read from the start.
 use Rattle.std.specs.Prelude.{ℕ, ◌==◌, ◌&&◌, Bool, true, false, if◌then◌else◌, List}
 use Rattle.std.specs.List.{list_any}
 use Rattle.naco_normal.specs.declared.form.Comma.{Comma}

@@ -33,7 +33,7 @@ fault_place Coding = 0
 fault_place NotUtf8 = 0
 fault_place Heading = 0
 
--- the fault for which the table refuses a record; want of memory is none
+-- the fault for which the table refuses a record; lack of memory is none
 abbrev pub fault_of : NameRefusal → Option NameFault
 fault_of refusals.Kind = Some Kind
 fault_of refusals.Coding = Some Coding

@@ -122,8 +122,8 @@ fn parted<R: Resolvable>(
     Ok((strangers, others))
 }
 
-/// The values of the list in two lists: strangers, each of which shares no key with another value, and the others. Memory where
-/// it runs out.
+/// The values of the list in two lists: strangers, each of which shares no key with another value, and the others. Returns
+/// `Memory` if allocation fails.
 // That the others are few where few values share a key, no clause says: with no strangers at all it would hold too.
 pub(crate) fn parted_by_keys<R: Resolvable>(list: Vec<R>) -> Result<(Vec<R>, Vec<R>), Memory>
     ensures strangers { IfOk result (λ parted. AreApart R.meets parted.0.items) }

@@ -32,7 +32,7 @@ pub record HasRoom {R K : Type 0} (eq : K → K → Bool) (table : Table R K) (c
 abbrev pub number_at : List ℕ → ℕ → ℕ → ℕ
 number_at closed first place = if nat_lt place (length closed) then slice_index closed place else first + (place - length closed)
 
--- the numbers of so many opened values, in their order
+-- the numbers of `opened` opened values, in their order
 pub record AreNumbers (closed : List ℕ) (first opened : ℕ) (numbers : List ℕ) : Type 0 where
   pub len : length numbers ≡ opened
   pub each : (i : ℕ) → i < opened → slice_index numbers i ≡ number_at closed first i

@@ -178,8 +178,8 @@ fn uniform_title(alloc: Global, uniform: Option<&Field>) -> Result<Bytes, Memory
     }
 }
 
-/// The record's own name: its library's code and its control number there, joined by a point. Answers `Memory` where memory
-/// ran out.
+/// The record's own name: its library's code and its control number there, joined by a point. Returns `Memory` if
+/// allocation fails.
 pub fn own_name(alloc: Global, id: &RecordId) -> Result<Bytes, Memory>
     ensures { IfOk result (λ b. b ≡ own_name id.now) }
 {
