@@ -10,7 +10,7 @@ use std::sync::Wait;
 use std::thread::{Threads, join};
 use union_base::memory::Memory;
 
-/// The pass, after so many turns.
+/// The pass, after `turns` turns.
 fn one<R: Wait>(
     rt: &R,
     alloc: Global,
@@ -27,7 +27,7 @@ fn one<R: Wait>(
     pass
 }
 
-/// Two passes, after so many turns of each.
+/// Two passes, after `turns` turns of each.
 fn two<R: Threads + Wait + Sync>(
     rt: &R,
     alloc: Global,
@@ -46,7 +46,7 @@ fn two<R: Threads + Wait + Sync>(
     )
 }
 
-/// The first of four passes, after so many turns of each.
+/// The first of four passes, after `turns` turns of each.
 fn four<R: Threads + Wait + Sync>(
     rt: &R,
     alloc: Global,
@@ -75,7 +75,7 @@ fn four<R: Threads + Wait + Sync>(
     a
 }
 
-/// A desk, so many turns on one, two or four threads, and the number of finished turns.
+/// A desk, `turns` turns on each of one, two or four threads, and the number of finished turns.
 pub fn run<R: Threads + Wait + Sync>(
     rt: &R,
     alloc: Global,

@@ -126,7 +126,7 @@ impl Catalogue {
     /// Applies a batch under that number, and answers what came of each of its operations. Counts the match tests: at most the
     /// reach of the batch, also where it answers `Memory`.
     ///
-    /// Answers `Memory` where memory ran out; the catalogue is as before then.
+    /// Returns `Memory` if allocation fails; the catalogue is as before then.
     pub fn apply<L: Ledger>(
         &mut self,
         alloc: Global,
@@ -171,7 +171,7 @@ impl Catalogue {
     /// what the turn closed and what it opened. An edition that comes out equal is in neither list. Takes time and memory by what
     /// the turn changes, and not by how many editions there are.
     ///
-    /// Answers `Memory` where memory ran out; the catalogue is as before then.
+    /// Returns `Memory` if allocation fails; the catalogue is as before then.
     pub fn apply_told<L: Ledger>(
         &mut self,
         alloc: Global,
@@ -221,7 +221,7 @@ impl Catalogue {
     /// operations, as `apply` does. The records that the batch names are withdrawn, and then what its loads come to is inserted.
     /// Counts the match tests: at most the reach of the parts, also where it answers `Memory`.
     ///
-    /// Answers `Memory` where memory ran out; the catalogue is as before then.
+    /// Returns `Memory` if allocation fails; the catalogue is as before then.
     pub fn apply_prepared<L: Ledger>(
         &mut self,
         alloc: Global,

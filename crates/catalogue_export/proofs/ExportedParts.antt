@@ -150,7 +150,7 @@ module _ (w : Field → ℕ) (c : Content) (key : List ℕ) where
       at_least : (all a b s5 e s10 s40 s1 s24 l k : ℕ) → all ≡ a + (b + ((s5 + (e + (s10 + (s40 + (s1 + (s24 + l)))))) + k)) → l ≤ all
       at_least all a b s5 e s10 s40 s1 s24 l k sum = omega arith
 
--- a front that has room fits whole
+-- a prefix that has room fits whole
 fitting_in-whole : (room : ℕ) (front more : List Field) → weighed taken_by front ≤ room
     → fitting_in room (front ++ more) ≡ front ++ fitting_in (room - weighed taken_by front) more
 fitting_in-whole room [] more few = ap (λ n. fitting_in n more) (whole room)

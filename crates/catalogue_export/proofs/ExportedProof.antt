@@ -86,7 +86,7 @@ own_name-utf8 id is =
     is_utf8-from_IsUtf8 (own_name id)
     (IsUtf8-append (id.library ++ codes ".") id.control (IsUtf8-append id.library (codes ".") (library-utf8 id is) (low_utf8 (codes ".") refl)) (control-utf8 id is))
 
--- the front of a text in UTF-8
+-- a prefix of a text in UTF-8
 high_start : (b : ℕ) → begins_character b ≡ true → 128 ≤ b → 192 ≤ b
 high_start b begins high = grind (arith, nat_tests)
 

@@ -71,7 +71,7 @@ is_text-own_name id h =
     ∙ true_both (is_text (id.library ++ 0x2E ∷ [])) (is_text id.control)
     (list_all-append is_text_byte id.library (0x2E ∷ []) ∙ true_both (is_text id.library) true (is_text-code id h) refl) (is_text-control id h)
 
--- the front of a text is a text
+-- a prefix of a text is a text
 pub is_text-take : (n : ℕ) (text : List ℕ) → is_text text ≡ true → is_text (take n text) ≡ true
 is_text-take zero text h = refl
 is_text-take (suc n) [] h = refl

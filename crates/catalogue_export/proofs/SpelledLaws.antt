@@ -56,7 +56,7 @@ module _ (frame : List ℕ) (r : Record) (s : Spells frame r) where
       ∙ (ap (λ t. remaining r.leader.status r.leader.coding t (map entry_in (texts_of frame))) (spelled-data frame r s)
       ∙ ap (remaining r.leader.status r.leader.coding s.bytes) (spelled-entries frame r s))))
 
--- a byte of ASCII in front
+-- a byte of ASCII before a text
 in_front : (b : ℕ) (t : List ℕ) → b < 128 → IsUtf8 t → IsUtf8 (b ∷ t)
 in_front b t low u = IsUtf8-append (b ∷ []) t (IsUtf8-from_ascii (b ∷ []) alone) u
   where

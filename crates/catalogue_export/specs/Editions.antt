@@ -20,7 +20,7 @@ export_text names editions = flat_map (edition_text names) editions
 unfoldable pub fields_left : Table → Edition → ℕ
 fields_left names e = left_out e.content (work_key_by names e)
 
--- an edition by its least contributor, where so many of its fields were left out
+-- an edition by its least contributor, where `count` of its fields were left out
 abbrev pub noted : Edition → ℕ → List (RecordId × ℕ)
 noted e count = if count == 0 then [] else (least e, count) ∷ []
 

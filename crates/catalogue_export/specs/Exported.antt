@@ -42,7 +42,7 @@ abbrev pub last_boundary : List ℕ → ℕ → ℕ
 last_boundary text zero = 0
 last_boundary text (suc at) = (if begins_character (slice_index text (suc at)) then suc at else last_boundary text at)
 
--- the longest prefix of the text of at most so many bytes that ends between two characters
+-- the longest prefix of the text of at most `most` bytes that ends between two characters
 unfoldable pub front_within : ℕ → List ℕ → List ℕ
 front_within most text = (if nat_le (length text) most then text else take (last_boundary text most) text)
 

@@ -7,7 +7,7 @@ use Rattle.marc_fields.specs.Spelling.{stored, longest_frame}
 abbrev pub taken_by : Field → ℕ
 taken_by f = 12 + length (stored f)
 
--- the longest prefix of the fields that fits in so many bytes
+-- the longest prefix of the fields that fits in `room` bytes
 abbrev pub fitting_in : ℕ → List Field → List Field
 fitting_in room [] = []
 fitting_in room (f ∷ fields) = (if nat_le (taken_by f) room then f ∷ fitting_in (room - taken_by f) fields else [])

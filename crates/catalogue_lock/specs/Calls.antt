@@ -22,7 +22,7 @@ pub record IsRefused {S C : Type 0} (v w : View S C) : Type 0 where
   pub seen : IsPrefix v.seen w.seen
   pub floor : v.floor ≤ w.floor
 
--- the answer is given over all entries of so many turns, at least those that were known to be finished
+-- the answer is given over all entries of `turns` turns, at least those that were known to be finished
 pub record IsAnswer {S C Q A : Type 0} (answers : S → List (ℕ × C) → Q → A → Type 0) (v w : View S C) (question : Q) (turns : ℕ) (answer : A) : Type 0 where
   pub own : w.own ≡ v.own
   pub seen : IsPrefix v.seen w.seen

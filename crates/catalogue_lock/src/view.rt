@@ -16,7 +16,7 @@ pub struct View<S, C> {
     pub ghost made: { ℕ },
     /// Of the root: what each ended pass left, in the order in which they were ended.
     pub ghost ended: { List (Ended C) },
-    /// So many turns at least are finished.
+    /// At least this many turns are finished.
     pub ghost floor: { ℕ },
     /// Of a pass, as all that follows: its number.
     pub ghost number: { ℕ },

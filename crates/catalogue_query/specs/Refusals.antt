@@ -4,7 +4,7 @@ use Rattle.catalogue_query.specs.declared.query.Query.{Query}
 use Rattle.catalogue_query.specs.declared.query.QueryRefusal.{QueryRefusal}
 use Rattle.catalogue_query.specs.declared.query.QueryRefusal.TheVariants.{Unknown, Word, Memory}
 
--- a refusal is that of the line, but for want of memory, which may come at any line
+-- a refusal is that of the line, or lack of memory, which may come at any line
 abbrev pub IsRefusal : QueryRefusal → Result Query QueryRefusal → Type 0
 IsRefusal Unknown meaning = meaning ≡ Err Unknown
 IsRefusal Word meaning = meaning ≡ Err Word

@@ -83,7 +83,7 @@ impl Query {
     /// | `count` | nothing |
     ///
     /// Answers `Unknown` exactly where the first word is none of these, `Word` exactly where it is and the rest is not as
-    /// the table says, and `Memory` where memory ran out.
+    /// the table says, and `Memory` if allocation fails.
     pub fn read(alloc: Global, line: &[u8]) -> Result<Query, QueryRefusal>
         ensures { IsReadAs result (query_of line.now) }
     {

@@ -90,7 +90,7 @@ fn drawn(draws: &mut Draws, sizes: Sizes) -> Titled
     }
 }
 
-/// Whether the two catalogues answer the same after each of so many batches, drawn from the seed.
+/// Whether the two catalogues answer the same after each of `turns` batches, drawn from the seed.
 fn agree<L: Ledger>(
     alloc: Global,
     seed: u64,

@@ -108,7 +108,7 @@ impl Draws {
         (self.state >> 33) % bound
     }
 
-    /// A delivery of a library with so many numbers, with system numbers of so many; one in five is a withdrawal.
+    /// A delivery of a library with `numbers` numbers, with system numbers out of `keys`; one in five is a withdrawal.
     fn delivery(&mut self, place: u64, numbers: u64, keys: u64) -> Delivery
         requires place { place < 3 }
         requires numbers { 0 < numbers }
@@ -225,7 +225,7 @@ fn apply_both<L: Ledger>(
     Ok(found.as_slice() == expected.as_slice() && same_answers(alloc, catalogue, plain, numbers)?)
 }
 
-/// Whether the two answer the same after each of so many batches, drawn from the seed.
+/// Whether the two answer the same after each of `turns` batches, drawn from the seed.
 fn agree<L: Ledger>(
     alloc: Global,
     seed: u64,

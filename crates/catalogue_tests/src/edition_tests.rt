@@ -67,7 +67,7 @@ fn has_key(alloc: Global, edition: &Edition, key: &[u8]) -> Result<bool, Fail> {
     Ok(work_key_of(alloc, &names, edition)?.bytes() == key)
 }
 
-/// Whether the content is made of so many records, with so many united fields, and has the fixed part of that record.
+/// Whether the content is made of `records` records, with `united` united fields, and has the fixed part of the record `best`.
 fn is_made_of(content: &Content, records: usize, united: usize, best: &[u8]) -> bool {
     content.contributors.as_slice().len() == records
         && content.united.as_slice().len() == united

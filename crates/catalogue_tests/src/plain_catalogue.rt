@@ -76,8 +76,8 @@ impl PlainCatalogue {
         }
     }
 
-    /// Applies a batch under that number, and answers what came of each of its operations. Where memory runs out the catalogue
-    /// is as before.
+    /// Applies a batch under that number, and answers what came of each of its operations. If allocation fails, the
+    /// catalogue is as before.
     pub fn apply<L: Ledger>(
         &mut self,
         alloc: Global,

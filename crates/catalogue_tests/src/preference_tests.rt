@@ -225,7 +225,7 @@ fn have_same_under(
     Ok(!first.is_empty() && first.as_slice() == second.as_slice())
 }
 
-/// The bytes of the fields under the tag, each with a byte behind it.
+/// The bytes of the fields under the tag, each with a field terminator after it.
 fn texts_under(alloc: Global, tag: &[u8; 3], rec: &Record) -> Result<Vec<u8>, Memory> {
     let mut text = Vec::new(alloc);
     for field in rec.fields.as_slice() {

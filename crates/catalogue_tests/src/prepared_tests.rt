@@ -134,7 +134,7 @@ fn prepared<L: Ledger>(
     Ok(Prepared::of(batch, parts))
 }
 
-/// Whether the editions are the same, place by place, of so many records each.
+/// Whether the editions are the same, place by place, and have as many records as `sizes` says.
 fn same_editions(one: &[&Edition], other: &[&Edition], sizes: &[usize]) -> bool {
     for (place, edition) in one.iter().enumerate() {
         let beside = match other.get(place) {

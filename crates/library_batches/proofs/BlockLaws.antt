@@ -107,7 +107,7 @@ turning-some taken still before has = turning-before taken still before ∙ cond
 turning-none : (taken still : List Frame) → IsBlockBefore taken still → has_accepted taken ≡ false → turning (taken ++ still) ≡ turning still
 turning-none taken still before has = turning-before taken still before ∙ cond-false (has_accepted taken) (taken ∷ turning still) (turning still) has
 
--- a block with a batch is in front
+-- a block with a batch comes first
 pub AreBatches-block : (prefer : List (List ℕ)) (library : List ℕ) (taken still : List Frame) (batch : Batch) (later : List Batch) → IsBlockBefore taken still
     → some_in batch.ops ≡ true → IsBatchOf prefer library taken batch → AreBatches prefer library still later → AreBatches prefer library (taken ++ still) (batch ∷ later)
 AreBatches-block prefer library taken still batch later before some is all =
@@ -121,7 +121,7 @@ AreFirstBatches-block prefer library taken still batch later before some is firs
     subst (λ bs. AllZip (IsBatchOf prefer library) (take (suc (length later)) bs) (batch ∷ later))
     (sym (turning-some taken still before (has_accepted-ops prefer library taken batch.ops is.ops ∙ some))) (is, first)
 
--- a block without one is in front
+-- a block without one comes first
 pub AreBatches-none : (prefer : List (List ℕ)) (library : List ℕ) (taken still : List Frame) (ops : List Op) (later : List Batch) → IsBlockBefore taken still
     → some_in ops ≡ false → AllZip (IsOpOf prefer library) (accepted taken) ops → AreBatches prefer library still later → AreBatches prefer library (taken ++ still) later
 AreBatches-none prefer library taken still ops later before none asked all =

@@ -17,7 +17,7 @@ IsOpOf prefer library frame done = (r : Record) × Spells frame r × (op prefer 
 abbrev pub block_size : ℕ
 block_size = 256
 
--- the frames in blocks of 256, the last of which may be shorter; at most so many blocks
+-- the frames in blocks of 256, the last of which may be shorter; at most this many blocks
 abbrev pub blocks_within : ℕ → List Frame → List (List Frame)
 blocks_within zero frames = []
 blocks_within (suc n) [] = []

@@ -83,6 +83,6 @@ pub length-outcomes : (library : List ℕ) (all : MapOf Edition) (batch : List O
 length-outcomes library all [] = refl
 length-outcomes library all (op ∷ ops) = ap suc (length-outcomes library (after_op library all op) ops)
 
--- a batch has so many operations at most
+-- a batch has at most `block_size` operations
 pub few_ops : (batch : Batch) → length batch.ops ≤ block_size
 few_ops batch = leb-true (length batch.ops) block_size (second_so _ _ (first_so _ _ batch.fits))

@@ -13,8 +13,8 @@ use Rattle.load_sessions.specs.Entries.{tells}
 use Rattle.load_sessions.specs.declared.asker.Asker.{Asker}
 use Rattle.load_sessions.specs.declared.end.End.TheVariants.{NotRun, Done, Memory}
 
--- by the names, the replies are to the first questions, as many as there are: each is over the first entries of the history, so many as it says,
--- at least those that were known before, and at least those of the reply before it
+-- by the names, the replies are to the first questions, as many as there are: each is over the first entries of the history, as many as
+-- it says, at least those that were known before, and at least those of the reply before it
 abbrev pub Replied : Table → List (ℕ × Batch) → ℕ → List Query → List (ℕ × Answer) → Type 0
 Replied names history known questions [] = ⊤
 Replied names history known [] (reply ∷ replies) = ⊥

@@ -222,7 +222,7 @@ fn work<R: Wait>(
     (pass, done, answered)
 }
 
-/// The machine has so many entries with the number, and their changes go up from `from`.
+/// The machine has `turns` entries with the number, and their changes go up from `from`.
 fn has_in_order(machine: &Numbers, number: u32, from: u64, turns: usize) -> bool {
     let mut next = from;
     let mut found = 0usize;

@@ -98,7 +98,7 @@ impl Draws {
         (self.state >> 33) % bound
     }
 
-    /// A delivery of a library with so many numbers, with system numbers of so many; one in five is a withdrawal.
+    /// A delivery of a library with `numbers` numbers, with system numbers out of `keys`; one in five is a withdrawal.
     fn delivery(&mut self, place: u64, numbers: u64, keys: u64) -> Delivery
         requires place { place < 3 }
         requires numbers { 0 < numbers }

@@ -32,7 +32,7 @@ prefix_more (suc m) (suc n) (x ∷ old) (y ∷ new) le p more =
     let rest = prefix_more m n old new (omega arith) (p.0, cc (p.1)) (omega arith) in
     (rest.0, cc (heads, rest.1))
 
--- a prefix of a list is one of its first entries, where so many are taken
+-- a prefix of at most n entries is a prefix of the first n
 pub prefix_taken : {A : Type 0} (n : ℕ) (xs ys : List A) → length xs ≤ n → IsPrefix xs ys → IsPrefix xs (take n ys)
 prefix_taken n [] ys le p = (take n ys, refl)
 prefix_taken zero (x ∷ xs) ys le p = absurd (omega arith)

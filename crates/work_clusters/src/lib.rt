@@ -5,7 +5,7 @@
 //! then it is installed, which takes no memory and can't be refused.
 //!
 //! Cost: a key is found in a tree, in steps by the logarithm of the number of keys. A change takes some such searches for
-//! each of its pairs, and nothing else of the works is looked at; a count is read. Where memory ran out while room was made,
+//! each of its pairs, and nothing else of the works is looked at; a count is read. If allocation fails while room is made,
 //! keys without ids may be left in the tree, which count as absent: a walk passes over them, and a pair that comes fills them.
 #![tactic(auto)]
 

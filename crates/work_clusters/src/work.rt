@@ -54,7 +54,7 @@ impl Work {
         !self.editions.is_empty()
     }
 
-    /// Makes room for one id more. Memory where it runs out, and then all stays.
+    /// Makes room for one id more. Returns `Memory` if allocation fails, and then all stays.
     pub(crate) fn make_room(&mut self) -> Result<(), Memory>
         ensures ids { self.new.ids ≡ self.old.ids }
         ensures ascending { is_ascending id_cmp self.new.ids ≡ true }

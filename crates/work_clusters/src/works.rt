@@ -104,7 +104,7 @@ impl Works {
         })
     }
 
-    /// Makes room for the change's come pairs; Memory where there is none. The works stay, whatever the answer.
+    /// Makes room for the change's come pairs. Returns `Memory` if allocation fails. The works stay, whatever the answer.
     pub fn make_room(&mut self, alloc: Global, change: &WorkChange) -> Result<(), Memory>
         ensures works { self.new.works ≡ self.old.works }
         ensures room { OnOk result (HasRoomForPairs self.new.room change.now.come) }
