@@ -74,7 +74,7 @@ pub fn shelf_of(alloc: Global, files: &Files<'_>) -> Result<MemShelf, Memory> {
     Ok(shelf)
 }
 
-/// A sink that takes so many bytes, and of which these writes fail.
+/// A sink that takes `limit` bytes, and of which the writes `failing` fail.
 fn sink(alloc: Global, failing: &[u64], limit: usize) -> Result<MemSink, Memory> {
     Ok(MemSink::new(
         failing.to_vec(alloc)?,

@@ -12,7 +12,7 @@ use union_words::status::Status;
 const LARGEST_FRONT: &[u8; 233] =
     b"99999nam a2200181 a 4500001000300000008004100003245000800044500999900052500999910051500999920050500999930049500999940048500999950047500999960046500999970045500999980044500977490043\x1Eid\x1E240101s1999    xx                  eng d\x1E00\x1FaCat\x1E";
 
-/// Adds a field 500 whose one subfield has so many of the byte.
+/// Adds a field 500 whose one subfield has the byte `count` times.
 fn add_note(text: &mut Vec<u8>, byte: u8, count: u32) -> Result<(), AllocError> {
     text.extend_from_slice(b"  \x1Fa")?;
     for _ in 0..count {

@@ -51,7 +51,7 @@ fn frames(rt: HostRuntime) -> Result<(), Fail> {
     Ok(())
 }
 
-/// A trial by so many workers, whose output takes so many bytes: its status, and what it wrote.
+/// A trial by `workers` workers, whose output takes `limit` bytes: its status, and what it wrote.
 fn trial<R: Threads + Sync>(
     rt: &R,
     alloc: Global,

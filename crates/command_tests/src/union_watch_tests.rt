@@ -48,7 +48,7 @@ fn load<R: Threads + Sync>(
     Ok(())
 }
 
-/// The replies to questions over so many turns, which are all that were made.
+/// The replies to questions over `over` turns, which are all that were made.
 fn replies(
     alloc: Global,
     served: &Served,
@@ -62,7 +62,7 @@ fn replies(
     Ok(replies)
 }
 
-/// A sink with room for so many bytes.
+/// A sink with room for `limit` bytes.
 fn sink(alloc: Global, limit: usize) -> Result<MemSink, Memory> {
     Ok(MemSink::new(Vec::new(alloc), Vec::with_capacity(alloc, 4_096)?, limit))
 }

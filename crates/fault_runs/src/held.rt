@@ -186,7 +186,7 @@ fn tell_meeting<R: Threads + Wait + Sync>(
     Ok(())
 }
 
-/// Adds how the runs ended that gates held for at most so many looks.
+/// Adds how the runs ended that gates held for at most `looks` looks.
 pub fn tell_held<R: Threads + Wait + Sync>(
     rt: &R,
     alloc: Global,

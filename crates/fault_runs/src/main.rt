@@ -3,7 +3,7 @@
 //! Without words all are made, and lines for each say how it ended: the faults of files in memory, the gates, and the batch. With words
 //! one is made, so that `tests/refused` can refuse its allocations in turn:
 //!
-//! - `order WHAT LOOKS` and `meeting WHAT LOOKS`: two sessions of one record each, by two workers, held by that gate for so many looks.
+//! - `order WHAT LOOKS` and `meeting WHAT LOOKS`: two sessions of one record each, by two workers, held by that gate for LOOKS looks.
 //!   WHAT is `sessions`, `watch` or `export`. Writes what the run writes, and ends with its status.
 //! - `batch`: a batch on a catalogue of four records. Ends with 7 if memory ran out before the batch was applied or after it, with 8 if
 //!   the batch was refused for memory, what is shown stayed as before, and a second try was applied, and with 9 if that was not so.
@@ -34,7 +34,7 @@ use union_io::writer_sink::{ErrSink, OutSink};
 /// How often a gate looks before it gives up, if the words do not say it.
 const LOOKS: u64 = 200_000_000;
 
-/// The numbers that stand for words in no form and for a want of memory, as the program has them.
+/// The numbers that stand for words in no form and for lack of memory, as the program has them.
 const USAGE: u8 = 2;
 
 const MEMORY: u8 = 7;

@@ -30,7 +30,7 @@ const NUMBERED: &[u8; 115] =
 
 const NUMBER: usize = 61;
 
-/// So many records that differ in their control numbers.
+/// `count` records that differ in their control numbers.
 pub fn numbered(alloc: Global, count: u32) -> Result<Vec<u8>, Memory> {
     let mut text = Vec::new(alloc);
     for at in 0..count {

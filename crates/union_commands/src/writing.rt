@@ -46,7 +46,7 @@ fn with_left_lines(
     Ok(text)
 }
 
-/// Writes the reports, and a line for each edition of which fields were left out. Where memory ran out, the line that says so
+/// Writes the reports, and a line for each edition of which fields were left out. If allocation fails, the line that says so
 /// is written in their place.
 ///
 /// Where all was written, the catalogue's memory is not given back: the program ends after this, and the system takes all of it

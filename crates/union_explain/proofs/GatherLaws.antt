@@ -5,7 +5,7 @@ use Rattle.std.proofs.lemmas.List.{nil_from_length, take_all, take-append-le, le
 use Rattle.iso2709_frame.specs.Frames.{skip_breaks, is_break}
 use Rattle.union_explain.specs.Located.{Located, frame_at}
 
--- behind CR and LF alone, those of the rest are skipped too
+-- after CR and LF alone, those of the rest are skipped too
 pub skip_breaks-breaks : (front more : List ℕ) → length (skip_breaks front) ≡ 0 → skip_breaks (front ++ more) ≡ skip_breaks more
 skip_breaks-breaks [] more h = refl
 skip_breaks-breaks (b ∷ front) more h = elim (cases_Bool (is_break b)) [
@@ -17,7 +17,7 @@ skip_breaks-breaks (b ∷ front) more h = elim (cases_Bool (is_break b)) [
       absurd (omega arith)
 ]
 
--- behind a byte that is kept, all is
+-- after a byte that is kept, all is kept
 pub skip_breaks-more : (front more : List ℕ) → 0 < length (skip_breaks front) → skip_breaks (front ++ more) ≡ skip_breaks front ++ more
 skip_breaks-more [] more h = absurd (omega arith)
 skip_breaks-more (b ∷ front) more h = elim (cases_Bool (is_break b)) [
@@ -38,7 +38,7 @@ length-skip_breaks (b ∷ text) = elim (cases_Bool (is_break b)) [
   | inr e ↦ omega (arith, ap (λ t. length (cond t (skip_breaks text) (b ∷ text))) e)
 ]
 
--- a byte that is neither CR nor LF is kept, and so is any behind one
+-- a byte that is neither CR nor LF is kept, and so is any after one
 pub skip_breaks-kept : (front : List ℕ) (byte : ℕ) → (length (skip_breaks front) ≡ 0 → is_break byte ≡ false)
     → skip_breaks (front ++ byte ∷ []) ≡ skip_breaks front ++ byte ∷ []
 skip_breaks-kept front byte h = elim (cases_lt 0 (length (skip_breaks front))) [
@@ -59,7 +59,7 @@ same_parts : (first first' size size' : ℕ) (bytes bytes' : List ℕ) → first
 same_parts first first' size size' bytes bytes' a b c =
     ap (λ x. located_of x size bytes) a ∙ (ap (λ x. located_of first' x bytes) b ∙ ap (λ x. located_of first' size' x) c)
 
--- CR or LF in front of a frame moves its first byte
+-- CR or LF before a frame moves its first byte
 pub adds_break : (at : ℕ) (front : List ℕ) (byte first size : ℕ) (bytes : List ℕ) → located_of first size bytes ≡ frame_at at front
     → size ≡ 0 → is_break byte ≡ true → located_of (first + 1) size bytes ≡ frame_at at (front ++ byte ∷ [])
 adds_break at front byte first size bytes h none is =

@@ -27,7 +27,7 @@ located_piece-ended at a =
     let some : 0 < length (skip_breaks (a ++ 29 ∷ [])) = omega (arith, ap length kept, length-append (skip_breaks a) (29 ∷ [])) in
     ap (λ t. cond t (frame_at at (a ++ 29 ∷ []) ∷ []) []) (lt-ltb 0 (length (skip_breaks (a ++ 29 ∷ []))) some)
 
--- the first frame of a text that has a terminator, and those behind it
+-- the first frame of a text that has a terminator, and those after it
 pub located_from-ended : (at : ℕ) (a s : List ℕ) → IsOpen a
     → located_from at (a ++ 29 ∷ s) ≡ frame_at at (a ++ 29 ∷ []) ∷ located_from (at + length (a ++ 29 ∷ [])) s
 located_from-ended at a s h =
@@ -133,7 +133,7 @@ Gives-last (Some all) (Some rest) (Some more) begun at at' frame some g gives is
     let none_left : located_from at' more ≡ [] = ap (located_from at') gives.1 in
     Gives-by some frame (located_from begun all) (located_from at' more) (found ∙ ap (λ t. cond t (frame_at begun g.front ∷ []) []) (sym sized) ∙ ap (λ f. cond some (f ∷ []) []) (sym g.gathered)) none_left
 
--- one frame, and then the one behind so many
+-- one frame, and then the one after `count` others
 pub Finds-next : {T : Type 0} (count : ℕ) (before now after : Option (List T)) (first : T) (answer : Option T)
     → Gives before now (Some first) → Finds count now after answer → Finds (suc count) before after answer
 Finds-next count None now after first answer gives finds = tt
@@ -142,7 +142,7 @@ Finds-next count (Some all) (Some rest) None first answer gives finds = absurd f
 Finds-next count (Some all) (Some rest) (Some more) first answer gives finds =
     (ap (λ xs. slice_get xs (suc count)) gives ∙ finds.0, finds.1 ∙ sym (ap (λ xs. drop (suc (suc count)) xs) gives))
 
--- the next frame is the one behind none
+-- the next frame is the one after none
 pub Finds-first : {T : Type 0} (before after : Option (List T)) (answer : Option T) → Gives before after answer → Finds 0 before after answer
 Finds-first None after answer gives = tt
 Finds-first (Some all) None answer gives = absurd gives
@@ -150,7 +150,7 @@ Finds-first (Some all) (Some rest) None gives =
     (ap (λ xs. slice_get xs 0) gives.0, gives.1 ∙ sym (ap (λ xs. drop 1 xs) gives.0))
 Finds-first (Some all) (Some rest) (Some first) gives = (ap (λ xs. slice_get xs 0) gives, sym (ap (λ xs. drop 1 xs) gives))
 
--- where nothing is ahead, nothing is behind any count
+-- where nothing is ahead, nothing comes after any count
 pub Finds-none : {T : Type 0} (count : ℕ) (before after : Option (List T)) → Gives before after None → Finds count before after None
 Finds-none count None after gives = tt
 Finds-none count (Some all) None gives = absurd gives

@@ -9,7 +9,7 @@ use Rattle.union_explain.specs.Rows.{row, row_of, rows_of, row_count, frame_of}
 use Rattle.union_explain.specs.declared.form.Form.{Form}
 use Rattle.union_explain.specs.declared.reported.Reported.{Reported}
 
--- what is at a place behind so many
+-- what is at a place after the first n
 slice_get-drop : {X : Type 0} (n : ℕ) (xs : List X) (k : ℕ) → slice_get (drop n xs) k ≡ slice_get xs (n + k)
 slice_get-drop zero xs k = ap (slice_get xs) (omega arith)
 slice_get-drop (suc n) [] k = refl
@@ -17,14 +17,14 @@ slice_get-drop (suc n) (x ∷ xs) k =
     let more : suc (n + k) ≡ suc n + k = omega arith in
     slice_get-drop n xs k ∙ ap (slice_get (x ∷ xs)) more
 
--- what is left of a library, after so many frames were passed
+-- what is left of a library, after `passed` frames were passed
 pub record Remains (form : Form) (library : List ℕ) (all : List Located) (refused rest : List Reported) (passed : ℕ)
     (ahead : Option (List Located)) (text text' : List ℕ) (rows rows' : ℕ) : Type 0 where
   pub ahead_is : ahead ≡ Some (drop passed all)
   pub text_is : text' ++ rows_of form library all rest ≡ text ++ rows_of form library all refused
   pub rows_is : rows' + row_count all rest ≡ rows + row_count all refused
 
--- the frame that is looked for, and what is ahead behind it
+-- the frame that is looked for, and what is ahead after it
 finds_in : (all : List Located) (told : Reported) (passed : ℕ) (after : Option (List Located)) (answer : Option Located)
     → passed < told.number → Finds (told.number - passed - 1) (Some (drop passed all)) after answer
     → (frame_of all told ≡ answer) × (after ≡ Some (drop told.number all))
@@ -43,7 +43,7 @@ finds all told passed before after answer lt is found =
     let P : Option (List Located) → Type 0 = λ x. Finds (told.number - passed - 1) x after answer in
     finds_in all told passed after answer lt (subst P is found)
 
--- the rows of the first, and of those behind it
+-- the rows of the first, and of those after it
 row_count-first : (all : List Located) (told : Reported) (behind : List Reported)
     → row_count all (told ∷ behind) ≡ cond (is_some (frame_of all told)) 1 0 + row_count all behind
 row_count-first all told behind = refl
@@ -105,7 +105,7 @@ pub Remains-none_rows : (form : Form) (library : List ℕ) (all : List Located) 
 Remains-none_rows form library all refused rest passed before text text' rows rows' h none =
     omega (arith, h.rows_is, ap (row_count all) none)
 
--- where the rest is a record and those behind it
+-- where the rest is a record and those after it
 pub Remains-first : (form : Form) (library : List ℕ) (all : List Located) (refused rest behind : List Reported) (told : Reported) (passed : ℕ)
     (before : Option (List Located)) (text text' : List ℕ) (rows rows' : ℕ)
     → Remains form library all refused rest passed before text text' rows rows' → rest ≡ told ∷ behind

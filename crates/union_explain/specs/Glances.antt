@@ -35,7 +35,7 @@ tag_of number frame = tag_in (entry_of number (directory_of frame))
 abbrev pub is_control_entry : List ℕ → Bool
 is_control_entry entry = is_text (take 3 entry) (codes "001")
 
--- where the entry's field starts behind the base address, where that is a number
+-- where the entry's field starts after the base address, where that is a number
 abbrev pub start_of : List ℕ → Option ℕ
 start_of entry = (if are_digits (start_place entry) then Some (number_of (start_place entry)) else None)
 
@@ -47,7 +47,7 @@ field_at at frame = before_first (λ b. b == 0x1D) (before_first (λ b. b == 0x1
 abbrev pub number_text : List ℕ → List ℕ
 number_text text = (if has_number_shape (trimmed text) then trimmed text else [])
 
--- the control number that starts so far behind a base address
+-- the control number that starts this far after a base address
 abbrev pub number_by : Option ℕ → ℕ → List ℕ → List ℕ
 number_by None base frame = []
 number_by (Some start) base frame = number_text (field_at (base + start) frame)
@@ -61,7 +61,7 @@ number_in (Some entry) base frame = number_by (start_of entry) base frame
 abbrev pub entries_in : List ℕ → List (List ℕ)
 entries_in directory = entry_texts (length directory / 12) directory
 
--- the control number by the first entry of a field 001; the data begin behind the directory's terminator
+-- the control number by the first entry of a field 001; the data begin after the directory's terminator
 abbrev pub control_number_of : List ℕ → List ℕ
 control_number_of frame =
     number_in (find is_control_entry (entries_in (directory_of frame))) (25 + length (directory_of frame)) frame

@@ -1,5 +1,5 @@
 -- Where the frames of a stream stand. A frame reaches up to and with its record terminator (ISO 2709), or to the end of the
--- stream; CR and LF in front of it are no part of it (this project's own). Offsets are counted from 0.
+-- stream; CR and LF before it are no part of it (this project's own). Offsets are counted from 0.
 use Rattle.std.specs.Prelude.{ℕ, ◌+◌, ◌-◌, nat_lt, if◌then◌else◌, List, [], ◌∷◌, ◌++◌, length, take, Option}
 use Rattle.std.specs.Option.{option_map}
 use Rattle.iso2709_frame.specs.Frames.{is_terminator, first_piece, skip_breaks}
@@ -10,7 +10,7 @@ pub record Located : Type 0 where
   pub size : ℕ
   pub bytes : List ℕ
 
--- the frame in a piece that begins at an offset, behind its CR and LF
+-- the frame in a piece that begins at an offset, after its CR and LF
 abbrev pub frame_at : ℕ → List ℕ → Located
 frame_at at piece = record {
   first = at + (length piece - length (skip_breaks piece));
@@ -22,7 +22,7 @@ frame_at at piece = record {
 abbrev pub located_piece : ℕ → List ℕ → List Located
 located_piece at piece = (if nat_lt 0 (length (skip_breaks piece)) then frame_at at piece ∷ [] else [])
 
--- the frames behind the first piece of a text that begins at an offset: a piece begins behind each record terminator
+-- the frames after the first piece of a text that begins at an offset: a piece begins after each record terminator
 abbrev pub located_later : ℕ → List ℕ → List Located
 located_later at [] = []
 located_later at (byte ∷ rest) =

@@ -22,8 +22,8 @@ Gives (Some all) None answer = ⊥
 Gives (Some all) (Some rest) None = (all ≡ []) × (rest ≡ [])
 Gives (Some all) (Some rest) (Some first) = all ≡ first ∷ rest
 
--- the answer is that of what was ahead with so many before it, and what is behind that is ahead now; None where there are no
--- more than so many
+-- the answer is that of what was ahead with `count` before it, and what comes after that is ahead now; None where there are
+-- no more than `count`
 abbrev pub Finds : {T : Type 0} → ℕ → Option (List T) → Option (List T) → Option T → Type 0
 Finds count None after answer = ⊤
 Finds count (Some all) None answer = ⊥

@@ -25,7 +25,7 @@ abbrev pub separator : Form → ℕ
 separator Tabs = 0x09
 separator Csv = 0x2C
 
--- a column behind another
+-- a column after another
 unfoldable pub next_cell : Form → List ℕ → List ℕ
 next_cell form column = separator form ∷ cell form column
 

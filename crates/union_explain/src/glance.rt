@@ -21,7 +21,7 @@ const RECORD_TERMINATOR: u8 = 0x1D;
 /// More entries than a frame of 99,999 bytes has room for.
 const MOST_ENTRIES: u64 = 9_999;
 
-/// The text after so many bytes, and nothing where it has no more.
+/// The text after the first `count` bytes, and nothing where it has no more.
 fn skipped(count: usize, text: &[u8]) -> &[u8]
     ensures { result.now ≡ drop count text.now }
 {
@@ -87,7 +87,7 @@ fn is_control_entry(entry: &[u8]) -> bool
     entry.split_at(TAG_END).0 == b"001".as_slice()
 }
 
-/// The first entry of field 001 among so many.
+/// The first entry of field 001 among the first `count`.
 fn control_entry(count: usize, directory: &[u8]) -> Option<&[u8]>
     requires { 12 * count ≤ length directory.now }
     ensures found { option_copied result ≡ find is_control_entry (entry_texts count directory.now) }

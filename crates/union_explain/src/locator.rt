@@ -72,7 +72,7 @@ impl Locator {
         }
     }
 
-    /// Whether there is a frame behind so many, which is handed out then.
+    /// Whether there is a frame after `count` others, which is handed out then.
     pub fn nth<S: Source>(&mut self, count: u64, source: &mut S) -> Result<bool, Stop>
         ensures name { S.name source.new ≡ S.name source.old }
         ensures finds { IfOk result (λ some. Finds count

@@ -149,7 +149,7 @@ fn told_lines(text: &[u8]) -> u64
     count
 }
 
-/// Adds a number behind its word.
+/// Adds a number after its word.
 fn add_count(text: &mut Vec<u8>, word: &[u8], number: u64) -> Result<(), AllocError>
     ensures { OnOk result (text.new.items ≡ text.old.items ++ (word.now ++ decimal number)) }
 {

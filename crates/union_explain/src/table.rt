@@ -129,7 +129,7 @@ impl Table {
         self.rows
     }
 
-    /// Adds the row of a refused record. Where memory runs out the table stays as it was.
+    /// Adds the row of a refused record. If allocation fails, the table stays as it was.
     pub fn add(
         &mut self,
         alloc: Global,

@@ -58,7 +58,7 @@ apart-at code (first ∷ xs) (suc i) (suc j) x y distinct at_i at_j differ =
 same-number : (n : ℕ) → (n == n) ≡ true
 same-number n = grind (arith, nat_tests)
 
--- with one entry more in front
+-- with one entry more at the start
 pub under-more : (n : ℕ) (entry : HistoryEntry) (history : List HistoryEntry)
     → batches_under n (entry ∷ history) ≡ cond (entry.pass == n) (entry.batch ∷ batches_under n history) (batches_under n history)
 under-more n entry history =

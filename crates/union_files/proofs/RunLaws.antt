@@ -83,7 +83,7 @@ find-files contents (file ∷ rest) =
     ≡ option_map input_of (cond over (Some file) (first_overfull contents rest)))
     [ true ↦ refl | false ↦ find-files contents rest ]
 
--- behind files that are not too long it is one of the libraries' files
+-- after files that are not too long it is one of the libraries' files
 files_behind : (contents : Contents) (first : List InputFile) (libraries : List LibraryFile) → all.AreWithin contents first
     → all.first_overfull contents (first ++ inputs_of libraries) ≡ option_map input_of (first_overfull contents libraries)
 files_behind contents first libraries within = behind_first contents first (inputs_of libraries) within ∙ find-files contents libraries

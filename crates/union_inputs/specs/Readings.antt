@@ -9,7 +9,7 @@ use Rattle.union_words.specs.declared.status.Status.{Status}
 use Rattle.union_words.specs.declared.status.Status.TheVariants.{Done, DoneWithRefusals, Usage, OpenFault, ReadFault, WriteFault, TooLong, Memory}
 use Rattle.union_inputs.specs.Inputs.{limit_of}
 
--- why a source of which so many bytes are read was not read to its end: a failure raises its count, and nothing else does
+-- why a source that may give `limit` bytes was not read to its end: a failure raises its count, and nothing else does
 abbrev pub IsStop : ℕ → Stop → Inflow → Type 0
 IsStop limit StopTooLong source = IfSome source.told (λ bytes. limit < length bytes) × (source.after ≡ source.before)
 IsStop limit StopFailed source = HasFailed source

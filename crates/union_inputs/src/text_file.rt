@@ -17,7 +17,7 @@ pub const LARGEST_TEXT: usize = 1_048_576;
 /// Opens the file of a script or of questions, reads it whole and gives it back.
 ///
 /// Answers `OpenFault` and `ReadFault` of the input only where an open or a read of it failed, `TooLong` of the input exactly
-/// where it has more than `LARGEST_TEXT` bytes and nothing failed, and `Memory` where memory ran out.
+/// where it has more than `LARGEST_TEXT` bytes and nothing failed, and `Memory` if allocation fails.
 pub fn read_text_file<F: Shelf>(
     alloc: Global,
     path: &Bytes,

@@ -10,10 +10,10 @@ use union_io::source::Source;
 /// How many bytes are asked for at once.
 const PIECE: usize = 65_536;
 
-/// The bytes of a source that has at most so many. Takes room for them and for one piece.
+/// The bytes of a source that has at most `limit`. Takes room for them and for one piece.
 ///
 /// Answers `TooLong` exactly where the source has more and no read failed, `Failed` only where a read failed, and `Memory`
-/// where memory ran out.
+/// if allocation fails.
 pub fn read_whole<S: Source>(alloc: Global, source: &mut S, limit: usize) -> Result<Vec<u8>, Stop>
     ensures name { S.name source.new ≡ S.name source.old }
     ensures reads { Reads limit result (record {

@@ -15,7 +15,7 @@ drop-get (y ∷ xs) (suc n) x h =
     let moved : suc n + 1 ≡ suc (n + 1) = omega arith in
     drop-get xs n x h ∙ sym (ap (λ k. x ∷ drop k (y ∷ xs)) moved)
 
--- the file at a place, and then those behind it
+-- the file at a place, and then those after it
 pub files-next : (contents : List ℕ → List ℕ) (all : List LibraryFile) (place : ℕ) (file : LibraryFile) (a b c : Read)
     → slice_get all place ≡ Some file → TakesAll file.library 1 (placed (contents file.path)) a b
     → ReadsFiles contents (drop (place + 1) all) b c → ReadsFiles contents (drop place all) a c

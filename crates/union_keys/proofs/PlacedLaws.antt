@@ -11,7 +11,7 @@ use Rattle.iso2709_frame.proofs.FrameLaws.{list_any-skip_breaks}
 use Rattle.iso2709_frame.proofs.PieceLaws.{IsWhole-fed, first_piece-rest}
 use Rattle.union_keys.specs.Placed.{Placed, placed_at, placed_piece, placed_later, placed_from}
 
--- the frames behind the first piece are those of what is behind it
+-- the frames after the first piece are those of what comes after it
 placed_later-next : (at : ℕ) (text : List ℕ)
     → placed_later at text ≡ placed_from (at + length (first_piece text)) (drop (length (first_piece text)) text)
 placed_later-next at [] = refl
@@ -71,7 +71,7 @@ first_piece-twice (byte ∷ rest) = elim (cases_Bool (is_terminator byte)) [
   | inr e ↦ rw e (ap (λ r. byte ∷ r) (first_piece-twice rest))
 ]
 
--- the front of a text that has the size of its first piece
+-- the prefix of a text that has the size of its first piece
 pub piece-is : (text piece : List ℕ) (size : ℕ) → piece ≡ take size text → size ≡ length (first_piece text) → piece ≡ first_piece text
 piece-is text piece size is n =
     let first = first_piece text in

@@ -21,7 +21,7 @@ TakesAll-append library number next (frame ∷ one) two a b c n (between, takes,
     let more : next ≡ suc number + length one = omega (arith, n) in
     (between, takes, TakesAll-append library (suc number) next one two between b c more later u)
 
--- the first piece of a text, and then what is behind it
+-- the first piece of a text, and then what comes after it
 pub taken-next : (library : List ℕ) (number next first first' : ℕ) (rest piece behind : List ℕ) (a b c : Read) → piece ≡ first_piece rest
     → behind ≡ drop (length (first_piece rest)) rest → first' ≡ first + length piece
     → next ≡ number + length (placed_piece first piece) → TakesAll library number (placed_piece first piece) a b

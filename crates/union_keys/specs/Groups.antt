@@ -1,4 +1,4 @@
--- Groups of records, as a text names them: an id `LIB.CTL` on each line, and a line that is empty behind each group.
+-- Groups of records, as a text names them: an id `LIB.CTL` on each line, and an empty line after each group.
 use Rattle.std.specs.Prelude.{ℕ, ◌==◌, List, [], ◌∷◌, ◌++◌, fold, Option, Some, None, if◌then◌else◌}
 use Rattle.std.specs.BTreeMap.{is_at, insert_entry}
 use Rattle.std.specs.List.{before_first, after_first}

@@ -50,7 +50,7 @@ line_of members editions =
     decimal (length members)
     ++ (0x09 ∷ (decimal (length editions) ++ (flat_map place_cells members ++ (flat_map key_cells editions ++ 0x0A ∷ []))))
 
--- the line of these records was added, and they resolve to so many editions
+-- the line of these records was added, and they resolve to `count` editions
 pub record AddsLine (members : List Standing) (before after : List ℕ) (count : ℕ) : Type 0 where
   pub editions : List Edition
   pub resolved : IsOrderedResolution (editions_in members) editions

@@ -1,4 +1,4 @@
--- Where the frames of a text stand. They are those of `frames`: a piece ends behind each record terminator, and CR and LF at its
+-- Where the frames of a text stand. They are those of `frames`: a piece ends after each record terminator, and CR and LF at its
 -- beginning are no part of its frame. Offsets are counted from 0.
 use Rattle.std.specs.Prelude.{ℕ, ◌+◌, ◌-◌, if◌then◌else◌, List, [], ◌∷◌, ◌++◌, length, map}
 use Rattle.iso2709_frame.specs.declared.cut.Cut.{Cut}
@@ -20,7 +20,7 @@ abbrev pub placed_piece : ℕ → List ℕ → List Placed
 placed_piece at piece =
     map (placed_at (at + (length piece - length (skip_breaks piece))) (length (skip_breaks piece))) (cut_piece piece)
 
--- the frames behind the first piece of a text that begins at that offset
+-- the frames after the first piece of a text that begins at that offset
 abbrev pub placed_later : ℕ → List ℕ → List Placed
 placed_later at [] = []
 placed_later at (byte ∷ rest) =

@@ -23,7 +23,7 @@ request_meaning VersionInPlace = Version
 abbrev pub keys_of : Option (List ℕ) → List (List ℕ) → Option Request
 keys_of groups words = (if are_libraries words then Some (Keys groups (libraries_of words)) else None)
 
--- the same behind a word `--groups=PATH`
+-- the same after a word `--groups=PATH`
 abbrev pub grouped_of : Option (List ℕ) → List ℕ → List (List ℕ) → Option Request
 grouped_of None word rest = keys_of None (word ∷ rest)
 grouped_of (Some path) word rest = keys_of (Some path) rest

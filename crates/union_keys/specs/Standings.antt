@@ -11,7 +11,7 @@ use Rattle.union_keys.specs.declared.standing.Standing.{Standing}
 abbrev pub edition_by : List ℕ → Record → Option Edition
 edition_by library r = (if is_deleted r.leader.status then None else edition [] library r)
 
--- the library's record whose frame has so many bytes before it and in it
+-- the library's record whose frame has `first` bytes before it and `size` in it
 abbrev pub standing_of : List ℕ → ℕ → ℕ → Record → Standing
 standing_of library first size r = record {
   id = record { library = library; control = control_number r };

@@ -73,7 +73,7 @@ struct Written {
     groups: u64,
 }
 
-/// Adds a number behind a word.
+/// Adds a number after a word.
 fn add_counted(text: &mut Vec<u8>, word: &[u8], number: u64) -> Result<(), AllocError> {
     let mut digits = Buffer::new();
     text.extend_from_slice(word)?;

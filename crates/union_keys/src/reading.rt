@@ -84,7 +84,7 @@ impl Reading {
         }
     }
 
-    /// Takes a frame of so many bytes, which are given where it is whole. Returns `Memory` if allocation fails.
+    /// Takes a frame of `size` bytes, which are given where it is whole. Returns `Memory` if allocation fails.
     fn take(
         &mut self,
         alloc: Global,

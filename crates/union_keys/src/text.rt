@@ -14,8 +14,8 @@ const LARGEST_TEXT: usize = 1_099_511_627_776;
 
 /// The bytes of a source. Takes room for them and for one piece.
 ///
-/// Answers `TooLong` where the source has more than `LARGEST_TEXT` bytes, `Failed` where a read failed, and `Memory` where memory
-/// ran out.
+/// Answers `TooLong` where the source has more than `LARGEST_TEXT` bytes, `Failed` where a read failed, and `Memory` if
+/// allocation fails.
 pub fn read_whole<S: Source>(alloc: Global, source: &mut S) -> Result<Vec<u8>, Stop>
     ensures name { S.name source.new ≡ S.name source.old }
     ensures text { IfOk result (λ text. IfSome (S.left source.old) (λ bytes. text.items ≡ bytes)) }

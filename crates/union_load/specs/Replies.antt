@@ -11,8 +11,8 @@ use Rattle.load_sessions.specs.Askers.{Replied}
 use Rattle.load_sessions.specs.Entries.{entries_of}
 use Rattle.load_sessions.specs.declared.asker.Asker.{Asker}
 
--- a reply to each question, by these names: each is over the first entries of the history, so many as it says, at least so many as were known
--- before, and at least those of the reply before it
+-- a reply to each question, by these names: each is over the first entries of the history, as many as it says, at least as many as were
+-- known before, and at least those of the reply before it
 pub record AreReplies (names : Table) (history : List HistoryEntry) (known : ℕ) (questions : List Query) (replies : List (ℕ × Answer)) : Type 0 where
   pub replied : Replied names (entries_of history) known questions replies
   pub all : length replies ≡ length questions

@@ -1,7 +1,7 @@
 //! The sessions of a load after they were run: each pass is ended, each source is given back to its shelf, and each report is
 //! added.
 //!
-//! A file that could not be read is named before one that is too long, and that before want of memory; of two of a kind the first
+//! A file that could not be read is named before one that is too long, and that before lack of memory; of two of a kind the first
 //! in the order of the command. Memory grows with the reports.
 ghost use Rattle.std.specs.Prelude.{◌≡◌, ◌∷◌, [], false, map, IfErr};
 ghost use Rattle.catalogue_lock.specs.Tokens.{root_of, IsRootOf};

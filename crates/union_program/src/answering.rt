@@ -46,7 +46,7 @@ struct Asked<'a> {
     refused: bool,
 }
 
-/// Reads the lines of a file of questions, and divides the questions for so many workers. Returns `Memory` if allocation fails.
+/// Reads the lines of a file of questions, and divides the questions for `workers` workers. Returns `Memory` if allocation fails.
 fn read_asked(alloc: Global, workers: u32, text: &[u8]) -> Result<Asked<'_>, Memory>
     ensures lines { IfOk result (λ asked. map line_meaning asked.lines.items ≡ lines_in text.now) }
     ensures beside { IfOk result (λ asked. asked.questions.beside.items

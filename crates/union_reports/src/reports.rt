@@ -40,7 +40,7 @@ fn add_counts(
     Ok(())
 }
 
-/// Adds the report of a library that has so many frames, of which these are refused, and what came of the others.
+/// Adds the report of a library that has `frames` frames, of which these are refused, and what came of the others.
 ///
 /// Returns `Memory` if allocation fails.
 pub fn add_report(

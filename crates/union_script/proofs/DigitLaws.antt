@@ -3,7 +3,7 @@ use Rattle.std.proofs.Common.{◌≡◌, ℕ, ◌-◌, min, List, [], length, ta
 use Rattle.std.proofs.lemmas.Bool.{cases_lt}
 use Rattle.std.proofs.lemmas.List.{drop_all, length-drop}
 
--- so many as a number with so many digits lacks
+-- as many zeros as a number with `digits` digits lacks
 pub zeros-before : (digits most : ℕ) (zeros : List ℕ) → length zeros ≡ most
     → take (most - min digits most) (drop (min digits most) zeros) ≡ drop digits zeros
 zeros-before digits most zeros long =

@@ -94,7 +94,7 @@ notices_run history files counts written faults = (
   }),
 )
 
--- where memory ran out before a line was run
+-- memory ran out before a line was run
 pub nothing_run : (files : Option Contents) (a b : Counts) (lines : List ScriptLine) (history : List HistoryEntry) (written : Known) (x z : ℕ) → SameCounts a b
     → LinesStop Memory lines history (flow files a b) (outflow written written x z)
 nothing_run files a b lines history written x z same = (

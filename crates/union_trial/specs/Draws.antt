@@ -10,7 +10,7 @@ next_state state = (state * 6364136223846793005 + 1442695040888963407) % 2 ^ 64
 unfoldable pub number_below : ℕ → ℕ → ℕ
 number_below below state = (state / 2 ^ 33) % below
 
--- the six draws of a frame, in their order, where so many frames are generated
+-- the six draws of a frame, in their order, where `count` frames are generated
 unfoldable pub draws_of : ℕ → ℕ → Draws
 draws_of count state =
     let first = next_state state in
@@ -32,7 +32,7 @@ draws_of count state =
 unfoldable pub state_behind : ℕ → ℕ
 state_behind state = next_state (next_state (next_state (next_state (next_state (next_state state)))))
 
--- the draws of those frames that belong to a library, of so many frames that are still to be generated; frame i belongs to
+-- the draws of those frames that belong to a library, of this many frames that are still to be generated; frame i belongs to
 -- the library at place i modulo 3
 abbrev pub draws_from : ℕ → ℕ → ℕ → ℕ → ℕ → List Draws
 draws_from count place state number zero = []

@@ -17,7 +17,7 @@ still_drawn d = draws_from d.count d.place d.generator.state d.number (d.count -
 abbrev pub library_code : ℕ → List ℕ
 library_code place = codes "T" ++ (0x30 + place) ∷ []
 
--- the stream of a library, of so many frames that are generated from that seed
+-- the stream of a library, of `count` frames that are generated from that seed
 abbrev pub stream : ℕ → ℕ → ℕ → List Frame
 stream seed count place = map frame_of (library_draws seed count place)
 
@@ -31,7 +31,7 @@ pub record Loads (seed count place : ℕ) (history now : List HistoryEntry) : Ty
   pub read : AreBatches [] (library_code place) (stream seed count place) batches
   pub applied : now ≡ history ++ turns_of place batches
 
--- the streams of so many libraries are loaded, one after the other
+-- the streams of this many libraries are loaded, one after the other
 abbrev pub AreLoaded : ℕ → ℕ → ℕ → List HistoryEntry → Type 0
 AreLoaded seed count zero history = history ≡ []
 AreLoaded seed count (suc place) history = (before : List HistoryEntry) × AreLoaded seed count place before × Loads seed count place before history

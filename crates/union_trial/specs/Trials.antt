@@ -21,7 +21,7 @@ trial_line frames m =
     ++ (counted (codes "editions") m.editions
     ++ (counted (codes "works") m.works ++ (counted (codes "bytes") m.bytes ++ 0x0A ∷ [])))))
 
--- the text is the line on the catalogue into which the three libraries' streams were loaded, of so many frames that are
+-- the text is the line on the catalogue into which the three libraries' streams were loaded, of `count` frames that are
 -- generated from that seed
 pub record IsTrialText (seed count : ℕ) (text : List ℕ) : Type 0 where
   pub history : List HistoryEntry
@@ -30,7 +30,7 @@ pub record IsTrialText (seed count : ℕ) (text : List ℕ) : Type 0 where
   pub measured : AreMeasured empty history measures
   pub line : text ≡ trial_line count measures
 
--- a run with that status: the line was written; or a prefix of it, where a write failed; or nothing, where memory ran out. It
+-- a run with that status: the line was written; or a prefix of it, where a write failed; or nothing, if memory ran out. It
 -- has no other status
 abbrev pub IsTrial : ℕ → ℕ → Outflow → Status → Type 0
 IsTrial seed count out Done = (out.after ≡ out.before) × ((text : List ℕ) × IsTrialText seed count text × Appends out.old out.new text)

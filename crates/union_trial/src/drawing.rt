@@ -11,7 +11,7 @@ use crate::library_draws::LibraryDraws;
 pub const LIBRARIES: u32 = 3;
 
 impl LibraryDraws {
-    /// The draws of the library at that place, of so many frames that are generated from that seed.
+    /// The draws of the library at that place, of `count` frames that are generated from that seed.
     pub fn of(seed: u64, count: u32, place: u32) -> LibraryDraws
         requires some { 0 < count }
         requires most { count ≤ MOST_FRAMES }

@@ -36,7 +36,7 @@ impl Generator {
         ((self.state >> LOW_BITS) % u64::from(below)) as u32
     }
 
-    /// What is drawn for the next frame, where so many are generated.
+    /// What is drawn for the next frame, where `count` are generated.
     pub fn draws(&mut self, count: u32) -> Draws
         requires some { 0 < count }
         requires most { count ≤ MOST_FRAMES }

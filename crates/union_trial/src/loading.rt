@@ -53,7 +53,7 @@ fn read_block(
 }
 
 /// Loads the stream of the library at that place, whose draws are still to come: applies its batches one after the other, each of
-/// which so many workers prepare. Counts the match tests of the turns.
+/// which `workers` workers prepare. Counts the match tests of the turns.
 ///
 /// Returns `Memory` if allocation fails. Some of the batches may be applied then.
 fn load_library<R: Threads + Sync, L: Ledger>(
@@ -88,8 +88,8 @@ fn load_library<R: Threads + Sync, L: Ledger>(
     }
 }
 
-/// Loads the streams of the three libraries, one after the other, into a catalogue without history; so many workers prepare each
-/// batch. Counts the match tests of the turns.
+/// Loads the streams of the three libraries, one after the other, into a catalogue without history; `workers` workers prepare
+/// each batch. Counts the match tests of the turns.
 ///
 /// Returns `Memory` if allocation fails.
 pub fn load_all<R: Threads + Sync, L: Ledger>(

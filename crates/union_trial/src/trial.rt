@@ -95,7 +95,7 @@ fn trial_text<R: Threads + Sync>(
 /// editions, works, and of the export's bytes.
 ///
 /// `Done` means that the line was written. `WriteFault` comes only where a write failed; a prefix of the line was written then.
-/// `Memory` comes where memory ran out; nothing was written then. No other status comes: no generated frame is refused.
+/// `Memory` comes if allocation fails; nothing was written then. No other status comes: no generated frame is refused.
 ///
 /// After `Done` the memory of the catalogue is left standing, for the system to take back when the program ends; after any other
 /// status all of it is given back.

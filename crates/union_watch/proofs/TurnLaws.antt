@@ -25,7 +25,7 @@ use Rattle.union_watch.specs.TurnLines.{TurnLine, turns_from, first_entry, witho
 same_number : (n : ℕ) → (n == n) ≡ true
 same_number n = grind (arith, nat_tests)
 
--- the batches under a number, with one entry more in front
+-- the batches under a number, with one entry more at the start
 under-more : (n : ℕ) (entry : HistoryEntry) (history : List HistoryEntry)
     → batches_under n (entry ∷ history) ≡ cond (entry.pass == n) (entry.batch ∷ batches_under n history) (batches_under n history)
 under-more n entry history =

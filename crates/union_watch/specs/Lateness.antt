@@ -15,7 +15,7 @@ abbrev pub NeverFall : ℕ → ℕ → List ℕ → Type 0
 NeverFall least most [] = ⊤
 NeverFall least most (number ∷ numbers) = (least ≤ number) × (number ≤ most) × NeverFall number most numbers
 
--- numbers of turns over which questions are answered beside a load of so many turns, and after it
+-- numbers of turns over which questions are answered beside a load of `turns` turns, and after it
 pub record AreTimely (workers turns : ℕ) (numbers : List ℕ) : Type 0 where
   pub never_fall : NeverFall 0 turns numbers
   -- the late ones are answered over all turns

@@ -21,7 +21,7 @@ use Rattle.union_watch.specs.Lateness.{AreTimely}
 use Rattle.union_watch.specs.Told.{Told, AreTold, numbers_of}
 use Rattle.union_watch.specs.WatchTexts.{watch_text}
 
--- what is asked: so many workers, a preference among libraries, the name of the file of names, where there is one, that of the file
+-- what is asked: a number of workers, a preference among libraries, the name of the file of names, where there is one, that of the file
 -- of questions, and the libraries with their files
 pub record Watch : Type 0 where
   pub workers : ℕ

@@ -13,7 +13,7 @@ use Rattle.union_words.specs.Texts.{line_feed}
 use Rattle.union_watch.specs.AskLines.{AskLine}
 use Rattle.union_watch.specs.TurnLines.{six_digits}
 
--- what is told of a line: the answer over so many turns, or why the line is refused
+-- what is told of a line: the answer over `over` turns, or why the line is refused
 pub data Told : Type 0 where
   Reply : (over : ℕ) (line answer : List ℕ) → Told
   Refused : (refusal : QueryRefusal) → Told

@@ -127,7 +127,7 @@ fn joined(
 /// file of questions, where these are the replies to those that ask something: first to the questions that were asked beside the
 /// load, and then to the late ones. The text is handed on in pieces.
 ///
-/// Answers `WriteFault` only where a write of `out` failed, and `Memory` where memory ran out. A prefix of the text was written
+/// Returns `WriteFault` only where a write of `out` failed, and `Memory` if allocation fails. A prefix of the text was written
 /// then.
 pub fn write_watch<O: Sink>(
     alloc: Global,

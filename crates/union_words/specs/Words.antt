@@ -15,7 +15,7 @@ pub record LibraryFile : Type 0 where
   pub library : List ℕ
   pub path : List ℕ
 
--- how files are loaded: by so many workers, with this preference among libraries, the best first, with the names of the file of
+-- how files are loaded: by `workers` workers, with this preference among libraries, the best first, with the names of the file of
 -- that path, where there is one, and the libraries
 pub record Loading : Type 0 where
   pub workers : ℕ
@@ -115,7 +115,7 @@ from_json_job words = file_job FromJson words
 abbrev pub usual_workers : ℕ
 usual_workers = 4
 
--- so many workers, and the words after the option that says so; or the usual ones, and all of the words
+-- the number of workers and the words after the option that gives it; or the usual number and all of the words
 abbrev pub workers_or : Option ℕ → List (List ℕ) → List (List ℕ) → ℕ × List (List ℕ)
 workers_or None rest words = (usual_workers, words)
 workers_or (Some workers) rest words = (workers, rest)
@@ -164,7 +164,7 @@ pub record Options : Type 0 where
   pub names : Option (List ℕ)
   pub rest : List (List ℕ)
 
--- so many workers, this preference, and what the words say of names
+-- `workers` workers, this preference, and what the words say of names
 abbrev pub named_options : ℕ → List (List ℕ) → List (List ℕ) → Options
 named_options workers prefer words =
     record { workers = workers; prefer = prefer; names = (names_in words).0; rest = (names_in words).1 }

@@ -4,7 +4,7 @@ use Rattle.union_explain.specs.Located.{Located, located_ahead}
 use Rattle.union_explain.specs.Readings.{ahead, Finds}
 use Rattle.union_explain.proofs.locator.Locator.nth.Given as goal
 
--- what is found behind so many as are left is what the call looks for
+-- what is found after as many as are left is what the call looks for
 abbrev pub invariant-loop-left : goal.invariant-loop-left
 invariant-loop-left g l = record {
   name : g.S.Source.name l.source ≡ g.S.Source.name l.fn.source;
