@@ -17,7 +17,7 @@ pub fn parts_resolve_apart()
         → IsOrderedResolution list all ↔ AreMerged parts all }
 {}
 
-/// Editions of which the one seeks no key under which an index has the other do not match.
+/// Two editions do not match if the one seeks no key under which an index has the other.
 pub fn strangers_do_not_match()
     ensures { (x y : Edition) → ShareNoCandidate x y → edition_match x y ≡ false }
 {}

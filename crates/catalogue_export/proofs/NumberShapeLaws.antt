@@ -68,7 +68,7 @@ name-size : (library rest : List ℕ) → length ((library ++ codes ".") ++ rest
 name-size library rest = omega (arith, length-append (library ++ codes ".") rest, length-append library (codes "."))
 
 module _ (library control : List ℕ) (code : is_library_code library ≡ true) where
-  -- the name of a record of which code and control number have at most 63 bytes together is a control number
+  -- the name of a record is a control number where its code and control number have at most 63 bytes together
   pub name-shaped : has_number_shape control ≡ true → length library + length (trim_end control) ≤ 63
       → has_number_shape (trimmed ((library ++ codes ".") ++ control)) ≡ true
   name-shaped number few =
@@ -82,7 +82,7 @@ module _ (library control : List ℕ) (code : is_library_code library ≡ true) 
       ap has_number_shape (name-trimmed library control code)
       ∙ and_from _ _ (and_from _ _ (yes_le 1 (length name) (omega (arith, size))) (yes_le (length name) 64 (omega (arith, size)))) all
 
-  -- one of which they have more is none
+  -- where they have more, it is none
   pub name-misshaped : 63 < length library + length (trim_end control) → has_number_shape (trimmed ((library ++ codes ".") ++ control)) ≡ false
   name-misshaped many =
       let name = (library ++ codes ".") ++ trim_end control in

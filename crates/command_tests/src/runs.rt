@@ -30,7 +30,7 @@ pub struct Files<'a> {
     pub notes: &'a [u64],
 }
 
-/// The files of that content, of which no call fails.
+/// The files of that content; no call on them fails.
 pub fn calm<'a>(a: &'a [u8], b: &'a [u8], c: &'a [u8]) -> Files<'a> {
     Files {
         contents: [a, b, c],

@@ -66,7 +66,7 @@ fn longer_record_is_refused(rt: HostRuntime) -> Result<(), Fail> {
     Ok(())
 }
 
-/// Words that name a file of which a read fails or that is not there, and whether that is so and what is told.
+/// Words that name a file of which a read fails or that is not there, whether it is not there, and what is told.
 const FAULTS: [(&[u8], bool, &[u8]); 5] = [
     (
         b"export LIBA=a LIBB=b LIBC=c",

@@ -82,7 +82,7 @@ pub fn shelf_of(alloc: Global, files: &Files<'_>) -> Result<MemShelf, Memory> {
     Ok(shelf)
 }
 
-/// An output of which these writes fail.
+/// An output of which the writes `failing` fail.
 pub fn sink(alloc: Global, failing: &[u64]) -> Result<MemSink, Memory> {
     let room = Vec::with_capacity(alloc, ROOM)?;
     Ok(MemSink::new(failing.to_vec(alloc)?, room, ROOM))

@@ -143,7 +143,7 @@ fn add_met<G: Met>(text: &mut Vec<u8>, gate: &G) -> Result<(), Memory> {
     Ok(())
 }
 
-/// Adds how the runs ended of which the second session had its first turn before the first session had.
+/// Adds how the runs ended in which the second session had its first turn before the first session had.
 fn tell_ordered<R: Threads + Wait + Sync>(
     rt: &R,
     alloc: Global,

@@ -22,7 +22,7 @@ impl Findings {
         })
     }
 
-    /// Counts the next line, of which that came and this frame is written.
+    /// Counts the next line, which came to `outcome` and for which `frame` is written.
     pub fn count(&mut self, outcome: Outcome, frame: &[u8]) -> Result<(), AllocError>
         requires { self.old.lines < u64.MAX }
         ensures counted { OnOk result ((all : List Ended) → AreCounted all self.old

@@ -63,7 +63,7 @@ fn judge_text(alloc: Global, line: &[u8], frame: &mut Vec<u8>) -> Result<Outcome
     }
 }
 
-/// What comes of a line, of which None stands for one that is too long. The frame that is to be written is put in place of what
+/// What comes of a line; None stands for one that is too long. The frame that is to be written is put in place of what
 /// stands in `frame`; it is empty where there is none.
 pub fn judge(alloc: Global, line: Option<&[u8]>, frame: &mut Vec<u8>) -> Result<Outcome, Memory>
     ensures { IfOk result (λ outcome. (raw : List ℕ) → option_copied line.entry ≡ line_within raw

@@ -22,7 +22,7 @@ pub record Batching : Type 0 where
   pub frames : ℕ
   pub refused : List RefusedFrame
 
--- a reader of which nothing was asked
+-- a reader that was asked for nothing yet
 abbrev pub begun : List (List ℕ) → List ℕ → ℕ → Batching
 begun prefer library limit = record { prefer = prefer; library = library; stream = opened limit; frames = 0; refused = [] }
 

@@ -51,8 +51,8 @@ impl Model for BatchReader {
 }
 
 impl BatchReader {
-    /// A reader of which nothing was asked, for a library's source that may give `limit` bytes. The records are loaded by the
-    /// preference. It takes the room of a piece and of the largest frame.
+    /// A new reader for a library's source that may give `limit` bytes. The records are loaded by the preference.
+    /// It takes the room of a piece and of the largest frame.
     ///
     /// Returns `Memory` if allocation fails.
     pub fn open(

@@ -12,7 +12,7 @@ ghost use Rattle.library_batches.specs.Reading.{AnswersBatch, Batching, begun};
 ghost use Rattle.library_batches.specs.Streams.{Frame};
 ghost use Rattle.library_batches.specs.declared.stop.Stop.TheVariants.{TooLong as TooLongStop};
 
-/// A reader of which nothing was asked has handed out nothing.
+/// A reader that was asked for nothing yet has handed out nothing.
 pub fn nothing_is_handed_out_at_first()
     ensures { (prefer : List (List ℕ)) (library : List ℕ) (limit : ℕ) (left : Option (List ℕ))
         → HandsOut prefer library limit left [] (begun prefer library limit) left }

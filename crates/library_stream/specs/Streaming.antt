@@ -19,7 +19,7 @@ abbrev pub streaming : Cutting → List ℕ → Course → Streaming
 streaming cutter unread course =
     record { pending = cutter.pending; unread = unread; course = course; frame = cutter.frame }
 
--- a reader of which nothing was asked
+-- a reader that was asked for nothing yet
 abbrev pub opened : ℕ → Streaming
 opened limit = record { pending = []; unread = []; course = Open limit; frame = [] }
 

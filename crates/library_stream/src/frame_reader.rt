@@ -176,8 +176,8 @@ fn next_answer<S: Source>(
 }
 
 impl FrameReader {
-    /// A reader of which nothing was asked, for a source that may give `limit` bytes. It takes the room of a piece and
-    /// of the largest frame.
+    /// A new reader for a source that may give `limit` bytes. It takes the room of a piece and of the
+    /// largest frame.
     pub fn open(alloc: Global, limit: u64) -> Result<FrameReader, Memory>
         ensures { IfOk result (λ reader. reader ≡ opened limit) }
     {

@@ -102,11 +102,11 @@ number_of MainEntry = 5
 abbrev pub is_of : SingleClass → Entry → Bool
 is_of class e = option_map_or (λ other. number_of other == number_of class) (class_of e.tag) false
 
--- the entry is of a class of which an earlier one is
+-- the entry is of a class, and an earlier entry is of the same class
 abbrev pub repeats : List Entry → Entry → Bool
 repeats earlier e = option_map_or (λ class. list_any (is_of class) earlier) (class_of e.tag) false
 
--- the least number of an entry of a class of which an earlier one is
+-- the least number of an entry that has an earlier entry of its class
 abbrev pub repeated_from : List Entry → ℕ → List Entry → Option ℕ
 repeated_from earlier i [] = None
 repeated_from earlier i (e ∷ entries) = (if repeats earlier e then Some i else repeated_from (earlier ++ e ∷ []) (suc i) entries)

@@ -1,4 +1,4 @@
--- The keys of features, of which those that meet have one in common: control pairs, ISBNs, ISSNs and titles.
+-- The keys of features: control pairs, ISBNs, ISSNs and titles. Features that meet have one in common.
 use Rattle.std.specs.Prelude.{Bool, false, nat_eq, ◌&&◌, ◌||◌, List, [], ◌∷◌, ◌++◌, map, Contains}
 use Rattle.std.specs.Hash.{HashWrites, u8, str}
 use Rattle.std.specs.Cmp.Lexicographic.{pointwise}

@@ -76,7 +76,7 @@ fn logged<R: Wait>(
     unreachable!()
 }
 
-/// All entries of the log, of which these were reached, when there are as many as were counted: at once, since nobody else adds to it.
+/// All entries of the log, once there are `count` of them: at once, since nobody else adds to it. `before` has those reached so far.
 /// A step names an entry, and a load adds none, so any will do.
 fn whole<R: Wait>(
     rt: &R,

@@ -41,7 +41,7 @@ impl Model for ByteReader {
 }
 
 impl ByteReader {
-    /// A reader of which nothing was asked. It takes the room of `PIECE` bytes.
+    /// A new reader. It takes the room of `PIECE` bytes.
     pub fn open(alloc: Global) -> Result<ByteReader, Memory>
         ensures { IfOk result (λ reader. reader ≡ record { unread = []; at = 0 }) }
     {

@@ -30,7 +30,7 @@ impl Model for Locator {
 }
 
 impl Locator {
-    /// A locator of which nothing was asked. It takes the room of a piece; a frame takes its own when it is handed out.
+    /// A new locator. It takes the room of a piece; a frame takes its own when it is handed out.
     pub fn open(alloc: Global) -> Result<Locator, Memory>
         ensures unread { IfOk result (λ locator. locator.unread ≡ []) }
         ensures at { IfOk result (λ locator. locator.at ≡ 0) }

@@ -94,7 +94,7 @@ fn end_with(refused: &[RefusedLine]) -> Status
     }
 }
 
-/// The notes on lines of which that came.
+/// The notes on lines with these findings.
 fn notes_of(alloc: Global, library: &[u8], found: &Findings) -> Result<Vec<u8>, AllocError>
     ensures { IfOk result (λ text. (all : List Ended) → AreCounted all found.now
         → text.items ≡ from_json_notes library.now all) }
@@ -115,7 +115,7 @@ fn notes_of(alloc: Global, library: &[u8], found: &Findings) -> Result<Vec<u8>, 
     Ok(text)
 }
 
-/// What is made of lines of which that came.
+/// What is made of lines with these findings.
 fn made_of(alloc: Global, library: &[u8], found: Findings) -> Result<Made, AllocError>
     ensures value { IfOk result (λ made. (bytes : List ℕ) → IsConverted bytes found
         → IsFromJson library.now bytes (making_of made)) }

@@ -48,7 +48,7 @@ impl Written {
         })
     }
 
-    /// Counts an accepted frame, of which that line is written.
+    /// Counts an accepted frame, for which `line` is written.
     fn accept(&mut self, line: &[u8]) -> Result<(), AllocError>
         requires { self.old.frames < u64.MAX }
         ensures counted { OnOk result ((all : List Frame) (frame : Frame) (r : RecordModel)
@@ -123,7 +123,7 @@ fn write_frames<S: Source>(alloc: Global, source: &mut S) -> Result<Written, Sto
     }
 }
 
-/// The notes on frames of which lines were written.
+/// The notes on frames whose lines were written.
 fn notes_of(alloc: Global, library: &[u8], done: &Written) -> Result<Vec<u8>, AllocError>
     ensures { IfOk result (λ text. (all : List Frame) → AreWritten all done.now
         → text.items ≡ to_json_notes library.now all) }
@@ -144,7 +144,7 @@ fn notes_of(alloc: Global, library: &[u8], done: &Written) -> Result<Vec<u8>, Al
     Ok(text)
 }
 
-/// What is made of the frames of which lines were written.
+/// What is made of the frames whose lines were written.
 fn made_of(alloc: Global, library: &[u8], done: Written) -> Result<Made, AllocError>
     ensures value { IfOk result (λ made. (bytes : List ℕ) → AreWritten (frames bytes) done
         → IsToJson library.now bytes (making_of made)) }

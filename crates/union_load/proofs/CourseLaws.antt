@@ -142,7 +142,7 @@ streams-reports contents (c ∷ courses) whole brought =
     ap (λ outcomes. report_text c.library (frames (contents c.path)) outcomes ++ flat_map (course_text contents) courses) brought.0
     ∙ ap (λ (rest : List ℕ). report_text c.library (frames (contents c.path)) (found_in [] c.own) ++ rest) (streams-reports contents courses whole.1 brought.1)
 
--- what the files deliver of which these are the courses
+-- what the files of these courses deliver
 pub delivered-files : (prefer : List (List ℕ)) (contents : Contents) (courses : List Course) → AllByRecursion (λ c. c.prefer ≡ prefer) courses
     → map (delivery_of contents) courses ≡ deliveries prefer contents (map file_of_course courses)
 delivered-files prefer contents [] all = refl

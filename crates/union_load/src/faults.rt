@@ -1,7 +1,7 @@
 //! Which library's file could not be read.
 //!
-//! Several sessions may have failed, and two libraries may have one file. Each pair of libraries is looked at, of which a command
-//! has few.
+//! Several sessions may have failed, and two libraries may have one file. Each pair of libraries is looked at; a command has few
+//! of them.
 ghost use Rattle.std.specs.Prelude.{◌≡◌, Some, drop, map, slice_get};
 ghost use Rattle.std.specs.Option.{option_map};
 ghost use Rattle.union_words.specs.Meanings.{libraries_meaning};

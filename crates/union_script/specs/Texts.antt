@@ -122,7 +122,7 @@ ScriptText contents (line ∷ lines) history text now =
 abbrev pub has_refused : List Frame → Bool
 has_refused all = nat_lt 0 (length (refused all))
 
--- the line is refused, or loads a file of which a frame is
+-- the line is refused, or loads a file that has a refused frame
 abbrev pub is_refused : Contents → ScriptLine → Bool
 is_refused contents (Load told file) = has_refused (frames (contents file.path))
 is_refused contents Export = false
