@@ -1,7 +1,8 @@
 -- Maps in which a value is changed, a pair goes or a pair comes, and what is found in them then.
-use Rattle.std.proofs.Common.{◌≡◌, ℕ, zero, suc, ◌≤◌, Bool, true, false, cond, ◌||◌, IsTrue, List, [], ◌∷◌, length, Contains, refl, sym, ap, subst, ◌∙◌, inl, inr, arith}
+use Rattle.std.proofs.Common.{◌≡◌, ℕ, zero, suc, ◌≤◌, Bool, true, false, cond, ◌||◌, IsTrue, List, [], ◌∷◌, ◌++◌, length, map, Contains, Bor, refl, sym, ap, subst, ◌∙◌, inl, inr, arith}
 use Rattle.std.specs.Prelude.{◌⊎◌, fold, Option, Some, None, is_some, slice_get}
 use Rattle.std.specs.Option.{option_map}
+use Rattle.std.proofs.lemmas.List.{map-append}
 use Rattle.std.specs.declared.cmp.Ordering.{Ordering}
 use Rattle.std.specs.declared.cmp.Ordering.TheVariants.{Less, Equal, Greater}
 use Rattle.std.specs.Ordering.{match_ordering, is_eq, ordering_reverse}
@@ -14,7 +15,7 @@ use Rattle.field_merge.specs.Kept.{id_cmp}
 use Rattle.field_merge.specs.KeptLaws.{id_total}
 use Rattle.catalogue_core.specs.Histories.{MapOf, at_id, is_current}
 use Rattle.merge_laws.proofs.Places.{Contains-head, Contains-tail, Contains-cases}
-use Rattle.catalogue_core.specs.Homes.{Block, has_contributor, admitted, moved, housed, housed_all}
+use Rattle.catalogue_core.specs.Homes.{Block, has_contributor, admitted, taken_back, moved, housed, housed_all}
 use Rattle.record_homes.specs.Maps.{change_at}
 use Rattle.record_homes.specs.declared.home.Home.{Home}
 use Rattle.record_homes.specs.declared.place.Place.{Place}
@@ -46,6 +47,28 @@ remove-inserted {X} all id key x same none =
               ∙ ap (λ (rest : MapOf X). p ∷ rest) (back all h)
         ] refl h
 
+-- an id that has no home does not go
+pub removed-absent : {X : Type 0} (all : MapOf X) (id : RecordId) → at_id all id ≡ None → remove_entry (same id) all ≡ all
+removed-absent [] id none = refl
+removed-absent {X} (p ∷ all) id none =
+    elim (same id p.0) as (λ b. cond b (Some p.1) (at_id all id) ≡ None → cond {A = MapOf X} b all (p ∷ remove_entry (same id) all) ≡ p ∷ all) [
+      | true ↦ λ h. cc
+      | false ↦ λ h. ap (λ (rest : MapOf X). p ∷ rest) (removed-absent all id h)
+    ] none
+
+-- the last of the ids goes first
+pub taken_back-last : (homes : MapOf Home) (ids : List RecordId) (id : RecordId) → taken_back homes (ids ++ id ∷ []) ≡ taken_back (remove_entry (same id) homes) ids
+taken_back-last homes [] id = refl
+taken_back-last homes (x ∷ ids) id = ap (remove_entry (same x)) (taken_back-last homes ids id)
+
+-- one more id that came goes first
+pub taken_back-more : (homes : MapOf Home) (came more : List (Bor RecordId)) (id : Bor RecordId) → more ≡ came ++ id ∷ []
+    → taken_back homes (map (λ id. id.now) more) ≡ taken_back (remove_entry (same id.now) homes) (map (λ id. id.now) came)
+taken_back-more homes came more id is =
+    ap (λ (xs : List (Bor RecordId)). taken_back homes (map (λ id. id.now) xs)) is
+    ∙ ap (taken_back homes) (map-append (λ (id : Bor RecordId). id.now) came (id ∷ []))
+    ∙ taken_back-last homes (map (λ (id : Bor RecordId). id.now) came) id.now
+
 pub some-from_test : {A : Type 0} (o : Option A) → is_some o ≡ true → (x : A) × (o ≡ Some x)
 some-from_test (Some x) h = (x, refl)
 some-from_test None h = cc
@@ -53,6 +76,10 @@ some-from_test None h = cc
 pub none-from_test : {A : Type 0} (o : Option A) → is_some o ≡ false → o ≡ None
 none-from_test None h = refl
 none-from_test (Some x) h = cc
+
+pub some-mapped : {A B : Type 0} (f : A → B) (o : Option A) → is_some (option_map f o) ≡ is_some o
+some-mapped f None = refl
+some-mapped f (Some x) = refl
 
 -- the first of the ids is let in, and then the rest
 pub admitted-next : (homes then' : MapOf Home) (ids rest : List RecordId) (id key : RecordId) → ids ≡ id ∷ rest → is_current homes id ≡ false → key ≡ id

@@ -44,7 +44,7 @@ use Rattle.record_homes.specs.declared.home.Home.{Home}
 use Rattle.record_homes.specs.declared.place.Place.{Place}
 use Rattle.catalogue_editions.proofs.Apart.{match-from_contributor, match-from_least}
 use Rattle.edition_blocks.proofs.BlockLaws.{block-stands, value-in, in-value, number-from_match, in-view, kept-in_view, fresh-in_view}
-use Rattle.catalogue_core.proofs.HomeLaws.{some-from_test, admitted-keeps, admitted-lets, admitted-only, ordered-admitted, moved_at, at-moved, ordered-moved, ordered-housed_all, place-housed_all, block-housed_all}
+use Rattle.catalogue_core.proofs.HomeLaws.{some-from_test, admitted-keeps, admitted-lets, admitted-only, ordered-admitted, moved_at, at-moved, ordered-moved, ordered-housed_all, place-housed_all, block-housed_all, some-mapped}
 use Rattle.catalogue_core.proofs.Looking.{member-from_any, any-from_member, bears-resolution, bears-current}
 use Rattle.record_homes.proofs.MapLaws.{same, one-id, same-itself, same-maps}
 use Rattle.catalogue_core.proofs.Placing.{lookup-values}
@@ -214,10 +214,6 @@ module _ (history : List HistoryEntry) (entry : HistoryEntry) (homes : MapOf Hom
   found-settled : (q : RecordId) → option_map (loaded_at all) (option_map (λ (h : Home). h.place) (at_id homes' q)) ≡ option_map Some (at_id now q)
   found-settled q = ap (option_map (loaded_at all)) (place-settled q) ∙ p.stands q
 
-  some-mapped : {A B : Type 0} (f : A → B) (o : Option A) → is_some (option_map f o) ≡ is_some o
-  some-mapped f None = refl
-  some-mapped f (Some x) = refl
-
   current-settled : (q : RecordId) → is_current homes' q ≡ is_current now q
   current-settled q =
       sym (some-mapped (λ (h : Home). h.place) (at_id homes' q)) ∙ sym (some-mapped (loaded_at all) (option_map (λ (h : Home). h.place) (at_id homes' q)))
@@ -309,8 +305,7 @@ module _ (history : List HistoryEntry) (entry : HistoryEntry) (homes : MapOf Hom
 -- step by step
 pub installed : (history : List HistoryEntry) (entry : HistoryEntry) (homes : MapOf Home) (blocks : List (Option Block)) (works : KeptWorks) → IsKept history homes blocks works
     → (closed : List ℕ) (opened : List Block) (touched : MapOf (Option Place)) → IsPlanned (batches history ++ entry.batch ∷ []) homes blocks (after_batch (current history) entry.batch) closed opened touched
-    → (ids : List RecordId) → ids ≡ standing touched
-    → (let-in : MapOf Home) → let-in ≡ admitted homes ids
+    → (let-in : MapOf Home) → let-in ≡ admitted homes (standing touched)
     → (settled : MapOf Home) → settled ≡ fold moved let-in touched
     → (numbers : List ℕ) → AreNumbers closed (length blocks) (length opened) numbers
     → (homes' : MapOf Home) → homes' ≡ housed_all settled opened numbers
@@ -321,13 +316,13 @@ pub installed : (history : List HistoryEntry) (entry : HistoryEntry) (homes : Ma
     → works'.works ≡ option_map (λ ws. changed ws (closed_pairs works.names blocks closed) (work_pairs works.names (values_of opened))) works.works
     → (history₁ history' : List HistoryEntry) → history₁ ≡ history → history' ≡ history₁ ++ entry ∷ []
     → IsKept history' homes' blocks' works'
-installed history entry homes blocks works k closed opened touched p ids are within lets after settles numbers given homes' houses roomy same' blocks' kept fresh moved' works' same-names changes history₁ history' same-history appended =
+installed history entry homes blocks works k closed opened touched p within lets after settles numbers given homes' houses roomy same' blocks' kept fresh moved' works' same-names changes history₁ history' same-history appended =
     let kept' = subst (λ bs. (n : ℕ) (e : Block) → block_at bs n ≡ Some e → (Contains closed n → ⊥) → block_at blocks' n ≡ Some e) same' kept in
     let fresh' = subst (λ bs. AreOpened (without bs closed) closed (length bs) opened blocks') same' fresh in
     let view = subst (λ bs. IsPermutation (view_of bs closed opened) (values_of (blocks_in blocks'))) same' moved' in
     let whole = kept-installed history entry homes blocks works k closed opened touched numbers p blocks' kept' fresh' view given works'.works changes in
     let found : homes' ≡ housed_all (fold moved (admitted homes (standing touched)) touched) opened numbers =
-    houses ∙ ap (λ all. housed_all all opened numbers) (settles ∙ ap (λ all. fold moved all touched) (lets ∙ ap (admitted homes) are)) in
+    houses ∙ ap (λ all. housed_all all opened numbers) (settles ∙ ap (λ all. fold moved all touched) lets) in
     subst (λ turns. IsKept turns homes' blocks' works') (sym (appended ∙ ap (λ turns. turns ++ entry ∷ []) same-history))
     (subst (λ all. IsKept (history ++ entry ∷ []) all blocks' works') (sym found)
     (subst (λ names. IsKept (history ++ entry ∷ []) (housed_all (fold moved (admitted homes (standing touched)) touched) opened numbers) blocks'

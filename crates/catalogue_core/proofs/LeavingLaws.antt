@@ -2,7 +2,7 @@
 use Rattle.std.proofs.Common.{◌≡◌, ℕ, suc, ◌+◌, ◌<◌, ◌≤◌, Bool, true, false, cond, ◌||◌, List, [], ◌∷◌, ◌++◌, length, Contains, get_or, drop, refl, sym, ap, subst, ◌∙◌, add-one, inl, inr, arith}
 use Rattle.std.proofs.Math.ListN.{drop_of_length-le}
 use Rattle.std.proofs.Math.Seq.{drop-cons}
-use Rattle.std.specs.Prelude.{Option, Some, None, is_some, fold}
+use Rattle.std.specs.Prelude.{Option, Some, None, fold}
 use Rattle.std.specs.List.{list_any}
 use Rattle.std.proofs.lemmas.List.Elements.{Contains-append_left, Contains-append_right, Contains-append_cases}
 use Rattle.std.specs.List.Sorted.{IsStrictlySortedBy}
@@ -31,27 +31,15 @@ use Rattle.record_homes.specs.declared.home.Home.{Home}
 use Rattle.catalogue_editions.specs.declared.op.Op.{Op}
 use Rattle.catalogue_editions.specs.declared.op.Op.TheVariants.{Load, Withdraw}
 use Rattle.record_homes.specs.declared.place.Place.{Place}
-use Rattle.record_homes.proofs.MapLaws.{same, same-maps, one-id, at-inserted, at-removed, ordered-inserted, ordered-removed, id-of_value, value-of_id}
+use Rattle.catalogue_core.proofs.HomeLaws.{none-from_test, removed-absent}
+use Rattle.record_homes.proofs.MapLaws.{same, at-inserted, at-removed, ordered-inserted, ordered-removed, id-of_value, value-of_id}
 use Rattle.catalogue_core.proofs.PlanLaws.{resolved-by_members}
-
--- without an id that is not there a map is as it is
-pub removed-none : (all : MapOf Edition) (id : RecordId) → IsStrictlySortedBy id_cmp (keys_of all) → is_current all id ≡ false → remove_entry (same id) all ≡ all
-removed-none all id up gone =
-    same-maps (remove_entry (same id) all) all (ordered-removed all (same id) up) up (λ q. at-removed all id q up ∙ kept q (same id q) refl)
-  where
-    none : (o : Option Edition) → is_some o ≡ false → o ≡ None
-    none None h = refl
-    none (Some x) h = cc
-
-    kept : (q : RecordId) (t : Bool) → same id q ≡ t → cond t None (at_id all q) ≡ at_id all q
-    kept q true is = sym (ap (at_id all) (sym (one-id id q is)) ∙ none (at_id all id) gone)
-    kept q false is = refl
 
 pub plan-unnamed : {all : List Batch} {homes : MapOf Home} {blocks : List (Option Block)} {now : MapOf Edition} {closed : List ℕ} {opened : List Block} {touched : MapOf (Option Place)}
     (p : IsPlanned all homes blocks now closed opened touched) (id : RecordId) → is_current now id ≡ false
     → IsPlanned all homes blocks (remove_entry (same id) now) closed opened touched
 plan-unnamed {all} {homes} {blocks} {now} {closed} {opened} {touched} p id gone =
-    subst (λ editions. IsPlanned all homes blocks editions closed opened touched) (sym (removed-none now id p.ordered gone)) p
+    subst (λ editions. IsPlanned all homes blocks editions closed opened touched) (sym (removed-absent now id (none-from_test (at_id now id) gone))) p
 
 -- the records that some of the operations name are withdrawn, and the others are to come
 pub record LeavesOn (all : List Batch) (homes : MapOf Home) (blocks : List (Option Block)) (library : List ℕ) (ops : List Op) (start : MapOf Edition) (closed : List ℕ) (opened : List Block) (touched : MapOf (Option Place)) (i begun steps : ℕ) : Type 0 where
@@ -84,7 +72,7 @@ module _ {all : List Batch} {homes : MapOf Home} {blocks : List (Option Block)} 
               (let gone : is_current g.now id ≡ false = ap (is_current g.now) named ∙ none.0 in
               let spent = free g.now g.planned gone in (
                 rest,
-                subst (λ (editions : MapOf Edition). IsReachOfLeaving library editions (drop (suc i) ops) rest) (sym (removed-none g.now (id_of library op) g.planned.ordered none.0)) none.1,
+                subst (λ (editions : MapOf Edition). IsReachOfLeaving library editions (drop (suc i) ops) rest) (sym (removed-absent g.now (id_of library op) (none-from_test (at_id g.now (id_of library op)) none.0))) none.1,
                 omega arith,
               ))
           | inr there ↦

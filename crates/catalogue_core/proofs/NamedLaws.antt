@@ -45,6 +45,7 @@ use Rattle.edition_blocks.proofs.BlockLaws.{block-stands, value-in, in-value}
 use Rattle.edition_blocks.proofs.MappedLaws.{mapped-from_member, member-from_mapped}
 use Rattle.catalogue_core.proofs.InstallLaws.{keys-values}
 use Rattle.catalogue_core.proofs.Looking.{holder-current, length-kept}
+use Rattle.catalogue_core.proofs.HomeLaws.{some-mapped}
 use Rattle.record_homes.proofs.MapLaws.{same, one-id, same-itself}
 use Rattle.catalogue_core.proofs.PlanLaws.{base-found}
 use Rattle.catalogue_core.proofs.TurnLaws.{ordered-current, found-home}
@@ -187,10 +188,6 @@ module _ (history : List HistoryEntry) (homes : MapOf Home) (blocks : List (Opti
   home-current id =
       sym (some-mapped (λ (h : Home). h.place) (at_id homes id)) ∙ sym (some-mapped (loaded_at (batches history)) (option_map (λ (h : Home). h.place) (at_id homes id)))
       ∙ ap is_some (found-home (batches history) homes (current history) k.current id) ∙ some-mapped Some (at_id (current history) id)
-    where
-      some-mapped : {A B : Type 0} (f : A → B) (o : Option A) → is_some (option_map f o) ≡ is_some o
-      some-mapped f None = refl
-      some-mapped f (Some x) = refl
 
   pub holder-none : (id : RecordId) → at_id homes id ≡ None → None ≡ holder_of (named_in blocks homes) id
   holder-none id none = nothing (holder_of (named_in blocks homes) id)

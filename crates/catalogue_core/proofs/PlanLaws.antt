@@ -44,6 +44,7 @@ use Rattle.record_homes.specs.declared.place.Place.{Place}
 use Rattle.edition_blocks.proofs.MappedLaws.{mapped-from_member, member-from_mapped}
 use Rattle.catalogue_core.proofs.Growing.{grown-insert}
 use Rattle.catalogue_core.proofs.Looking.{tags, any-from_member, bears-resolution, bears-current, single-insert, single-remove, flat-then, flat-some}
+use Rattle.catalogue_core.proofs.HomeLaws.{some-mapped}
 use Rattle.record_homes.proofs.MapLaws.{same, same-maps, one-id, same-itself, at-inserted, at-removed, ordered-inserted, ordered-removed, id-of_value, value-of_id}
 
 -- ---- members of what a function finds
@@ -315,10 +316,6 @@ module _ {all : List Batch} {homes : MapOf Home} {blocks : List (Option Block)} 
   pub current-from_place : (id : RecordId) → is_some (place_of homes touched id) ≡ is_current now id
   current-from_place id =
       sym (some-mapped (loaded_at all) (place_of homes touched id)) ∙ ap is_some (p.stands id) ∙ some-mapped Some (at_id now id)
-    where
-      some-mapped : {A B : Type 0} (f : A → B) (o : Option A) → is_some (option_map f o) ≡ is_some o
-      some-mapped f None = refl
-      some-mapped f (Some x) = refl
 
   -- a record that was withdrawn is not current
   pub not-current : (id : RecordId) → is_current (remove_entry (same id) now) id ≡ false

@@ -1,6 +1,6 @@
 -- What a turn touched follows the operations of its batch.
-use Rattle.std.proofs.Common.{◌≡◌, ℕ, suc, ◌+◌, ◌<◌, ◌≤◌, true, false, cond, List, [], ◌∷◌, ◌++◌, length, get_or, drop, append_assoc, append-nil, add-one, refl, sym, ap, subst, ◌∙◌}
-use Rattle.std.specs.Prelude.{Option, Some, None, unwrap_or, fold}
+use Rattle.std.proofs.Common.{◌≡◌, ℕ, suc, ◌+◌, ◌<◌, ◌≤◌, Bool, true, false, cond, List, [], ◌∷◌, ◌++◌, length, get_or, drop, append_assoc, append-nil, add-one, refl, sym, ap, subst, ◌∙◌}
+use Rattle.std.specs.Prelude.{Option, Some, None, is_some, unwrap_or, fold}
 use Rattle.std.proofs.Math.ListN.{drop_of_length-le}
 use Rattle.std.proofs.Math.Seq.{drop-cons}
 use Rattle.std.specs.Option.{option_map}
@@ -10,7 +10,7 @@ use Rattle.std.specs.Map.{keys_of, remove_entry}
 use Rattle.union_base.specs.declared.record_id.RecordId.{RecordId}
 use Rattle.field_merge.specs.Kept.{id_cmp}
 use Rattle.catalogue_editions.specs.Batches.{is_own_op}
-use Rattle.catalogue_core.specs.Histories.{MapOf, at_id, id_of, after_op, current, outcome_of, outcomes}
+use Rattle.catalogue_core.specs.Histories.{MapOf, at_id, id_of, is_current, after_op, current, outcome_of, outcomes}
 use Rattle.catalogue_core.specs.Homes.{place_of, places_in}
 use Rattle.catalogue_editions.specs.Ids.{least}
 use Rattle.catalogue_core.specs.Keeping.{batches, loaded, loaded_at, StandFor}
@@ -22,8 +22,10 @@ use Rattle.record_homes.specs.declared.home.Home.{Home}
 use Rattle.catalogue_editions.specs.declared.op.Op.{Op}
 use Rattle.catalogue_editions.specs.declared.op.Op.TheVariants.{Load, Withdraw}
 use Rattle.catalogue_editions.specs.declared.outcome.Outcome.{Outcome}
+use Rattle.catalogue_editions.specs.declared.outcome.Outcome.TheVariants.{Added, Replaced, Removed, Absent}
 use Rattle.record_homes.specs.declared.place.Place.{Place}
 use Rattle.catalogue_core.proofs.Looking.{single-op, single-remove, single-turns}
+use Rattle.catalogue_core.proofs.HomeLaws.{some-mapped}
 use Rattle.record_homes.proofs.MapLaws.{same, at-inserted, at-removed, ordered-inserted, ordered-removed}
 use Rattle.catalogue_core.proofs.Placing.{stand-grown}
 use Rattle.catalogue_core.proofs.TurnLaws.{found-home, ordered-current}
@@ -80,6 +82,28 @@ module _ {all : List Batch} {homes : MapOf Home} {editions : MapOf Edition} {tou
         single = single-remove editions (same id) t.single;
         touches = up;
       }
+
+  touched-current : (id : RecordId) → is_some (place_of homes touched id) ≡ is_current editions id
+  touched-current id =
+      sym (some-mapped (loaded_at all) (place_of homes touched id)) ∙ ap is_some (t.stands id) ∙ some-mapped Some (at_id editions id)
+
+  -- whether a record is current, by what was touched under its id and by its home
+  pub found-current : (id : RecordId) (before : Option (Option Place)) (home : Option Home) (was : Bool) → before ≡ at_id touched id → home ≡ at_id homes id
+      → was ≡ is_some (unwrap_or before (option_map (λ (home : Home). home.place) home)) → was ≡ is_current editions id
+  found-current id before home was there housed is =
+      is ∙ ap (λ o. is_some (unwrap_or o (option_map (λ (home : Home). home.place) home))) there
+      ∙ ap (λ o. is_some (unwrap_or (at_id touched id) (option_map (λ (home : Home). home.place) o))) housed
+      ∙ touched-current id
+
+  pub outcome-load : (library : List ℕ) (op : Op) (e : Edition) (key : RecordId) (was : Bool) → op ≡ Load e → key ≡ id_of library op → was ≡ is_current editions key
+      → cond was Replaced Added ≡ outcome_of library editions op
+  outcome-load library op e key was load is found =
+      ap (λ b. cond b Replaced Added) (found ∙ ap (is_current editions) (is ∙ ap (id_of library) load)) ∙ ap (outcome_of library editions) (sym load)
+
+  pub outcome-withdrawal : (library : List ℕ) (op : Op) (control : List ℕ) (key : RecordId) (was : Bool) → op ≡ Withdraw control → key ≡ id_of library op → was ≡ is_current editions key
+      → cond was Removed Absent ≡ outcome_of library editions op
+  outcome-withdrawal library op control key was gone is found =
+      ap (λ b. cond b Removed Absent) (found ∙ ap (is_current editions) (is ∙ ap (id_of library) gone)) ∙ ap (outcome_of library editions) (sym gone)
 
 nothing_ordered : IsStrictlySortedBy id_cmp (keys_of {X = Option Place} [])
 unfolding IsStrictlySortedBy

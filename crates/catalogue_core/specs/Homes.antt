@@ -46,6 +46,11 @@ abbrev pub admitted : MapOf Home → List RecordId → MapOf Home
 admitted homes [] = homes
 admitted homes (id ∷ ids) = admitted (if is_current homes id then homes else insert_entry id_cmp homes id (record { place = record { turn = 0; op = 0 }; block = 0 })) ids
 
+-- without the homes under the ids, which go again, the last first
+abbrev pub taken_back : MapOf Home → List RecordId → MapOf Home
+taken_back homes [] = homes
+taken_back homes (id ∷ ids) = remove_entry (is_at (id_cmp id)) (taken_back homes ids)
+
 -- with the place under the id, or without the id where there is none
 abbrev pub moved : MapOf Home → RecordId × Option Place → MapOf Home
 moved homes (id, Some place) = change_at id (λ home. record { place = place; block = home.block }) homes

@@ -2,8 +2,8 @@
 //!
 //! A map may want memory for a new key. So new ids are let in first, each with a home that says nothing yet, or none of them
 //! where memory runs out; what follows changes homes that are there, or takes them away, and wants no memory.
-ghost use Rattle.std.specs.Prelude.{◌≡◌, ◌≤◌, length, fold, IfOk, OnOk, OnErr};
-ghost use Rattle.catalogue_core.specs.Homes.{standing, admitted, moved, housed, housed_all};
+ghost use Rattle.std.specs.Prelude.{◌≡◌, ◌≤◌, length, map, fold, OnOk, OnErr};
+ghost use Rattle.catalogue_core.specs.Homes.{standing, admitted, taken_back, moved, housed, housed_all};
 
 use catalogue_editions::edition::Edition;
 use record_homes::home::Home;
@@ -22,38 +22,54 @@ const BLANK: Home = Home {
     block: 0,
 };
 
-/// Copies of the ids that the plan lets stand. Returns `Memory` if allocation fails.
-pub fn standing(
+/// Lets each of the ids in that the plan lets stand and that has no home, and appends it to those that came. Memory where it
+/// runs out, and then some of them may be in, each of which is among those that came.
+fn let_in<'a>(
     alloc: Global,
-    touched: &BTreeMap<RecordId, Option<Place>>,
-) -> Result<Vec<RecordId>, Memory>
-    ensures { IfOk result (λ ids. ids.items ≡ standing touched.now.entries) }
+    homes: &mut HomeTable,
+    touched: &'a BTreeMap<RecordId, Option<Place>>,
+    came: &mut Vec<&'a RecordId>,
+) -> Result<(), Memory>
+    ensures admitted { OnOk result (homes.new.entries
+        ≡ admitted homes.old.entries (standing touched.now.entries)) }
+    ensures back { taken_back homes.new.entries (map (λ id. id.now) came.new.items)
+        ≡ taken_back homes.old.entries (map (λ id. id.now) came.old.items) }
 {
-    let mut ids = Vec::with_capacity(alloc, touched.len())?;
     for (id, place) in touched.iter() {
-        if place.is_some() {
-            ids.push(id.copied(alloc)?)?;
+        if place.is_some() && !homes.contains_key(id) {
+            came.push(id)?;
+            homes.insert(alloc, id.copied(alloc)?, BLANK)?;
         }
     }
-    Ok(ids)
+    Ok(())
 }
 
-/// Lets each of the ids in that has no home. Memory where it runs out, and then none of them is let in.
-pub fn admit(alloc: Global, homes: &mut HomeTable, ids: &[RecordId]) -> Result<(), Memory>
-    ensures admitted { OnOk result (homes.new.entries ≡ admitted homes.old.entries ids.now) }
+/// Takes the homes under the ids away again, the last first. Takes no memory.
+fn take_back(homes: &mut HomeTable, mut came: Vec<&RecordId>)
+    ensures { homes.new.entries
+        ≡ taken_back homes.old.entries (map (λ id. id.now) came.entry.items) }
+{
+    while let Some(id) = came.pop() {
+        homes.remove(id);
+    }
+}
+
+/// Lets each of the ids in that the plan lets stand and that has no home. Memory where it runs out, and then none of them is
+/// let in.
+pub fn admit(
+    alloc: Global,
+    homes: &mut HomeTable,
+    touched: &BTreeMap<RecordId, Option<Place>>,
+) -> Result<(), Memory>
+    ensures admitted { OnOk result (homes.new.entries
+        ≡ admitted homes.old.entries (standing touched.now.entries)) }
     ensures kept { OnErr result (homes.new.entries ≡ homes.old.entries) }
 {
-    let Some((id, rest)) = ids.split_first() else {
-        return Ok(());
-    };
-    if homes.contains_key(id) {
-        return admit(alloc, homes, rest);
-    }
-    homes.insert(alloc, id.copied(alloc)?, BLANK)?;
-    match admit(alloc, homes, rest) {
+    let mut came = Vec::new(alloc);
+    match let_in(alloc, homes, touched, &mut came) {
         Ok(()) => Ok(()),
         Err(refused) => {
-            homes.remove(id);
+            take_back(homes, came);
             Err(refused)
         }
     }

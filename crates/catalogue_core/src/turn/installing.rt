@@ -18,7 +18,7 @@ ghost use Rattle.catalogue_core.specs.Plans.{IsPlanned};
 
 use crate::grouping::{NamedWorks, work_pair};
 use crate::history_entry::HistoryEntry;
-use crate::turn::homes::{admit, house_all, move_all, standing};
+use crate::turn::homes::{admit, house_all, move_all};
 use crate::turn::plan::Plan;
 use authority_names::name_table::NameTable;
 use catalogue_editions::edition::Edition;
@@ -147,11 +147,10 @@ pub fn install(
     ensures appended { OnOk result (history.new.items ≡ history.old.items ++ entry ∷ []) }
     ensures same { OnErr result (history.new.items ≡ history.old.items) }
 {
-    let ids = standing(alloc, &plan.touched)?;
     let regrouped = make_room_in_kept(alloc, blocks, &works.names, &mut works.works, &plan.change)?;
     let numbers = blocks.make_room(alloc, &plan.change)?;
     history.reserve(1)?;
-    admit(alloc, homes, ids.as_slice())?;
+    admit(alloc, homes, &plan.touched)?;
     let Plan { change, touched } = plan;
     move_all(homes, &touched);
     house_all(homes, change.opened.as_slice(), numbers.as_slice());

@@ -1,8 +1,9 @@
 //! The plan of a turn whose loads are resolved among themselves already: the records that the batch names are withdrawn, and then
 //! what its loads come to is inserted, a part at a time.
-ghost use Rattle.std.specs.Prelude.{◌≡◌, ◌≤◌, ◌+◌, ◌++◌, ◌∷◌, [], ℕ, List, true, false, IfOk, OnOk};
+ghost use Rattle.std.specs.Prelude.{◌≡◌, ◌≤◌, ◌+◌, ◌++◌, ◌∷◌, [], ℕ, List, true, false, is_some, unwrap_or, IfOk, OnOk};
 ghost use Rattle.std.specs.BTreeMap.{is_at};
 ghost use Rattle.std.specs.Map.{remove_entry, values_of};
+ghost use Rattle.std.specs.Option.{option_map};
 ghost use Rattle.field_merge.specs.Kept.{id_cmp};
 ghost use Rattle.merge_laws.specs.Resolution.{IsResolution};
 ghost use Rattle.swoosh_resolver.specs.Changes.{Fits, view_of};
@@ -15,7 +16,7 @@ ghost use Rattle.catalogue_core.specs.Keeping.{batches, loaded, loaded_at, Stand
 ghost use Rattle.catalogue_editions.specs.Matching.{match as edition_match};
 ghost use Rattle.catalogue_editions.specs.Net.{net};
 ghost use Rattle.catalogue_core.specs.Plans.{batches_with, IsPlannedOn};
-ghost use Rattle.catalogue_core.specs.PreparedReaches.{without_all, IsReachOfLeaving, IsReachOfComing, IsReachOfParts};
+ghost use Rattle.catalogue_core.specs.PreparedReaches.{without_named, without_all, IsReachOfLeaving, IsReachOfComing, IsReachOfParts};
 ghost use Rattle.catalogue_core.specs.Reaches.{IsReachOfWithdrawal};
 ghost use Rattle.catalogue_core.specs.Touches.{IsTouched};
 ghost use Rattle.catalogue_editions.specs.declared.edition.Edition.{Edition as EditionModel};
@@ -28,6 +29,7 @@ use catalogue_editions::edition::Edition;
 use catalogue_editions::op::Op;
 use catalogue_editions::outcome::Outcome;
 use merge_laws::steps::Steps;
+use record_homes::home::Home;
 use record_homes::place::Place;
 use record_homes::table::HomeTable;
 use std::alloc::Global;
@@ -75,6 +77,37 @@ fn withdraw_current<L: Ledger>(
     match place_of(context.homes, &plan.touched, id) {
         Some(_) => withdraw(alloc, context, plan, id, steps),
         None => Ok(plan),
+    }
+}
+
+/// The plan without the record that the operation names, where it is current by it. Counts the match tests. Returns `Memory` if
+/// allocation fails.
+fn withdraw_named<L: Ledger>(
+    alloc: Global,
+    context: &Context<'_>,
+    plan: Plan,
+    op: &Op,
+    steps: &mut Steps<L>,
+) -> Result<Plan, Memory>
+    requires housed { AreHoused context.now.blocks.now.blocks context.now.homes.now.entries }
+    requires planned { (all : MapOf EditionModel) × IsPlannedOn context.now all plan }
+    ensures planned { IfOk result (λ next. (all : MapOf EditionModel)
+        → IsPlannedOn context.now all plan
+        → IsPlannedOn context.now (without_named context.now.batch.now.library all op.now) next) }
+    ensures free { (all : MapOf EditionModel) → IsPlannedOn context.now all plan
+        → is_current all (id_of context.now.batch.now.library op.now) ≡ false
+        → steps.new ≤ steps.old }
+    ensures cost { (all : MapOf EditionModel) (number : ℕ) → IsPlannedOn context.now all plan
+        → is_current all (id_of context.now.batch.now.library op.now) ≡ true
+        → IsReachOfWithdrawal (values_of all) (id_of context.now.batch.now.library op.now) number
+        → steps.new ≤ steps.old + number }
+{
+    match op {
+        Op::Load(edition) => withdraw_current(alloc, context, plan, edition.least(), steps),
+        Op::Withdraw(_) => {
+            let id = named(alloc, &context.batch.library, op)?;
+            withdraw_current(alloc, context, plan, &id, steps)
+        }
     }
 }
 
@@ -129,10 +162,19 @@ fn without_named<L: Ledger>(
         touched: BTreeMap::new(alloc),
     };
     for op in ops {
-        let id = named(alloc, &context.batch.library, op)?;
-        plan = withdraw_current(alloc, context, plan, &id, steps)?;
+        plan = withdraw_named(alloc, context, plan, op, steps)?;
     }
     Ok(plan)
+}
+
+/// Whether a record is current: by what the turn made of it, where the turn touched it, and else by its home.
+fn is_current(touched: Option<Option<Place>>, home: Option<Home>) -> bool
+    ensures { result ≡ is_some (unwrap_or touched (option_map (λ home. home.place) home)) }
+{
+    match touched {
+        Some(place) => place.is_some(),
+        None => home.is_some(),
+    }
 }
 
 /// Lets what a turn touched follow an operation of its batch, which stands at that place, and answers what came of it. Memory
@@ -156,19 +198,19 @@ fn touch_op(
         → found ≡ outcome_of library.now editions op.now) }
 {
     let id = named(alloc, library, op)?;
-    let is_current = place_of(homes, touched, &id).is_some();
+    let home = homes.get(&id);
     match op {
         Op::Load(_) => {
-            touched.insert(id, Some(place))?;
-            Ok(if is_current {
+            let before = touched.insert(id, Some(place))?;
+            Ok(if is_current(before, home) {
                 Outcome::Replaced
             } else {
                 Outcome::Added
             })
         }
         Op::Withdraw(_) => {
-            touched.insert(id, None)?;
-            Ok(if is_current {
+            let before = touched.insert(id, None)?;
+            Ok(if is_current(before, home) {
                 Outcome::Removed
             } else {
                 Outcome::Absent

@@ -9,11 +9,10 @@ returns-clause-kept c =
     let change = c.args.plan.change in
     installed c.args.history.now.items c.args.entry c.args.homes.now.entries c.args.blocks.now.blocks (kept_works c.args.works.now) c.requires.kept
     change.closed.items change.opened.items c.args.plan.touched.entries c.requires.planned
-    c.in_ok-ids.ids.items c.in_ok-ids.ensures
-    c.admit.new.homes.entries (rw c.as_slice.ensures.value at c.in_ok-admit.ensures.admitted)
+    c.admit.new.homes.entries c.in_ok-admit.ensures.admitted
     c.move_all.new.homes.entries c.move_all.ensures
     c.in_ok-numbers.numbers.items c.in_ok-numbers.ensures.numbers
-    c.house_all.new.homes.entries (c.house_all.ensures ∙ ap (λ (es : List Block). housed_all c.move_all.new.homes.entries es c.as_slice-3.result.now) c.as_slice-2.ensures.value ∙ ap (housed_all c.move_all.new.homes.entries change.opened.items) c.as_slice-3.ensures.value)
+    c.house_all.new.homes.entries (c.house_all.ensures ∙ ap (λ (es : List Block). housed_all c.move_all.new.homes.entries es c.as_slice-2.result.now) c.as_slice.ensures.value ∙ ap (housed_all c.move_all.new.homes.entries change.opened.items) c.as_slice-2.ensures.value)
     c.make_room.new.self.blocks c.make_room.ensures.blocks
     c.install.new.self.blocks c.install.ensures.kept c.install.ensures.opened c.install.ensures.view
     (record { names = c.args.works.now.names; works = list_in c.regroup.new.works }) refl

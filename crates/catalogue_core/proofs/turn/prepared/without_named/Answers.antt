@@ -1,5 +1,5 @@
-use Rattle.std.proofs.Common.{◌≡◌, ◌<◌, ◌++◌, ◌∷◌, [], List, length, get_or, subst}
-use Rattle.catalogue_core.specs.Histories.{current}
+use Rattle.std.proofs.Common.{◌≡◌, ◌<◌, ◌++◌, ◌∷◌, [], List, length, get_or, refl, subst}
+use Rattle.catalogue_core.specs.Histories.{current, id_of}
 use Rattle.catalogue_core.specs.Keeping.{batches}
 use Rattle.catalogue_editions.specs.declared.op.Op.{Op}
 use Rattle.catalogue_core.proofs.LeavingLaws.{leaves-begin, leaves-paid, leaves-next}
@@ -16,14 +16,14 @@ loop-op-init g c =
 pub returns-in_err-plan-clause-cost : goal.returns-in_err-plan-clause-cost
 returns-in_err-plan-clause-cost g c =
     let op = c.op-item.result in
-    leaves-paid c.loop-op.invariant op c.in_ok-id.id c.in_ok-id.ensures (subst (λ (xs : List Op). c.loop-op.op-index < length xs) c.as_slice-ops.ensures c.loop-op-test.true)
-    (subst (λ (xs : List Op). op ≡ get_or xs c.loop-op.op-index op) c.as_slice-ops.ensures c.op-item.is) c.withdraw_current.new.steps
-    c.withdraw_current.ensures.free c.withdraw_current.ensures.cost
+    leaves-paid c.loop-op.invariant op (id_of c.args.context.now.batch.now.library op) refl (subst (λ (xs : List Op). c.loop-op.op-index < length xs) c.as_slice-ops.ensures c.loop-op-test.true)
+    (subst (λ (xs : List Op). op ≡ get_or xs c.loop-op.op-index op) c.as_slice-ops.ensures c.op-item.is) c.withdraw_named.new.steps
+    c.withdraw_named.ensures.free c.withdraw_named.ensures.cost
 
 pub loop-op-preserved : goal.loop-op-preserved
 loop-op-preserved g c =
     let op = c.op-item.result in
     let next = c.in_ok-plan.plan in
-    leaves-next c.loop-op.invariant op c.in_ok-id.id c.in_ok-id.ensures (subst (λ (xs : List Op). c.loop-op.op-index < length xs) c.as_slice-ops.ensures c.loop-op-test.true)
-    (subst (λ (xs : List Op). op ≡ get_or xs c.loop-op.op-index op) c.as_slice-ops.ensures c.op-item.is) c.withdraw_current.new.steps
-    c.withdraw_current.ensures.free c.withdraw_current.ensures.cost next.change.closed.items next.change.opened.items next.touched.entries c.in_ok-plan.ensures.planned
+    leaves-next c.loop-op.invariant op (id_of c.args.context.now.batch.now.library op) refl (subst (λ (xs : List Op). c.loop-op.op-index < length xs) c.as_slice-ops.ensures c.loop-op-test.true)
+    (subst (λ (xs : List Op). op ≡ get_or xs c.loop-op.op-index op) c.as_slice-ops.ensures c.op-item.is) c.withdraw_named.new.steps
+    c.withdraw_named.ensures.free c.withdraw_named.ensures.cost next.change.closed.items next.change.opened.items next.touched.entries c.in_ok-plan.ensures.planned
