@@ -21,7 +21,8 @@ isbn13_weights = 1 ∷ 3 ∷ 1 ∷ 3 ∷ 1 ∷ 3 ∷ 1 ∷ 3 ∷ 1 ∷ 3 ∷ 1 �
 abbrev pub is_isbn10 : List ℕ → Bool
 is_isbn10 cs = has_check_form 9 cs && (weighted_sum isbn10_weights cs % 11 == 0)
 
--- 978 or 979, the prefixes of books
+-- 978 or 979. ISO 2108 has both for books, but for 979-0, the prefix of printed music (ISMN): it is accepted here too, since the rule of
+-- this project (docs/FORMATS.md) looks at the first three digits alone
 abbrev pub begins_as_book : List ℕ → Bool
 begins_as_book cs = bytes_eq (take 3 cs) (codes "978") || bytes_eq (take 3 cs) (codes "979")
 

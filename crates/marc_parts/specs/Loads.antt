@@ -37,7 +37,8 @@ is_load_status status = ((status == 0x6E) || (status == 0x63)) || ((status == 0x
 abbrev pub is_deleted : ℕ → Bool
 is_deleted status = status == 0x64
 
--- one field 008, of 40 bytes, and one field 245
+-- one field 008, of 40 bytes, and one field 245. The rules Fixed008 and Title245 of marc_rules (specs/RequiredFields.antt) ask for the
+-- same of a frame's directory, and say at which entry it fails
 abbrev pub is_described : Record → Bool
 is_described r =
     ((how_many (codes "008") r.fields == 1) && (length (text_under (codes "008") r.fields) == 40)) && (how_many (codes "245") r.fields == 1)

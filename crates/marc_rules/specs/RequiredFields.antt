@@ -36,7 +36,8 @@ abbrev pub place_of : NotOne → ℕ
 place_of Missing = 0
 place_of (Second place) = place
 
--- the place at which a field that has to stand once is refused: that of the refusal, or its own where it does not pass
+-- where a field that must occur exactly once is refused: 0 if there is none, the second one's place if there are more, and its own place
+-- if it is the only one and does not pass
 abbrev pub once : (ℕ → Bool) → List ℕ → Option ℕ
 once passes [] = Some (place_of Missing)
 once passes (i ∷ []) = (if passes i then None else Some i)
@@ -74,7 +75,7 @@ control_number_place bytes entries = once (λ i. is_control_number (text_at byte
 abbrev pub fixed_008_place : List ℕ → List Entry → Option ℕ
 fixed_008_place bytes entries = once (λ i. length (text_at bytes entries i) == 40) (places tag_008 1 entries)
 
--- where rule Title245 fails: there is not exactly one 245
+-- where rule Title245 fails: there is not exactly one 245. marc_parts asks for the same of a record (specs/Loads.antt), without a place
 abbrev pub title_245_place : List Entry → Option ℕ
 title_245_place entries = once (λ i. true) (places tag_245 1 entries)
 

@@ -77,7 +77,7 @@ fn only_entry(entries: &[Entry], tag: &[u8]) -> Result<u32, NotOne>
     found.ok_or(NotOne::Missing)
 }
 
-/// The place at which a field is refused that has to stand once: 0 where it is missing, and else the second one's number.
+/// The place that is reported for a field that must occur exactly once: 0 if it is missing, else the number of the second one.
 fn place_of(refusal: NotOne) -> u32
     ensures { result ≡ place_of refusal }
 {
@@ -212,8 +212,9 @@ fn check_load(entries: &[Entry], bytes: &[u8]) -> Result<(), DecodeRefusal>
     Ok(())
 }
 
-/// Refuses a record without one control number, and one that is loaded and has not the fields that it has to have, or has
-/// one twice that may stand once (MARC 21, 001, 008, 245 and 'Repeatability'). Takes no memory.
+/// Refuses a record with no 001, with two, or with one that is no control number; and, unless its status is `d`, one that
+/// repeats a field that may occur only once, or has not exactly one 008, of 40 bytes, or not exactly one 245 (MARC 21, 001,
+/// 008, 245 and 'Repeatability'). Takes no memory.
 pub fn check_numbers(status: u8, entries: &[Entry], bytes: &[u8]) -> Result<(), DecodeRefusal>
     requires few { length entries.now ≤ 9999 }
     requires tiles { list_all (is_tile bytes.now) entries.now ≡ true }

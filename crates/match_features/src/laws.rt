@@ -39,8 +39,7 @@ pub fn meeting_shares_a_key()
     ensures { (x y : Features) → IsTrue (meet x y) → (k : FeatureKey) × HasKey x k × HasKey y k }
 {}
 
-/// Features that meet find one another: the ones seek a key under which an index has the others, whether they have few titles,
-/// dates and names or many.
+/// If `x` meets `y`, then `x` seeks a key under which an index has `y`, whether they have few titles, dates and names or many.
 pub fn meeting_is_found()
     ensures { (x y : Features) → IsTrue (meet x y) → (k : FeatureKey) × Seeks x k × IsPosted y k }
 {}

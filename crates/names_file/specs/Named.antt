@@ -21,11 +21,11 @@ pub record Named : Type 0 where
 abbrev pub named_by : NamesRead → Named
 named_by found = record { table = found.table; report = found.report.items; refused = found.refused }
 
--- no names, of which nothing is told
+-- no names, and nothing to report of them
 abbrev pub no_names : Named
 no_names = record { table = empty; report = []; refused = false }
 
--- they are the names of the file of that name where the files have these contents, or none where there is no such file
+-- they are what is read from the file of names at that path, whose bytes `contents` gives; without a path they are no names
 abbrev pub IsNamedBy : (List ℕ → List ℕ) → Option (List ℕ) → Named → Type 0
 IsNamedBy contents None names = names ≡ no_names
 IsNamedBy contents (Some path) names = (found : NamesRead) × IsNamesFile (frames (contents path)) found × (names ≡ named_by found)

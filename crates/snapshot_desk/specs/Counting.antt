@@ -11,11 +11,11 @@ IsCounted cells log = cells ≡ (length log, true) ∷ (0, true) ∷ []
 abbrev pub head_of : Book → Named
 head_of book = record { tracked = true; key = 0; book = book }
 
--- what was seen are all entries that were counted
+-- as many entries are seen as the word counts
 abbrev pub Looks : Step HistoryEntry → View HistoryEntry ℕ → ℕ → View HistoryEntry ℕ → Type 0
 Looks step before found now = length now.0 ≡ found
 
--- where as many were counted as had been seen, the entry comes next
+-- if the word held the count that the step expected, the step's entry follows those that had been seen
 abbrev pub Adds : Step HistoryEntry → View HistoryEntry ℕ → ℕ → View HistoryEntry ℕ → Type 0
 Adds step before found now = MatchBool (found == step.old) (now.0 ≡ before.0 ++ step.ask ∷ []) (Unit {0})
 

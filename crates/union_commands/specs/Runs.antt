@@ -97,7 +97,8 @@ pub record IsUnionOf (showing : Showing) (loading : Loading) (contents : List �
   pub noted_is : noted ≡ names.report ++ (reports_of streams ++ showing.noted names.table editions)
   pub end_is : end ≡ end_by (names.refused || list_any has_refused (deliveries_of contents loading))
 
--- the run: it reads the file of names, where there is one, before those of the libraries
+-- a run of `export` or `works`: its texts are those of the union of the libraries' files (IsUnionOf), and for each status it is said what
+-- failed and how much of them was written (IsRunOver). The file of names, if there is one, is read before those of the libraries
 abbrev pub IsUnionRun : Showing → Loading → ShelfFlow → Outflow → Outflow → Status → Type 0
 IsUnionRun showing loading shelf out notes status =
     IsRunOver (names_inputs loading.names) loading.libraries (IsUnionOf showing loading) shelf out notes status

@@ -26,19 +26,19 @@ input_of file = record { input = Library file.library; path = file.path }
 abbrev pub inputs_of : List LibraryFile → List InputFile
 inputs_of libraries = map input_of libraries
 
--- the file has more bytes than are read
+-- the library's file is too long: it has more bytes than are read
 abbrev pub is_overfull : (List ℕ → List ℕ) → LibraryFile → Bool
 is_overfull contents file = nat_lt most_bytes (length (contents file.path))
 
--- the first of the files that has
+-- the first of the libraries' files that is too long
 abbrev pub first_overfull : (List ℕ → List ℕ) → List LibraryFile → Option LibraryFile
 first_overfull contents libraries = find (is_overfull contents) libraries
 
--- none of the files has
+-- none of the libraries' files is too long
 abbrev pub AreWithin : (List ℕ → List ℕ) → List LibraryFile → Type 0
 AreWithin contents libraries = first_overfull contents libraries ≡ None
 
--- the input is the first of the libraries whose file has
+-- the input is that of the first library whose file is too long
 abbrev pub IsTooLongAt : (List ℕ → List ℕ) → List LibraryFile → Input → Type 0
 IsTooLongAt contents libraries input = option_map (λ file. Library file.library) (first_overfull contents libraries) ≡ Some input
 

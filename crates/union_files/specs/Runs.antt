@@ -1,5 +1,5 @@
--- What a run owes that reads some files, one after the other, then loads the files of libraries, and writes two texts of what they
--- came to: the one that it shows, and after it the one that it notes.
+-- What must hold of a run that reads some files, one after the other, then loads the files of libraries, and writes two texts: the one
+-- that it shows, and after it the one that it notes.
 use Rattle.std.specs.Prelude.{◌≡◌, ◌≢◌, ℕ, ◌⊎◌, false, IsTrue, List, [], ◌++◌, Some, IfSome}
 use Rattle.std.specs.Io.KnownBytes.{Appends, Keeps}
 use Rattle.union_io.specs.Writing.{AppendsFront}
@@ -30,7 +30,8 @@ IsWrittenInPart Are out notes =
 abbrev pub IsBegun : (List ℕ → List ℕ → Type 0) → Outflow → Type 0
 IsBegun Are out = (shown : List ℕ) × (noted : List ℕ) × Are shown noted × AppendsFront out.old out.new shown
 
--- the run, where `first` are the files that it reads before those of the libraries
+-- what must hold of a run that reads the files `first` and then those of the libraries: for each status, what failed or which file is too
+-- long, and how much of its two texts was written
 pub record IsRunOver (first : List InputFile) (libraries : List LibraryFile) (AreTexts : RunTexts) (shelf : ShelfFlow)
     (out notes : Outflow) (status : Status) : Type 0 where
   -- what failed, where something did: one of the first files, or else, once these were read, one of the libraries' files. Under no
@@ -50,7 +51,7 @@ pub record IsRunOver (first : List InputFile) (libraries : List LibraryFile) (Ar
       × ((end : Status) × IsBegun (λ shown noted. AreTexts contents shown noted end) out))
   pub part : status ≡ WriteFault → IfSome shelf.files (λ contents. AreWithin contents (first ++ inputs_of libraries)
       × ((end : Status) × IsWrittenInPart (λ shown noted. AreTexts contents shown noted end) out notes))
-  -- where nothing fails it is so, or memory ran out
+  -- if nothing fails, a file that is too long is named, and a run without one is done; or memory ran out
   pub too_long_where : (contents : Contents) (i : Input) → shelf.files ≡ Some contents → IsTooLongAt contents (first ++ inputs_of libraries) i
       → NoneFails (first ++ inputs_of libraries) shelf → (status ≡ TooLong i) ⊎ (status ≡ Memory)
   pub complete : (contents : Contents) → shelf.files ≡ Some contents → AreWithin contents (first ++ inputs_of libraries)

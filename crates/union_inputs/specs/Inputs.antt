@@ -11,25 +11,25 @@ use Rattle.union_words.specs.declared.input.Input.TheVariants.{Library, Asks, Sc
 abbrev pub Contents : Type 0
 Contents = List ℕ → List ℕ
 
--- the most bytes that are read of it: 2^40 of a library's file or a file of names, and 2^20 of a script or a file of questions
+-- the most bytes that are read of an input: 2^40 of a library's file or a file of names, and 2^20 of a script or a file of questions
 abbrev pub limit_of : Input → ℕ
 limit_of (Library code) = 1099511627776
 limit_of Asks = 1048576
 limit_of Script = 1048576
 limit_of Names = 1099511627776
 
--- the file has more bytes than are read
+-- the file is too long: it has more bytes than are read of its kind of input
 abbrev pub is_overfull : Contents → InputFile → Bool
 is_overfull contents file = nat_lt (limit_of file.input) (length (contents file.path))
 
--- the first of the files that has
+-- the first of the files that is too long
 abbrev pub first_overfull : Contents → List InputFile → Option InputFile
 first_overfull contents inputs = find (is_overfull contents) inputs
 
--- none of the files has
+-- none of the files is too long
 abbrev pub AreWithin : Contents → List InputFile → Type 0
 AreWithin contents inputs = first_overfull contents inputs ≡ None
 
--- the input is the first whose file has
+-- the input is that of the first file that is too long
 abbrev pub IsTooLongAt : Contents → List InputFile → Input → Type 0
 IsTooLongAt contents inputs input = option_map (λ file. file.input) (first_overfull contents inputs) ≡ Some input

@@ -30,7 +30,7 @@ pub record Watch : Type 0 where
   pub asks : List ℕ
   pub libraries : List LibraryFile
 
--- so it is where a load says all but the file of questions
+-- what is asked by a file of questions and a load, which says all the rest
 abbrev pub watch_of : List ℕ → Loading → Watch
 watch_of asks loading =
     record { workers = loading.workers; prefer = loading.prefer; names = loading.names; asks = asks; libraries = loading.libraries }

@@ -53,7 +53,7 @@ IsToldOf names history line (Ok query) (Refused refusal) = ⊥
 IsToldOf names history line (Err refusal) (Reply over shown answer) = ⊥
 IsToldOf names history line (Err refusal) (Refused other) = other ≡ refusal
 
--- the same of each of the lines, in their order
+-- one thing is told of each line, in the order of the lines: an answer over the first turns of the history, or a refusal (IsToldOf)
 abbrev pub AreTold : Table → List HistoryEntry → List (List ℕ) → List Told → Type 0
 AreTold names history lines told = AllZip (λ line. IsToldOf names history line (query_of line)) lines told
 

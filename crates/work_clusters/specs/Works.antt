@@ -44,7 +44,7 @@ pairs_of works = flat_map (λ work. map (λ id. (work.0, id)) work.1) works
 abbrev pub without : List (List ℕ × RecordId) → List (List ℕ × RecordId) → List (List ℕ × RecordId)
 without gone pairs = filter (λ p. not (has pair_cmp gone p)) pairs
 
--- works after a change: the gone pairs leave, then the come pairs enter
+-- works after a change: the pairs of `gone` are removed, then those of `come` are added
 abbrev pub changed : List (List ℕ × List RecordId) → List (List ℕ × RecordId) → List (List ℕ × RecordId) → List (List ℕ × List RecordId)
 changed works gone come = works_of (without gone (pairs_of works) ++ come)
 

@@ -38,8 +38,7 @@ use union_base::copied::Copied;
 use union_base::memory::Memory;
 use union_base::record_id::RecordId;
 
-/// The place at which the record under the id was loaded that is current by the plan: None exactly where none is. Takes no
-/// memory.
+/// The place at which the record with this id was loaded, if the plan leaves it current, else None. Takes no memory.
 pub fn place_of(
     homes: &HomeTable,
     touched: &BTreeMap<RecordId, Option<Place>>,
