@@ -1,8 +1,8 @@
 //! Makes the normal form of each text of a file and prints how many there are and how many bytes their forms have, for
 //! measurements: `bench/forms.sh` times it.
 //!
-//! Its word is the path of a file in UTF-8 with a text on each line, after a mark: `1` stands before a name, of which
-//! the first comma is kept, and any other character before a title.
+//! Its word is the path of a file in UTF-8 with a text on each line, after a mark: `1` marks a name, of which the
+//! first comma is kept, and any other character a title.
 #![tactic(auto)]
 
 use naco_normal::form::{Comma, normal};

@@ -1,8 +1,8 @@
 //! The catalogue, an object that changes: the editions of the records that are current, and their works.
 //!
-//! A [`catalogue::Catalogue`] takes batches of loads and withdrawals, and answers the editions of the records now current. What
-//! an edition and a batch are stands in `catalogue_editions`, and what a turn closes and opens in `edition_blocks`; their modules
-//! are handed on here.
+//! A [`catalogue::Catalogue`] takes batches of loads and withdrawals, and answers the editions of the records now current. Editions
+//! and batches are defined in `catalogue_editions`, and what a turn closes and opens in `edition_blocks`; their modules are handed
+//! on here.
 //!
 //! Guarantee: whatever was loaded, corrected and withdrawn, the editions of a catalogue are those to which its current records
 //! resolve, from scratch.

@@ -1,4 +1,4 @@
-//! A turn: a batch is planned on what stands, and then the plan takes effect.
+//! A turn: a batch is planned on the catalogue as it is, and then the plan takes effect.
 //!
 //! Nothing of the catalogue changes while a turn is planned, so where memory runs out it is as before. There are two ways to plan:
 //! [`one_by_one`] serves `apply` and `apply_told`, and so the commands `script` and `follow`; [`prepared`] serves `apply_prepared`,

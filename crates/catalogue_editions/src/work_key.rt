@@ -1,7 +1,7 @@
 //! The work key of an edition, as `specs/EditionKeys.antt` has it.
 //!
-//! Cost: one look at the united fields, beside that of the key. The added entries under names stand side by side there, and
-//! are copied only where another field, of a tag such as 705, stands among them. The table of names is asked once for each name
+//! Cost: one look at the united fields, beside that of the key. The added entries under names are side by side there, and
+//! are copied only where another field, of a tag such as 705, is among them. The table of names is asked once for each name
 //! that the key needs.
 ghost use Rattle.std.specs.Prelude.{◌≡◌, [], ◌∷◌, ◌++◌, All, IfOk, OnOk, IsTrue, if◌then◌else◌, filter, map};
 ghost use Rattle.std.specs.List.{list_all};

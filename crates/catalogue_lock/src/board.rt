@@ -1,7 +1,7 @@
 //! The table under a desk: one word, one slot and the seats, with the rule that each step keeps.
 //!
 //! The types here carry meanings alone. `Law` names the rule (`specs/Rule.antt`), and `Look`, `Claim`, `Release`, `Deal` and
-//! `Gather` name what a step tells the seat that makes it (`specs/Steps.antt`, `specs/Views.antt`). The two exchanges of the
+//! `Gather` name what a step reports to the seat that makes it (`specs/Steps.antt`, `specs/Views.antt`). The two exchanges of the
 //! machine touch no word, so they need no name.
 ghost use Rattle.catalogue_lock.specs.Views.{root_view, spent_view, dealt, dealt_pass, gathered};
 ghost use Rattle.catalogue_lock.specs.Rule.{Ruled};

@@ -1,7 +1,7 @@
 //! What a catalogue answers to a query.
 //!
 //! All are looked up: the edition that has a record, the editions that have an ISBN, an ISSN, a control pair or a title, and
-//! those of a work; the counts are read. So an answer takes time by what it tells, and not by how many editions there are.
+//! those of a work; the counts are read. So an answer takes time by its own length, and not by how many editions there are.
 ghost use Rattle.std.specs.Prelude.{◌≡◌, List, map, filter, flat_map, IfOk};
 ghost use Rattle.catalogue_core.specs.Histories.{current, AreEditionsOf};
 ghost use Rattle.catalogue_core.specs.Ids.{least};

@@ -1,4 +1,4 @@
-//! What stands after the first word of a query.
+//! Everything after the first word of a query.
 ghost use Rattle.std.specs.Prelude.{◌≡◌, IfOk};
 ghost use Rattle.catalogue_query.specs.Queries.{id_in, id_query, isbn_query, issn_query, control_query, title_query, work_query, holdings_query, count_query, query_behind};
 

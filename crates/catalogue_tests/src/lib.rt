@@ -1,8 +1,8 @@
 //! The tests of the catalogue: of catalogue_core, of what catalogue_export writes of its editions, and of the questions that
-//! catalogue_query reads and answers. Beside them stands the plain catalogue, with which the catalogue is compared.
+//! catalogue_query reads and answers. Beside them is the plain catalogue, with which the catalogue is compared.
 //!
-//! They stand apart from the libraries, since a crate with tests is proved twice: so each of these is proved once, and a change
-//! of a test proves no library again.
+//! They are apart from the libraries, since a crate with tests is proved twice: so each library is proved once, and is not proved
+//! again after a change of a test.
 #![tactic(auto)]
 
 #[cfg(test)]

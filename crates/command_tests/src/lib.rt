@@ -2,8 +2,8 @@
 //! union_program.
 //!
 //! What a proof cannot see is tested here by the public calls of each crate: the forms of words, worked files and their texts, each
-//! fault in turn, and sessions that are held by gates. The tests stand in a crate of their own since a crate with tests is
-//! proved twice, with them and without, and so are these libraries only once. There is a module for each of them, and four
+//! fault in turn, and sessions that are held by gates. The tests are in a crate of their own, since a crate with tests is
+//! proved twice, with them and without: so these libraries are proved once. There is a module for each of them, and four
 //! more for the program: `union_json_tests`, on MARC in JSON, `union_tests`, on several libraries at once, `union_names_tests`, on
 //! a file of names, and `gate_tests`, on the order of their turns.
 #![tactic(auto)]

@@ -9,7 +9,7 @@ pub record AreOnlyIn (one other found : List Edition) : Type 0 where
   pub members : (e : Edition) → Contains found e ↔ (Contains one e × (Contains other e → ⊥))
   pub ascending : IsTrue (is_ascending edition_cmp found)
 
--- the editions that were closed are those that stood before and do not stand after, and the opened ones the other way round
+-- the editions that were closed are those of the list before that are not in the list after, and the opened ones the other way round
 pub record IsDelta (before after gone come : List Edition) : Type 0 where
   pub closed : AreOnlyIn before after gone
   pub opened : AreOnlyIn after before come

@@ -1,4 +1,4 @@
-//! Blocks of editions: what stands under some numbers, and what a change of the blocks closes and opens.
+//! Blocks of editions: the editions under some numbers, and what a change of the blocks closes and opens.
 //!
 //! A catalogue keeps its editions in blocks under numbers. [`telling::delta_of`] says what a planned change makes of them: the
 //! editions that leave and the editions that come, without those that only move from one number to another.

@@ -11,7 +11,7 @@ use std::cmp::Ordering;
 use swoosh_resolver::blocks::Blocks;
 use union_base::memory::Memory;
 
-/// The editions under the numbers, in the order of these; a number under which none stands is passed over. Returns `Memory` if
+/// The editions under the numbers, in the order of these; a number under which there is none is passed over. Returns `Memory` if
 /// allocation fails.
 pub fn under_numbers<'a>(
     alloc: Global,

@@ -2,8 +2,8 @@
 //! workset_keys, match_features and field_merge.
 //!
 //! There is a module for each of them, one for the tables of cases that they read, and one for records in frames. The
-//! tests stand in a crate of their own since a crate with tests is proved twice, with them and without, and so these
-//! libraries are proved once.
+//! tests are in a crate of their own, since a crate with tests is proved twice, with them and without: so these libraries
+//! are proved once.
 #![tactic(auto)]
 
 #[cfg(test)]

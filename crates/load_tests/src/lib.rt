@@ -1,8 +1,8 @@
 //! The tests of the crates that load libraries at a desk: catalogue_lock, library_batches, union_reports and load_sessions.
 //!
 //! What a proof cannot see is tested here by the public calls of each crate: worked sources, desks in several threads, limits and
-//! failing reads. The tests stand in a crate of their own since a crate with tests is proved twice, with them and without, and
-//! so are these libraries only once. There is a module for each of them, and nothing else.
+//! failing reads. The tests are in a crate of their own, since a crate with tests is proved twice, with them and without: so
+//! these libraries are proved once. There is a module for each of them, and nothing else.
 #![tactic(auto)]
 
 #[cfg(test)]

@@ -35,7 +35,7 @@ pub enum Rule {
     DataShape,
     /// There is not one control number, or it is not 1 to 64 printable bytes.
     ControlNumber,
-    /// A field stands twice that may stand once.
+    /// A field that may occur once occurs twice.
     Repeated,
     /// There is not one field 008 of 40 bytes.
     Fixed008,

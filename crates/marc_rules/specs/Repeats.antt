@@ -5,7 +5,7 @@ use Rattle.marc_fields.specs.Places.{IsLeast, StandsAt}
 use Rattle.marc_rules.specs.RequiredFields.{class_of, repeated_from}
 use Rattle.marc_rules.specs.declared.required_fields.SingleClass.{SingleClass}
 
--- the entry at that place is of a class of which one field may stand, and an earlier entry is of its class
+-- the entry at that place is of a class of which a record may have one field, and an earlier entry is of the same class
 pub record IsRepeatedAt (entries : List Entry) (place : ℕ) : Type 0 where
   pub earlier : List Entry
   pub entry : Entry

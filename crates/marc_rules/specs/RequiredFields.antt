@@ -1,4 +1,4 @@
--- The rules on which fields stand, and how often (MARC 21, 001, 008, 245 and 'Repeatability'; the places are this project's
+-- The rules on which fields a record has, and how often (MARC 21, 001, 008, 245 and 'Repeatability'; the places are this project's
 -- own).
 use Rattle.std.specs.Prelude.{ℕ, suc, ◌-◌, Bool, true, false, ◌||◌, ◌==◌, nat_eq, List, [], ◌∷◌, ◌++◌, length, slice_index_or, codes, Option, None, Some, if◌then◌else◌}
 use Rattle.std.specs.List.{list_any}
@@ -79,7 +79,7 @@ fixed_008_place bytes entries = once (λ i. length (text_at bytes entries i) == 
 abbrev pub title_245_place : List Entry → Option ℕ
 title_245_place entries = once (λ i. true) (places tag_245 1 entries)
 
--- the class of fields of which one may stand, by the tag: 003, 005, 010, 040, 240 each, and the main entries together
+-- the class of fields of which a record may have one, by the tag: 003, 005, 010, 040, 240 each, and the main entries together
 abbrev pub class_of : List ℕ → Option SingleClass
 class_of tag =
     (if is_same tag (codes "003") then Some NumberSource

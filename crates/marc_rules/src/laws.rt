@@ -29,7 +29,7 @@ pub fn accepted_is_printable()
     ensures { AcceptedIsPrintable }
 {}
 
-/// A repeated field is at the least entry that has an earlier entry of its class: under a tag that may stand once, or one of
+/// A repeated field is at the least entry that has an earlier entry of its class: under a tag that may occur once, or one of
 /// the main entries.
 pub fn repeated_is_least()
     ensures { RepeatedIsLeast }

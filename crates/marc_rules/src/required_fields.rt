@@ -1,4 +1,4 @@
-//! The rules on which fields stand, and how often.
+//! The rules on which fields a record has, and how often.
 ghost use Rattle.std.specs.Prelude.{⊤, ◌≡◌, ◌+◌, ◌<◌, ◌≤◌, ◌∷◌, [], ℕ, Bool, true, length, MatchResult, Some};
 ghost use Rattle.std.specs.List.{list_all};
 ghost use Rattle.marc_fields.specs.Rows.{Answers};
@@ -27,7 +27,7 @@ pub enum NotOne {
     Second(u32),
 }
 
-/// A class of fields of which one may stand (MARC 21, 'Repeatability').
+/// A class of fields of which a record may have one (MARC 21, 'Repeatability').
 #[derive(Clone, Copy, Debug, PartialEq, Eq)]
 pub enum SingleClass {
     /// 003, whose number 001 is.
@@ -87,7 +87,7 @@ fn place_of(refusal: NotOne) -> u32
     }
 }
 
-/// The class of fields of which one may stand (MARC 21, 'Repeatability'), where the tag has one.
+/// The class of fields of which a record may have one (MARC 21, 'Repeatability'), if the tag is of such a class.
 fn class_of_tag(tag: &[u8; 3]) -> Option<SingleClass>
     ensures { result ≡ class_of tag.now }
 {
@@ -120,7 +120,7 @@ fn number_of(class: SingleClass) -> usize
     class as usize
 }
 
-/// The number of the first entry that repeats a field which may stand once.
+/// The number of the first entry that repeats a field which may occur once.
 fn first_repeated(entries: &[Entry]) -> Option<u32>
     requires { length entries.now ≤ 9999 }
     ensures { result ≡ repeated_from [] 1 entries.now }
@@ -185,7 +185,8 @@ fn bad_title_245(entries: &[Entry]) -> Option<u32>
     }
 }
 
-/// Refuses a field that stands twice and may stand once, and a record without one 008 of 40 bytes and one 245.
+/// Refuses a record with a second field of a class of which it may have one, and a record that has not exactly one 008, of 40
+/// bytes, and exactly one 245.
 fn check_load(entries: &[Entry], bytes: &[u8]) -> Result<(), DecodeRefusal>
     requires few { length entries.now ≤ 9999 }
     requires tiles { list_all (is_tile bytes.now) entries.now ≡ true }

@@ -1,7 +1,7 @@
 //! What resolving editions asks of features: merging is a union, meeting is kept by it, and features that meet have a key in
 //! common.
 //!
-//! Each function here does nothing when it runs: its contract is the law. The same laws stand as the lemmas
+//! Each function here does nothing when it runs: its contract is the law. The same laws are the lemmas
 //! `features_join_laws` in `specs/`, where the type's own laws cite it, and `features_match_laws`, `features_key_laws`,
 //! `features_seeking_laws`, `features_keys`, `features_keys_once` and `features_keys_exact` in `proofs/`.
 ghost use Rattle.std.specs.Prelude.{◌≡◌, ◌≢◌, ◌↔◌, ◌⊎◌, IsTrue, Contains, AllPairs};

@@ -1,9 +1,8 @@
 //! The tests of the crates by which editions and works are resolved: merge_laws, feature_index, swoosh_resolver,
 //! cluster_reopen, swoosh_halves and work_clusters.
 //!
-//! There is a module for each of them, and `small_sets`, the values on which the resolvers are run. The tests stand in a
-//! crate of their own since a crate with tests is proved twice, with them and without, and so these libraries are proved
-//! once.
+//! There is a module for each of them, and `small_sets`, the values on which the resolvers are run. The tests are in a
+//! crate of their own, since a crate with tests is proved twice, with them and without: so these libraries are proved once.
 #![tactic(auto)]
 
 #[cfg(test)]

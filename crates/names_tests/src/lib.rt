@@ -1,6 +1,6 @@
 //! The tests of authority_names: `name_table_tests` adds records to tables and looks names up.
 //!
-//! They stand apart since a crate is proved once without its tests and once with them: so the library is proved once, and this
+//! They are apart since a crate is proved once without its tests and once with them: so the library is proved once, and this
 //! crate, which is empty without its tests, once as well.
 #![tactic(auto)]
 

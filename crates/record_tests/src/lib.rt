@@ -2,7 +2,7 @@
 //! marc_rules, holdings_book and library_stream. Each has a module here, and `frames`, `refused_frames` and `streams` are
 //! what several of them read.
 //!
-//! They stand apart since a crate is proved once without its tests and once with them: so each library is proved once, and
+//! They are apart since a crate is proved once without its tests and once with them: so each library is proved once, and
 //! this crate, which is empty without its tests, once as well.
 #![tactic(auto)]
 

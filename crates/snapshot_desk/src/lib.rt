@@ -7,12 +7,13 @@
 //! # Guarantee
 //!
 //! At every moment the list over which the viewer answers is a prefix of the published list, and the published list only grows at
-//! its end. A note of the publisher's (`publisher::Publisher::tell`) tells the viewer what is published: each later answer is over
-//! that much at least. So an answer is that of a published list which is no shorter than the viewer had seen or was told of.
+//! its end. A note of the publisher's (`publisher::Publisher::tell`) says what is published: each answer that the viewer
+//! gives after it learnt the note is over that much at least. So an answer is that of a published list which is no shorter than
+//! the viewer had seen or learnt of.
 //!
 //! # How it is kept
 //!
-//! The published entries stand in a log (`log`) that only grows. Its word counts them, and only the publisher steps on it. Each
+//! The published entries are in a log (`log`) that only grows. Its word counts them, and only the publisher steps on it. Each
 //! entry is posted on a board (`board`), together with the list that it ends, so the viewer reads entries in any thread and learns
 //! of each how far the log had got. Publishing an entry is two steps that others see: the count goes from n to n + 1, and the log
 //! has the entry; then the entry is posted.

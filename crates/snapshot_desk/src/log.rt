@@ -1,6 +1,6 @@
 //! The log of the published entries.
 //!
-//! The types here carry meanings alone. `Law` names the rule of the log, and the others what a step on its word asks and tells.
+//! The types here carry meanings alone. `Law` names the rule of the log, and the others what a step on its word asks and reports.
 use catalogue_core::history_entry::HistoryEntry;
 use logbook::{Gain, Plain, Play, Rule, Seen, Word};
 

@@ -1,6 +1,7 @@
-//! The tests of snapshot_desk: a published entry, what a note tells, and a viewer that asks in another thread.
+//! The tests of snapshot_desk: a published entry, what a viewer learns from a note, and a viewer that asks in another
+//! thread.
 //!
-//! They stand in a crate of their own since a crate with tests is proved twice, with them and without.
+//! They are in a crate of their own, since a crate with tests is proved twice, with them and without.
 #![tactic(auto)]
 
 #[cfg(test)]

@@ -1,4 +1,4 @@
-//! A record that is published, and what a viewer tells of it.
+//! A record that is published, and what a viewer answers of it.
 ghost use Rattle.std.specs.Prelude.{◌≡◌};
 
 use catalogue_core::history_entry::HistoryEntry;

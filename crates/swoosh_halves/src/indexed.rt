@@ -2,8 +2,9 @@
 //!
 //! Guarantee: the answer is a resolution of the list. Cost: the list is halved down to a few values, which are tested against one
 //! another; then, each time that two halves come together, each of their blocks is tested only against those that are posted
-//! under a key that it seeks. Thus many values that share a key cost no square, and what comes to one large block is merged from
-//! blocks of like size, whose keys are made at each halving and not at each value. Values are moved and never copied.
+//! under a key that it seeks. So the time for many values that share a key does not grow with their square, and a
+//! large block is merged from blocks of like size, whose keys are made at each halving and not at each value. Values are moved
+//! and never copied.
 ghost use Rattle.std.specs.Prelude.{◌≡◌, ◌<◌, [], IfOk};
 ghost use Rattle.merge_laws.specs.Resolution.{IsResolution};
 

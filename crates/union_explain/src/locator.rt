@@ -1,4 +1,4 @@
-//! The frames of a source, one after the other, each with where it stands.
+//! The frames of a source, one after the other, each with its place.
 ghost use Rattle.std.specs.Prelude.{◌≡◌, ◌≤◌, ◌<◌, ◌^◌, ℕ, [], IfOk, MatchResult, Some, None, if◌then◌else◌};
 ghost use Rattle.std.specs.declared.option.Option.{Option};
 ghost use Rattle.union_explain.specs.Readings.{Gives, Finds, ahead, CountsStop};

@@ -1,4 +1,4 @@
-//! The lines of a report that tell of refused records.
+//! The lines of a report on refused records.
 ghost use Rattle.std.specs.Prelude.{◌≡◌, ◌<◌, ◌≤◌, ◌^◌, IfOk, IfSome};
 ghost use Rattle.std.specs.List.{filter_map};
 ghost use Rattle.union_words.specs.Lines.{lines_of};

@@ -1,4 +1,4 @@
-//! The lines that a run notes. Each function adds its text to what stands in a buffer; the texts are those of specs/Texts.antt.
+//! The lines that a run notes. Each function appends its text to a buffer; the texts are those of specs/Texts.antt.
 ghost use Rattle.std.specs.Prelude.{◌≡◌, ◌++◌, OnOk};
 ghost use Rattle.union_json.specs.Texts.{count_line, reason_name, reason_place, refused_line, refused_lines};
 

@@ -1,12 +1,12 @@
-//! Where the records of libraries' files stand, and by which keys each may meet another: what a cluster needs to know to put
+//! Where the records of libraries' files are, and by which keys each may meet another: what a cluster needs to know to put
 //! records that may be one edition into one part.
 //!
 //! `run::read_files` reads the files whole and checks each frame; `run::each_line` answers a line for each accepted record, and
-//! `groups::group_lines` one for each group of records. A line tells the ids and where each stands, how many editions the
+//! `groups::group_lines` one for each group of records. A line has the ids and the place of each, how many editions the
 //! records resolve to, and the keys of these editions: those that they seek, and those under which an index has them. Editions
 //! that match have such a key in common (`match_features::laws::meeting_is_found`).
 //!
-//! Definitions: specs/Placed.antt for where frames stand, specs/Readings.antt for what is taken of each, specs/Lines.antt for
+//! Definitions: specs/Placed.antt for where frames are, specs/Readings.antt for what is taken of each, specs/Lines.antt for
 //! what is written. Memory grows with the files and with what is written.
 #![tactic(auto)]
 

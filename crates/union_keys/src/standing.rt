@@ -1,4 +1,4 @@
-//! A record and where it stands.
+//! A record and its place.
 ghost use Rattle.std.specs.Prelude.{◌≡◌, IfOk};
 ghost use Rattle.marc_rules.specs.Accepted.{IsAccepted};
 ghost use Rattle.union_keys.specs.Standings.{edition_by, standing_of};

@@ -1,4 +1,4 @@
-//! The program that tells by which keys records may meet: the real files and streams, handed to the crate that does the work.
+//! The program that writes by which keys records may meet: the real files and streams, handed to the crate that does the work.
 #![tactic(auto)]
 
 use library_batches::stop::Stop;

@@ -1,9 +1,9 @@
 //! The loading of the files of a command's libraries by sessions at one desk, with questions beside the sessions and after them.
 //!
 //! The files are opened in the order of the command, before any of them is read. Then there is a session for each, which makes
-//! its turns under the library's place as its number, and the workers run them; an asker stands beside them. When all of
+//! its turns under the library's place as its number, and the workers run them, with an asker beside them. When all of
 //! these have ended, one pass more asks the late questions. Whatever the order of the turns, the catalogue's history has the
-//! batches of each library in their order and no others, and the reports stand in the order of the command. Each source is
+//! batches of each library in their order and no others, and the reports are in the order of the command. Each source is
 //! given back to its shelf. Memory grows with what is loaded.
 ghost use Rattle.std.specs.Prelude.{◌≡◌, ◌<◌, ◌≤◌, ◌+◌, ◌==◌, ◌&&◌, [], IfOk, IfErr, All, length, not};
 ghost use Rattle.std.specs.List.{AllByRecursion};

@@ -1,6 +1,6 @@
-//! The lines that tell of a library's frames.
+//! The lines on a library's frames.
 //!
-//! Each function adds its text after what stands in a buffer. The texts are those of specs/Reports.antt.
+//! Each function appends its text to a buffer. The texts are those of specs/Reports.antt.
 ghost use Rattle.std.specs.Prelude.{◌≡◌, ◌++◌, OnOk};
 ghost use Rattle.union_reports.specs.Reports.{rule_name, counted, refused_line, refused_lines};
 

@@ -1,6 +1,6 @@
 //! The reports on libraries, and the lines on editions of which fields were left out.
 //!
-//! Each function adds its text after what stands in a buffer. The texts are those of specs/Reports.antt.
+//! Each function appends its text to a buffer. The texts are those of specs/Reports.antt.
 ghost use Rattle.std.specs.Prelude.{◌≡◌, ◌++◌, List, length, OnOk};
 ghost use Rattle.std.specs.List.{flat_map};
 ghost use Rattle.catalogue_editions.specs.declared.outcome.Outcome.{Outcome};

@@ -2,8 +2,8 @@
 //!
 //! `ask_file::AskFile::read` reads the lines of a file of questions, `questions::divide` says which of the questions
 //! are asked beside the load and which after it, and `writing::write_watch` writes a line for each turn of the history and then
-//! what is told of each line of the file. The text is `watch_text` of specs/WatchTexts.antt; what a whole run of `watch` owes is
-//! `IsWatchRun` of specs/Runs.antt.
+//! the answer to each line of the file, or why it is refused. The text is `watch_text` of specs/WatchTexts.antt; what must hold
+//! of a whole run of `watch` is `IsWatchRun` of specs/Runs.antt.
 //!
 //! Guarantee: the turn lines alone determine the history that is told, by the law of `laws`. Cost: each line of the file is
 //! looked at once and borrowed; the text is handed on in pieces, so that memory grows with the longest answer alone.

@@ -1,6 +1,6 @@
 //! The lines of the text.
 //!
-//! Each function adds its text after what stands in a buffer.
+//! Each function appends its text to a buffer.
 ghost use Rattle.std.specs.Prelude.{◌≡◌, ◌++◌, OnOk};
 ghost use Rattle.union_watch.specs.AskLines.{line_meaning};
 ghost use Rattle.union_watch.specs.Told.{shown_byte, shown, reply_line, told_first, left_behind, told_text_of};

@@ -1,6 +1,6 @@
 //! The words of the union catalogue's command line, how a run ends, and the texts that the program has of its own.
 //!
-//! `Job::read` answers exactly what the words ask for (`specs/Words.antt`). Beside it stand the numbers that words give
+//! `Job::read` answers exactly what the words ask for (`specs/Words.antt`). Beside it are the numbers that words give
 //! (`specs/Numbers.antt`), the lines of a script or of a file of questions (`specs/Lines.antt`), the statuses with their
 //! numbers and lines (`specs/Statuses.antt`, `specs/Texts.antt`), and the texts of `--help` and `--version`. Nothing here
 //! takes memory, reads or writes: each answer borrows what it was handed. The work is linear in the words but for the

@@ -1,5 +1,5 @@
 //! The names by which a work is known: that of the main entry, and the least of the added entries, as `specs/WorkKeys.antt`
-//! has them. The key is made of them elsewhere, so that other names can stand in their place. Each field is read once.
+//! has them. The key is made of them elsewhere, so that other names can be put in their place. Each field is read once.
 ghost use Rattle.std.specs.Prelude.{◌≡◌, All, IfOk};
 ghost use Rattle.std.specs.Option.{ForSome, option_copied};
 ghost use Rattle.workset_keys.specs.Names.{HasTexts};
