@@ -18,7 +18,7 @@ use swoosh_resolver::blocks::Blocks;
 use union_base::memory::Memory;
 
 /// How many values are few enough to be tested against one another.
-const FEW: usize = 8;
+const FEW: usize = 64;
 
 /// The resolution of the list, in an order that is not fixed: of each half by itself, and then of the blocks of both by an index.
 /// Returns `Memory` if allocation fails.
