@@ -52,6 +52,12 @@ def one_edition(count):
     return b"".join(book(b"n%07d" % at, b"Red ships", name=b"Hill, Ann") for at in range(count))
 
 
+def chain(count):
+    """Records of different titles, each with a control number of the one before and one of the next: one edition, that grows by each."""
+    pair = lambda at: (b"035", b"  $a(OCoLC)%d" % (at + 1))
+    return b"".join(book(b"n%07d" % at, b"Title number %07d" % at, more=[pair(at), pair(at + 1)]) for at in range(count))
+
+
 def one_title_dates(count):
     """Records of one title and name with different dates: as many editions as there are years, 10,000 at most."""
     return b"".join(book(b"n%07d" % at, b"Red ships", b"%04d" % (at % 10_000), b"Hill, Ann") for at in range(count))
