@@ -47,7 +47,7 @@ impl<K: Eq + Hash + Drop> Postings<K> {
     }
 
     /// Makes the spare of each key at least the number of times that it stands in the list. The numbers stay, and no spare
-    /// falls. Memory where it runs out, and then some spares may have risen.
+    /// falls. Returns `Memory` if allocation fails; then some spares may have risen.
     pub fn make_room(&mut self, alloc: Global, keys: Vec<K>) -> Result<(), Memory>
         ensures numbers { (k : K) → numbers_of K.eq self.new k ≡ numbers_of K.eq self.old k }
         ensures kept { (k : K) → spare_of K.eq self.old k ≤ spare_of K.eq self.new k }
@@ -60,7 +60,7 @@ impl<K: Eq + Hash + Drop> Postings<K> {
         Ok(())
     }
 
-    /// Makes room for one number more under the key. Memory where it runs out, and then all stays.
+    /// Makes room for one number more under the key. Returns `Memory` if allocation fails; then all stays.
     pub fn make_room_once(&mut self, alloc: Global, key: K) -> Result<(), Memory>
         ensures numbers { (k : K) → numbers_of K.eq self.new k ≡ numbers_of K.eq self.old k }
         ensures kept { (k : K) → spare_of K.eq self.old k ≤ spare_of K.eq self.new k }
@@ -75,7 +75,7 @@ impl<K: Eq + Hash + Drop> Postings<K> {
     }
 
     /// Puts a number under the key, and makes the room for it. What stands under all other keys stays, and so does the spare.
-    /// Memory where it runs out, and then all numbers stay.
+    /// Returns `Memory` if allocation fails; then all numbers stay.
     pub fn put(&mut self, alloc: Global, key: K, number: u64) -> Result<(), Memory>
         requires { Contains (numbers_of K.eq self.old key) number → ⊥ }
         ensures numbers { OnOk result (Gains (numbers_of K.eq self.old key)

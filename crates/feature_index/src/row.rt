@@ -73,7 +73,7 @@ impl Row {
         }
     }
 
-    /// Makes room for one number more. Memory where it runs out, and then all stays.
+    /// Makes room for one number more. Returns `Memory` if allocation fails; then all stays.
     pub(crate) fn make_room(&mut self, alloc: Global) -> Result<(), Memory>
         ensures numbers { self.new.numbers ≡ self.old.numbers }
         ensures kept { self.old.spare ≤ self.new.spare }

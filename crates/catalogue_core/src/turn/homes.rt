@@ -1,7 +1,7 @@
 //! The homes of current records, as the install of a plan moves them.
 //!
 //! A map may want memory for a new key. So new ids are let in first, each with a home that says nothing yet, or none of them
-//! where memory runs out; what follows changes homes that are there, or takes them away, and wants no memory.
+//! if allocation fails; what follows changes homes that are there, or takes them away, and takes no memory.
 ghost use Rattle.std.specs.Prelude.{◌≡◌, ◌≤◌, length, map, fold, OnOk, OnErr};
 ghost use Rattle.catalogue_core.specs.Homes.{standing, admitted, taken_back, moved, housed, housed_all};
 
@@ -22,8 +22,8 @@ const BLANK: Home = Home {
     block: 0,
 };
 
-/// Lets each of the ids in that the plan lets stand and that has no home, and appends it to those that came. Memory where it
-/// runs out, and then some of them may be in, each of which is among those that came.
+/// Gives a home to each id that is current by the plan and has none, and appends it to those that came. Returns `Memory` if
+/// allocation fails; some of them may have homes then, and each of these is among those that came.
 fn let_in<'a>(
     alloc: Global,
     homes: &mut HomeTable,
@@ -54,8 +54,8 @@ fn take_back(homes: &mut HomeTable, mut came: Vec<&RecordId>)
     }
 }
 
-/// Lets each of the ids in that the plan lets stand and that has no home. Memory where it runs out, and then none of them is
-/// let in.
+/// Gives a home to each id that is current by the plan and has none. Returns `Memory` if allocation fails; none of them has
+/// one then.
 pub fn admit(
     alloc: Global,
     homes: &mut HomeTable,

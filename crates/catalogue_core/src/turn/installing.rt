@@ -1,7 +1,7 @@
 //! A plan takes effect.
 //!
 //! All memory is taken first: for the works, where they are kept, and the blocks, for one turn more in the history, and last for
-//! ids that are new. Where it runs out the catalogue is as before. Then everything is installed, which wants no memory and is not
+//! ids that are new. If allocation fails the catalogue is as before. Then everything is installed, which takes no memory and is not
 //! refused.
 ghost use Rattle.std.specs.Prelude.{◌≡◌, ◌++◌, ◌∷◌, [], IfOk, OnOk, OnErr};
 ghost use Rattle.swoosh_resolver.specs.Tables.{values_of};
@@ -67,7 +67,8 @@ fn opened_pairs(
     Ok(pairs)
 }
 
-/// The change of the works that goes with one of the blocks, with room for it. Memory where it runs out; the works stay.
+/// The change of the works that goes with one of the blocks, with room for it. Returns `Memory` if allocation
+/// fails; the works stay.
 fn make_room_in(
     alloc: Global,
     names: &NameTable,

@@ -177,8 +177,8 @@ fn is_current(touched: Option<Option<Place>>, home: Option<Home>) -> bool
     }
 }
 
-/// Lets what a turn touched follow an operation of its batch, which stands at that place, and answers what came of it. Memory
-/// where it runs out.
+/// Notes in `touched` what an operation of the batch does, which is at that place, and answers what came of it. Returns
+/// `Memory` if allocation fails.
 fn touch_op(
     alloc: Global,
     homes: &HomeTable,
