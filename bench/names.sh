@@ -27,7 +27,7 @@ if command -v yaz-marcdump >/dev/null; then
     echo "$yaz" | awk '{ printf "yaz-marcdump -n %.2f s\n", $1 }'
 fi
 
-# A row of this name and these numbers, for so many see-from headings.
+# A row of this name and these numbers. The last is the number of see-from headings.
 row() {
     echo "$2 $yaz" | awk -v name="$1" -v pairs="$3" '{
         printf "%s %.2f s, %d kB, %.0f bytes a see-from heading", name, $1, $2, $2 * 1024 / (pairs < 1 ? 1 : pairs)

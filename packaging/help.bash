@@ -27,7 +27,7 @@ wrong_library() {
   esac
 }
 
-# What is wrong with the libraries of a command that takes up to so many.
+# What is wrong with the libraries of a command that takes at most $1 of them.
 wrong_libraries() {
   local most=$1 word wrong seen=" "
   shift
