@@ -1,12 +1,12 @@
 -- Values that are put into groups by their labels, one after the other.
 use Rattle.std.proofs.Common.{◌≡◌, ◌<◌, ◌≤◌, ◌+◌, ℕ, suc, zero, List, [], ◌∷◌, ◌++◌, length, get_or, set, map, replicate, refl, sym, ◌∙◌, ap, ap₂, subst, inl, inr, arith, length-append}
-use Rattle.std.specs.Prelude.{◌↔◌, Some, slice_get, Contains, AllPairs}
+use Rattle.std.specs.Prelude.{◌↔◌, Option, None, Some, slice_get, Contains, AllPairs}
 use Rattle.std.proofs.lemmas.Bool.{cases_eq, cases_lt}
 use Rattle.std.proofs.lemmas.List.{length_push, length-replicate, get_or_default, get_or_past, get_or-set_same, get_or-set_other, get_or-replicate, map_push, map-set, get_or-map, replicate_more}
 use Rattle.std.proofs.lemmas.List.Elements.{Contains-append_left, Contains-append_right, Contains-append_cases, Contains-push, Contains-push_cases}
 use Rattle.std.proofs.lemmas.Option.{slice_get_within, get_or_from_slice_get}
 use Rattle.merge_laws.proofs.Places.{AllPairs-none, AllPairs-one, AllPairs-append}
-use Rattle.swoosh_halves.specs.Groups.{ShareNoKey, JoinsByKeys, AreSized, AreCutApart, together}
+use Rattle.swoosh_halves.specs.Groups.{ShareNoKey, JoinsByKeys, Follows, AreSized, AreCutApart, AreJoined, together}
 
 -- one place more with a label: sizes grow, and none faster than the places
 sizes_grow : (sizes : List ℕ) (l k : ℕ) → l < length sizes → get_or sizes k 0 ≤ get_or (set sizes l (get_or sizes l 0 + 1)) k 0
@@ -196,6 +196,26 @@ module _ {A K : Type 0} {has_key : A → K → Type 0} (list : List A) (labels s
         let same : get_or labels i 0 ≡ get_or labels j 0 = joined i j x y k at at' hx hy in
         omega (arith, same, label, label', lm);
   }
+
+-- what gives the values at the places of a list their labels
+abbrev value_label : {A : Type 0} → (A → ℕ) → Option A → ℕ
+value_label label None = 0
+value_label label (Some x) = label x
+
+-- no label parts a group, where what joins values by keys gives each place the label of what its label names
+pub groups_joined : {A K : Type 0} {has_key : A → K → Type 0} (list : List A) (labels sizes : List ℕ) → length labels ≡ length list → ((label : ℕ → ℕ) → JoinsByKeys has_key list label → Follows labels label) → (values strangers : List A) (groups : List (List A)) → AreGrouped has_key list labels sizes values strangers groups → AreJoined has_key list groups
+groups_joined {A = A} list labels sizes size names values strangers groups p label joins group x y cg cx cy =
+    let (l, ll, e) = cg in
+    let there : get_or groups l [] ≡ group = get_or_default groups l [] group ll ∙ e in
+    let (i, at, is, several) = p.labelled l x (subst (λ (g : List A). Contains g x) (sym there) cx) in
+    let (j, at', is', several') = p.labelled l y (subst (λ (g : List A). Contains g y) (sym there) cy) in
+    let f : ℕ → ℕ = λ m. value_label label (slice_get list m) in
+    let follows = names f (λ m n u v k atu atv hu hv. ap (value_label label) atu ∙ joins u v k (member_at list m u atu) (member_at list n v atv) hu hv ∙ sym (ap (value_label label) atv)) in
+    let il = slice_get_within list i x at in
+    let jl = slice_get_within list j y at' in
+    let one : f l ≡ f i = ap f (sym is) ∙ follows i (omega (arith, il, size)) in
+    let other : f l ≡ f j = ap f (sym is') ∙ follows j (omega (arith, jl, size)) in
+    sym (ap (value_label label) at) ∙ sym one ∙ other ∙ ap (value_label label) at'
 
 -- lists of values that something holds, as a row of vectors does: one more, which is empty, and one to which a value is added
 module _ {A G : Type 0} where

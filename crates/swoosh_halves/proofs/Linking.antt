@@ -1,10 +1,11 @@
 -- Links between the places of a list, and the labellings that follow them.
 use Rattle.std.proofs.Common.{◌≡◌, ◌<◌, ◌≤◌, ◌+◌, ℕ, List, [], ◌∷◌, ◌++◌, length, get_or, set, sym, ◌∙◌, ap, subst, inl, inr, arith}
-use Rattle.std.specs.Prelude.{◌↔◌, Option, Some, slice_get}
-use Rattle.std.proofs.lemmas.Bool.{cases_eq, cases_lt}
+use Rattle.std.specs.Prelude.{◌↔◌, ◌⊎◌, Bool, true, false, Option, None, Some, unwrap_or, slice_get, Contains}
+use Rattle.std.proofs.lemmas.Bool.{cases_eq, cases_lt, cases_Bool}
 use Rattle.std.proofs.lemmas.List.{length-set, get_or-set_same, get_or-set_other, get_or_append_left, get_or_push, get_or_default, get_or_past}
+use Rattle.std.proofs.lemmas.List.Elements.{Contains-append_left, Contains-push}
 use Rattle.std.proofs.lemmas.Option.{same_Some}
-use Rattle.swoosh_halves.specs.Groups.{AreLinks, Follows, IsNoted, JoinsByKeys}
+use Rattle.swoosh_halves.specs.Groups.{AreLinks, AddsPlace, Follows, IsNoted, JoinsByKeys, LinksPlace}
 
 -- links stay links where one is set to an earlier place
 pub AreLinks-set : (links : List ℕ) (i a : ℕ) → a ≤ i → AreLinks links → AreLinks (set links i a)
@@ -142,3 +143,69 @@ labels_earlier links labels n label next so i il =
           ] in
           subst (λ j. get_or (labels ++ label ∷ []) j 0 ≤ j) (sym same) (subst (λ b. b ≤ n) (sym (get_or_push labels label 0 n size)) least))
     ]
+
+-- what follows the links gives a place the label of what its label names
+pub labels_own : (links labels : List ℕ) (n last : ℕ) (label : ℕ → ℕ) → IsLabel links labels n last → n < length links → Follows links label → ((i : ℕ) → i < n → label (get_or labels i 0) ≡ label i) → (i : ℕ) → i < n + 1 → label (get_or (labels ++ last ∷ []) i 0) ≡ label i
+labels_own links labels n last label next nl follows so i il =
+    let size = next.sized in
+    let earlier = next.earlier in
+    let link = get_or links n 0 in
+    elim (cases_lt i n) [
+      | inl before ↦ ap label (get_or_append_left labels (last ∷ []) 0 i (omega (arith, before, size))) ∙ so i before
+      | inr after ↦ (
+          let same : i ≡ n = omega (arith, il, after) in
+          let whole : label last ≡ label n = elim (cases_lt link n) [
+            | inl less ↦
+                ap label (next.is ∙ get_or_default labels link n 0 (omega (arith, less, size))) ∙ so link less ∙ follows n nl
+            | inr more ↦ ap label (next.is ∙ get_or_past labels link n (omega (arith, more, size)))
+          ] in
+          subst (λ j. label (get_or (labels ++ last ∷ []) j 0) ≡ label j) (sym same) (ap label (get_or_push labels last 0 n size) ∙ whole))
+    ]
+
+-- what the place under a key is, where the given one is put there if none was
+pub place_found : (before : Option ℕ) (first place : ℕ) → first ≡ unwrap_or before place → (before ≡ Some first) ⊎ (first ≡ place)
+place_found None first place e = inr e
+place_found (Some found) first place e = inl (ap Some (sym e))
+
+-- so nothing is put under a key but the place
+pub adds_one : {K : Type 0} {eq : K → K → Bool} (exact : (j k : K) → eq j k ≡ true → j ≡ k) (firsts firsts' : K → Option ℕ) (key : K) (first place : ℕ) → firsts' key ≡ Some first → first ≡ unwrap_or (firsts key) place → ((k : K) → eq key k ≡ false → firsts' k ≡ firsts k) → AddsPlace firsts firsts' (λ k. key ≡ k) place
+adds_one {eq = eq} exact firsts firsts' key first place there value others k i at = elim (cases_Bool (eq key k)) [
+  | inl alike ↦ (
+      let is : key ≡ k = exact key k alike in
+      let found : i ≡ first = same_Some i first (sym at ∙ ap firsts' (sym is) ∙ there) in
+      elim (place_found (firsts key) first place value) [
+        | inl old ↦ inl (ap firsts (sym is) ∙ old ∙ ap Some (sym found))
+        | inr new ↦ inr (found ∙ new, is)
+      ])
+  | inr other ↦ inl (sym (others k other) ∙ at)
+]
+
+-- one key more of a place that is noted
+pub adds_more : {K : Type 0} (firsts firsts' firsts'' : K → Option ℕ) (keys : List K) (key : K) (place : ℕ) → AddsPlace firsts firsts' (Contains keys) place → AddsPlace firsts' firsts'' (λ k. key ≡ k) place → AddsPlace firsts firsts'' (Contains (keys ++ key ∷ [])) place
+adds_more firsts firsts' firsts'' keys key place so now k i at = elim (now k i at) [
+  | inl between ↦ elim (so k i between) [
+    | inl old ↦ inl old
+    | inr new ↦ inr (new.0, Contains-append_left keys (key ∷ []) k new.1)
+  ]
+  | inr new ↦ inr (new.0, subst (Contains (keys ++ key ∷ [])) new.1 (Contains-push keys key))
+]
+
+pub links_more : {K : Type 0} (firsts firsts' : K → Option ℕ) (links links' links'' : List ℕ) (keys : List K) (key : K) (place : ℕ) → AddsPlace firsts firsts' (Contains keys) place → LinksPlace firsts links links' (Contains keys) place → LinksPlace firsts' links' links'' (λ k. key ≡ k) place → LinksPlace firsts links links'' (Contains (keys ++ key ∷ [])) place
+links_more firsts firsts' links links' links'' keys key place adds so now label follows joins =
+    now label (so label follows (λ k i c at. joins k i (Contains-append_left keys (key ∷ []) k c) at))
+    (λ k i is at. elim (adds k i at) [
+      | inl old ↦ joins k i (subst (Contains (keys ++ key ∷ [])) is (Contains-push keys key)) old
+      | inr new ↦ ap label new.0
+    ])
+
+-- a value of the list has each key under which its place stands
+pub firsts_more : {A K : Type 0} {has_key : A → K → Type 0} (firsts firsts' : K → Option ℕ) (list : List A) (n : ℕ) (v : A) (keys : List K) → slice_get list n ≡ Some v → ((k : K) → Contains keys k → has_key v k) → AddsPlace firsts firsts' (Contains keys) n → ((k : K) (i : ℕ) → firsts k ≡ Some i → (x : A) × (slice_get list i ≡ Some x) × has_key x k) → (k : K) (i : ℕ) → firsts' k ≡ Some i → (x : A) × (slice_get list i ≡ Some x) × has_key x k
+firsts_more firsts firsts' list n v keys here own adds so k i at = elim (adds k i at) [
+  | inl old ↦ so k i old
+  | inr new ↦ (v, subst (λ m. slice_get list m ≡ Some v) (sym new.0) here, own k new.1)
+]
+
+-- so what gives values that have a key in common one label follows the links
+pub only_more : {A K : Type 0} {has_key : A → K → Type 0} (firsts : K → Option ℕ) (links links' : List ℕ) (list : List A) (n : ℕ) (v : A) (keys : List K) → slice_get list n ≡ Some v → ((k : K) → Contains keys k → has_key v k) → LinksPlace firsts links links' (Contains keys) n → ((k : K) (i : ℕ) → firsts k ≡ Some i → (x : A) × (slice_get list i ≡ Some x) × has_key x k) → ((label : ℕ → ℕ) → JoinsByKeys has_key list label → Follows links label) → (label : ℕ → ℕ) → JoinsByKeys has_key list label → Follows links' label
+only_more firsts links links' list n v keys here own now stand so label joins =
+    now label (so label joins) (λ k i c at. let (x, there, has) = stand k i at in joins i n x v k there here has (own k c))

@@ -1,6 +1,6 @@
--- Values that have keys, and the groups of those that share a key, directly or through others. A labelling gives each place of a list
--- a number, its label. A list of links gives each place of a list a place.
-use Rattle.std.specs.Prelude.{◌≡◌, ◌≤◌, ◌<◌, ℕ, List, Option, Some, length, slice_get, slice_index_or, Contains, AllPairs}
+-- Values that have keys, and the groups of those that share keys, directly or through others. A labelling gives each place of a list a
+-- label, a number. Links give each place of a list a place of its group.
+use Rattle.std.specs.Prelude.{◌≡◌, ◌≤◌, ◌<◌, ◌⊎◌, ℕ, List, Option, Some, length, slice_get, slice_index_or, Contains, AllPairs}
 use Rattle.std.specs.List.{flat_map}
 
 -- x and y have no key in common
@@ -30,7 +30,18 @@ abbrev pub IsNoted : {K : Type 0} → (K → Option ℕ) → List ℕ → ℕ �
 IsNoted firsts links i k =
     (first : ℕ) × (firsts k ≡ Some first) × ((label : ℕ → ℕ) → Follows links label → label first ≡ label i)
 
--- a label that stands at two places has a size of more than one
+-- what stands under a key stood there before, or is the place, which has the key
+abbrev pub AddsPlace : {K : Type 0} → (K → Option ℕ) → (K → Option ℕ) → (K → Type 0) → ℕ → Type 0
+AddsPlace {K} firsts firsts' has place =
+    (k : K) (i : ℕ) → firsts' k ≡ Some i → (firsts k ≡ Some i) ⊎ ((i ≡ place) × has k)
+
+-- a labelling that followed the links, and gives the place the label of what stands under each of its keys, follows them now
+abbrev pub LinksPlace : {K : Type 0} → (K → Option ℕ) → List ℕ → List ℕ → (K → Type 0) → ℕ → Type 0
+LinksPlace {K} firsts links links' has place =
+    (label : ℕ → ℕ) → Follows links label → ((k : K) (i : ℕ) → has k → firsts k ≡ Some i → label i ≡ label place)
+    → Follows links' label
+
+-- a label of two places has a size of more than one
 abbrev pub AreSized : List ℕ → List ℕ → Type 0
 AreSized sizes labels =
     (i j : ℕ) → i < j → j < length labels → slice_index_or labels i 0 ≡ slice_index_or labels j 0
@@ -40,7 +51,14 @@ AreSized sizes labels =
 abbrev pub together : {A : Type 0} → List (List A) → List A
 together groups = flat_map (λ group. group) groups
 
--- a stranger shares no key with one at another place, nor with a value of a group; and no two values of different groups share a key
+-- what is one number for values of the list that have a key in common is one number for all values of a group
+abbrev pub AreJoined : {A K : Type 0} → (A → K → Type 0) → List A → List (List A) → Type 0
+AreJoined {A} {K} has_key list groups =
+    (number : A → ℕ)
+    → ((x y : A) (k : K) → Contains list x → Contains list y → has_key x k → has_key y k → number x ≡ number y)
+    → (group : List A) (x y : A) → Contains groups group → Contains group x → Contains group y → number x ≡ number y
+
+-- a stranger shares no key with another stranger, nor with a value of a group, and no two values of different groups share a key
 pub record AreCutApart {A K : Type 0} (has_key : A → K → Type 0) (strangers : List A) (groups : List (List A)) : Type 0 where
   pub strangers_apart : AllPairs (ShareNoKey has_key) strangers
   pub beside : (x y : A) (group : List A) → Contains strangers x → Contains groups group → Contains group y → ShareNoKey has_key x y

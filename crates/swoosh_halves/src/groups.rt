@@ -1,9 +1,10 @@
 //! Values in groups, by the keys that they share.
 //!
-//! Guarantee: no two values of different groups share a key, and a stranger shares none with any other value. Cost: that of the labels,
-//! and three walks over them. Values are moved and never copied, and the room of each group is reserved once.
-ghost use Rattle.std.specs.Prelude.{◌≡◌, ◌↔◌, ◌<◌, ◌++◌, ◌∷◌, [], length, map, replicate, set, slice_index_or, IfOk, OnOk, Contains};
-ghost use Rattle.swoosh_halves.specs.Groups.{JoinsByKeys, AreLinks, AreSized, AreCutApart, together};
+//! Guarantee: the values of a group share keys, directly or through others; no two values of different groups share a key, and a
+//! stranger shares none with any other value. Cost: that of the labels, and three walks over them. Values are moved and never
+//! copied, and the room of each group is reserved once.
+ghost use Rattle.std.specs.Prelude.{◌≡◌, ◌↔◌, ◌<◌, ◌++◌, ℕ, ◌∷◌, [], length, map, replicate, set, slice_index_or, IfOk, OnOk, Contains};
+ghost use Rattle.swoosh_halves.specs.Groups.{JoinsByKeys, Follows, AreLinks, AreSized, AreCutApart, AreJoined, together};
 
 use crate::labels::labels_by_keys;
 use merge_laws::resolvable::Resolvable;
@@ -68,9 +69,13 @@ fn grouped<R: Resolvable>(
     requires labels { length labels.now ≡ length list.items }
     requires links { AreLinks labels.now }
     requires joined { JoinsByKeys R.has_key list.items (λ i. slice_index_or labels.now i 0) }
+    requires only { (label : ℕ → ℕ) → JoinsByKeys R.has_key list.items label
+        → Follows labels.now label }
     requires sizes { length sizes.now ≡ length list.items }
     requires sized { AreSized sizes.now labels.now }
     ensures apart { IfOk result (λ cut. AreCutApart R.has_key cut.0.items
+        (map (λ group. group.items) cut.1.items)) }
+    ensures joined { IfOk result (λ cut. AreJoined R.has_key list.items
         (map (λ group. group.items) cut.1.items)) }
     ensures members { IfOk result (λ cut. (x : R) → Contains list.items x
         ↔ Contains (cut.0.items ++ together (map (λ group. group.items) cut.1.items)) x) }
@@ -92,9 +97,10 @@ fn grouped<R: Resolvable>(
 
 /// The values of the list in groups, where those that share a key, directly or through others, are in one. A value that is alone in its
 /// group is a stranger instead. Returns `Memory` if allocation fails.
-// That the groups are small where few values share a key, no clause says: with one group of all values it would hold too.
 pub(crate) fn grouped_by_keys<R: Resolvable>(list: Vec<R>) -> Result<(Vec<R>, Vec<Vec<R>>), Memory>
     ensures apart { IfOk result (λ cut. AreCutApart R.has_key cut.0.items
+        (map (λ group. group.items) cut.1.items)) }
+    ensures joined { IfOk result (λ cut. AreJoined R.has_key list.items
         (map (λ group. group.items) cut.1.items)) }
     ensures members { IfOk result (λ cut. (x : R) → Contains list.items x
         ↔ Contains (cut.0.items ++ together (map (λ group. group.items) cut.1.items)) x) }

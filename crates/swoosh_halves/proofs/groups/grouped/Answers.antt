@@ -1,6 +1,6 @@
 use Rattle.std.proofs.Common.{◌≡◌, ◌<◌, ◌+◌, List, [], ◌++◌, ◌∷◌, length, map, get_or, refl, sym, ◌∙◌, ap, subst, append_assoc, append-nil, arith, length-append}
 use Rattle.std.proofs.lemmas.List.{nil_from_length, length_push, length-map, length-replicate, with_items_is}
-use Rattle.swoosh_halves.proofs.Grouping.{AreGrouped, grouped_none, grouped_stranger, grouped_more, cut_apart, cut_members}
+use Rattle.swoosh_halves.proofs.Grouping.{AreGrouped, grouped_none, grouped_stranger, grouped_more, groups_joined, cut_apart, cut_members}
 use Rattle.swoosh_halves.proofs.groups.grouped.Goals.{then-sizes-label-gt1+in_ok-put, else-sizes-label-gt1+in_ok-push}
 use Rattle.swoosh_halves.proofs.groups.grouped.Goals as goal
 
@@ -70,3 +70,8 @@ returns-clause-members g c =
     let all : c.args.list.items ≡ c.loop-value.yielded = c.loop-value.invariant.all ∙ ap (λ xs. c.loop-value.yielded ++ xs) none ∙ append-nil c.loop-value.yielded in
     cut_members c.args.list.items c.args.labels.now c.args.sizes.now c.loop-value.yielded c.loop-value.strangers.items
     (map (λ group. group.items) c.loop-value.groups.items) all c.loop-value.invariant.grouped
+
+pub returns-clause-joined : goal.returns-clause-joined
+returns-clause-joined g c =
+    groups_joined c.args.list.items c.args.labels.now c.args.sizes.now c.requires.labels c.requires.only c.loop-value.yielded c.loop-value.strangers.items
+    (map (λ group. group.items) c.loop-value.groups.items) c.loop-value.invariant.grouped

@@ -1,6 +1,6 @@
 use Rattle.std.proofs.Common.{◌≤◌, ◌+◌, get_or, sym, ◌∙◌, ap, arith}
 use Rattle.std.proofs.lemmas.List.{length_push, get_or_default, get_or_past}
-use Rattle.swoosh_halves.proofs.Linking.{IsLabel, labels_more, labels_earlier}
+use Rattle.swoosh_halves.proofs.Linking.{IsLabel, labels_more, labels_earlier, labels_own}
 use Rattle.swoosh_halves.proofs.labels.firsts_of_groups.Goals.{then-link-place, else-link-place}
 use Rattle.swoosh_halves.proofs.labels.firsts_of_groups.Goals as goal
 
@@ -27,4 +27,10 @@ loop-place-preserved c =
       size = length_push labels label ∙ ap (λ k. k + 1) size;
       earlier = labels_earlier links labels n label next so.earlier;
       follows = labels_more links labels n label next (λ i il. c.requires i (let test = c.loop-place-test.true in omega (arith, il, test))) so.follows;
+      only = λ f follows. labels_own links labels n label f next c.loop-place-test.true follows (so.only f follows);
     })
+
+pub returns-clause-only : goal.returns-clause-only
+returns-clause-only c = λ label follows i il.
+    let size = c.loop-place.invariant.size in
+    c.loop-place.invariant.only label follows i (omega (arith, il, size))

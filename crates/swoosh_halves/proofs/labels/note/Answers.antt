@@ -1,7 +1,7 @@
-use Rattle.std.proofs.Common.{length, sym, ap, subst}
+use Rattle.std.proofs.Common.{◌≡◌, length, refl, sym, ap, subst, inl, inr}
 use Rattle.indexmap.specs.IndexMap.{get}
 use Rattle.swoosh_halves.specs.Groups.{ArePlaces}
-use Rattle.swoosh_halves.proofs.Linking.{IsNoted-kept}
+use Rattle.swoosh_halves.proofs.Linking.{IsNoted-kept, adds_one, place_found}
 use Rattle.swoosh_halves.proofs.labels.note.Goals as goal
 
 pub link-requires-clause-one : goal.link-requires-clause-one
@@ -40,3 +40,28 @@ returns-else-first-place-clause-noted g c = (
   c.in_ok-first.ensures.there,
   λ label follows. ap label c.if-first-place.false,
 )
+
+pub returns-then-first-place-clause-adds : goal.returns-then-first-place-clause-adds
+returns-then-first-place-clause-adds g c =
+    let eq = g.K.PartialEq.eq in
+    let found = c.in_ok-first.ensures in
+    adds_one c.requires.exact (get eq c.args.firsts.now) (get eq c.first_place.new.firsts) c.args.key c.in_ok-first.first c.args.place found.there found.value found.others
+
+pub returns-then-first-place-clause-only : goal.returns-then-first-place-clause-only
+returns-then-first-place-clause-only g c = λ label follows joins.
+    let found = c.in_ok-first.ensures in
+    let first = c.in_ok-first.first in
+    let same : label first ≡ label c.args.place = elim (place_found (get g.K.PartialEq.eq c.args.firsts.now c.args.key) first c.args.place found.value) [
+      | inl old ↦ joins c.args.key first refl old
+      | inr new ↦ ap label new
+    ] in
+    (c.link.ensures.joined label).1 (follows, same)
+
+pub returns-else-first-place-clause-adds : goal.returns-else-first-place-clause-adds
+returns-else-first-place-clause-adds g c =
+    let eq = g.K.PartialEq.eq in
+    let found = c.in_ok-first.ensures in
+    adds_one c.requires.exact (get eq c.args.firsts.now) (get eq c.first_place.new.firsts) c.args.key c.in_ok-first.first c.args.place found.there found.value found.others
+
+pub returns-else-first-place-clause-only : goal.returns-else-first-place-clause-only
+returns-else-first-place-clause-only g c = λ label follows joins. follows

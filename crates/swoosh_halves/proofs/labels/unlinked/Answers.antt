@@ -24,3 +24,8 @@ returns-clause-links c = λ i il.
     let size = c.loop-place.invariant.size in
     let itself = c.loop-place.invariant.itself i (omega (arith, il, size)) in
     omega (arith, itself)
+
+pub returns-clause-all : goal.returns-clause-all
+returns-clause-all c = λ label i il.
+    let size = c.loop-place.invariant.size in
+    ap label (c.loop-place.invariant.itself i (omega (arith, il, size)))
