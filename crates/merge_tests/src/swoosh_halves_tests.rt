@@ -113,3 +113,29 @@ fn drawn_lists(rt: HostRuntime) -> Result<(), Fail> {
     }
     Ok(())
 }
+
+/// A stranger, a pair, a stranger and three sets of which the last joins the two before it, among 119 sets that are one group: twenty
+/// groups of five, and then a set that joins each of these groups to the next.
+fn mixed(alloc: Global) -> Result<Vec<u64>, Memory> {
+    let mut masks = Vec::new(alloc);
+    for place in 0u64..100 {
+        masks.push(1u64 << (40 + place % 20))?;
+    }
+    for mask in [0b1, 0b10, 0b10000, 0b100000, 0b1000, 0b110, 0b110000] {
+        masks.push(mask)?;
+    }
+    for place in 0u64..19 {
+        masks.push(3u64 << (40 + place))?;
+    }
+    Ok(masks)
+}
+
+#[test]
+fn groups_of_many_sizes(rt: HostRuntime) -> Result<(), Fail> {
+    let masks = mixed(rt.alloc())?;
+    for workers in 1..5 {
+        let found = resolved(&rt, rt.alloc(), masks.as_slice(), workers)?;
+        assert_eq!(rt; found.as_slice(), [0b1, 0b110, 0b1000, 0b110000, 0xF_FFFF_u64 << 40].as_slice());
+    }
+    Ok(())
+}

@@ -1,23 +1,57 @@
--- Strangers beside what the others resolve to.
-use Rattle.std.proofs.Common.{Bool, List, ◌++◌}
-use Rattle.std.specs.Prelude.{Contains}
+-- Lists that share no key, resolved side by side.
+use Rattle.std.proofs.Common.{◌≡◌, Bool, List, [], ◌∷◌, ◌++◌, length, get_or, map, refl, sym, ◌∙◌, ap, subst, inl, inr, arith, length-append}
+use Rattle.std.specs.Prelude.{Contains, AllPairs}
+use Rattle.std.proofs.lemmas.List.{get_or_append_left, get_or_at, flat_map_more, map-append, map_push}
+use Rattle.std.proofs.lemmas.List.Elements.{Contains-append_right, Contains-append_cases}
 use Rattle.merge_laws.specs.Resolution.{JoinLaws, MatchLaws, KeyLaws, member, IsResolution, DoNotMatch, AreApart}
-use Rattle.merge_laws.proofs.Places.{AllPairs-append}
+use Rattle.merge_laws.proofs.Places.{Contains-head, AllPairs-append}
 use Rattle.merge_laws.proofs.Resolutions.{IsDominated-refl, IsResolution-from_apart, IsResolution-append, apart-from_resolution}
 use Rattle.merge_laws.proofs.Tags.{member-from_tag}
-use Rattle.swoosh_halves.specs.Strangers.{ShareNoKey}
+use Rattle.swoosh_halves.specs.Groups.{ShareNoKey, AreCutApart, together}
+use Rattle.swoosh_halves.proofs.Grouping.{group_from_together}
+
+-- a value of a group shares no key with a stranger, nor with a value of an earlier group
+next_apart : {A K : Type 0} {has_key : A → K → Type 0} (strangers : List A) (front : List (List A)) (group : List A) (back : List (List A)) → AreCutApart has_key strangers (front ++ group ∷ back) → (x y : A) → Contains (strangers ++ together front) x → Contains group y → ShareNoKey has_key x y
+next_apart strangers front group back cut x y cx cy = elim (Contains-append_cases strangers (together front) x cx) [
+  | inl s ↦ cut.beside x y group s (Contains-append_right front (group ∷ back) group (Contains-head group back)) cy
+  | inr o ↦ (
+      let (l, ll, d) = group_from_together front x o in
+      let long = length-append front (group ∷ back) in
+      cut.groups_apart l (length front) [] ll (omega (arith, long)) x y
+      (subst (λ g. Contains g x) (sym (get_or_append_left front (group ∷ back) [] l ll)) d)
+      (subst (λ g. Contains g y) (sym (get_or_at front group back [] (length front) refl)) cy))
+]
 
 module _ {A K : Type 0} {match : A → A → Bool} {merge : A → A → A} {has_key : A → K → Type 0} {shares : A → A → Bool} (join : JoinLaws merge) (laws : MatchLaws match merge) (keys : KeyLaws match merge has_key shares) where
   -- values of which no two match are their own resolution
   itself : (list : List A) → AreApart match list → IsResolution match merge list list
   itself list apart = IsResolution-from_apart join laws list list (λ e c. member c) (λ x c. (x, c, IsDominated-refl join laws x)) apart
 
-  -- a block has its keys from the values, of which the strangers share none
-  pub strangers_beside : (strangers others blocks : List A) → AreApart match strangers → ((x y : A) → Contains strangers x → Contains others y → ShareNoKey has_key x y) → IsResolution match merge others blocks → IsResolution match merge (strangers ++ others) (strangers ++ blocks)
-  strangers_beside strangers others blocks apart none resolved =
-      let free : (x b : A) (k : K) → Contains strangers x → Contains blocks b → has_key x k → has_key b k → ⊥ = λ x b k cx cb hx hb.
-      let (y, cy, hy, d) = member-from_tag join laws keys.merged others b k (resolved.derived b cb) hb in
+  -- values that share no key do not match
+  keys_apart : (x y : A) → ShareNoKey has_key x y → DoNotMatch match x y
+  keys_apart x y none = ((λ m. let (k, hx, hy) = keys.matching x y m in none k hx hy), (λ m. let (k, hy, hx) = keys.matching y x m in none k hx hy))
+
+  -- so strangers are their own resolution
+  pub strangers_resolved : (strangers : List A) → AllPairs (ShareNoKey has_key) strangers → IsResolution match merge strangers strangers
+  strangers_resolved strangers none = itself strangers (λ i j d ij jl. keys_apart (get_or strangers i d) (get_or strangers j d) (none i j d ij jl))
+
+  -- a block has its keys from the values, so the blocks of lists that share no key share none, and stand side by side
+  pub resolved_beside : (I J E F : List A) → ((x y : A) → Contains I x → Contains J y → ShareNoKey has_key x y) → IsResolution match merge I E → IsResolution match merge J F → IsResolution match merge (I ++ J) (E ++ F)
+  resolved_beside I J E F none p q =
+      let free : (e f : A) → Contains E e → Contains F f → ShareNoKey has_key e f = λ e f ce cf k he hf.
+      let (x, cx, hx, up) = member-from_tag join laws keys.merged I e k (p.derived e ce) he in
+      let (y, cy, hy, up') = member-from_tag join laws keys.merged J f k (q.derived f cf) hf in
       none x y cx cy k hx hy in
-      IsResolution-append join laws strangers others strangers blocks (strangers ++ blocks) (itself strangers apart) resolved
-      (itself (strangers ++ blocks) (AllPairs-append (DoNotMatch match) strangers blocks apart (apart-from_resolution join laws others blocks resolved) (λ x b cx cb.
-      ((λ m. let (k, hx, hb) = keys.matching x b m in free x b k cx cb hx hb), (λ m. let (k, hb, hx) = keys.matching b x m in free x b k cx cb hx hb)))))
+      IsResolution-append join laws I J E F (E ++ F) p q
+      (itself (E ++ F) (AllPairs-append (DoNotMatch match) E F (apart-from_resolution join laws I E p) (apart-from_resolution join laws J F q)
+      (λ e f ce cf. keys_apart e f (free e f ce cf))))
+
+  -- one group more is resolved beside the strangers and the groups before it
+  pub resolved_more : {G : Type 0} (strangers : List A) (groups front rest : List G) (group : G) (values : G → List A) (all blocks : List A) → groups ≡ front ++ group ∷ rest → AreCutApart has_key strangers (map values groups) → IsResolution match merge (strangers ++ together (map values front)) all → IsResolution match merge (values group) blocks → IsResolution match merge (strangers ++ together (map values (front ++ group ∷ []))) (all ++ blocks)
+  resolved_more strangers groups front rest group values all blocks whole cut done new =
+      let lists : map values groups ≡ map values front ++ values group ∷ map values rest = ap (map values) whole ∙ map-append values front (group ∷ rest) in
+      let more : (strangers ++ together (map values front)) ++ values group ≡ strangers ++ together (map values (front ++ group ∷ [])) =
+      flat_map_more (λ g. g) strangers (map values front) (values group) ∙ ap (λ ls. strangers ++ together ls) (sym (map_push values front group)) in
+      subst (λ list. IsResolution match merge list (all ++ blocks)) more
+      (resolved_beside (strangers ++ together (map values front)) (values group) all blocks
+      (next_apart strangers (map values front) (values group) (map values rest) (subst (AreCutApart has_key strangers) lists cut)) done new)

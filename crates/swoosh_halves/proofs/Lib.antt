@@ -1,4 +1,4 @@
-mod Noting
-mod Parting
+mod Linking
+mod Grouping
 mod Joining
 mod Indexing

@@ -1,25 +1,38 @@
 //! Resolving by halves.
 //!
 //! Guarantee: the answer is a resolution of the list. Cost: see the head of the crate.
-ghost use Rattle.std.specs.Prelude.{◌≤◌, IfOk};
+ghost use Rattle.std.specs.Prelude.{◌≤◌, ◌++◌, map, IfOk};
 ghost use Rattle.std.specs.Thread.{IsSync, IsSend};
 ghost use Rattle.merge_laws.specs.Resolution.{IsResolution};
+ghost use Rattle.swoosh_halves.specs.Groups.{AreCutApart, together};
 
+use crate::groups::grouped_by_keys;
 use crate::indexed::resolve_by_halves;
-use crate::strangers::parted_by_keys;
 use merge_laws::laws::resolution_goes_on;
 use merge_laws::resolvable::Resolvable;
 use std::thread::{Threads, join};
 use union_base::memory::Memory;
 
-/// The resolution of the list: the strangers among its values are tested against none, and the others by halves.
+/// The resolution of the strangers and of the values of all groups, where these share no key: each group is resolved by itself.
+/// Returns `Memory` if allocation fails.
+fn resolve_groups<R: Resolvable>(strangers: Vec<R>, groups: Vec<Vec<R>>) -> Result<Vec<R>, Memory>
+    requires { AreCutApart R.has_key strangers.items (map (λ group. group.items) groups.items) }
+    ensures { IfOk result (λ all. IsResolution R.meets R.join
+        (strangers.items ++ together (map (λ group. group.items) groups.items)) all.items) }
+{
+    let mut all = strangers;
+    for group in groups {
+        all.append(&mut resolve_by_halves(group)?)?;
+    }
+    Ok(all)
+}
+
+/// The resolution of the list, by groups of values that share keys. Returns `Memory` if allocation fails.
 fn resolved<R: Resolvable>(list: Vec<R>) -> Result<Vec<R>, Memory>
     ensures { IfOk result (λ all. IsResolution R.meets R.join list.items all.items) }
 {
-    let (strangers, others) = parted_by_keys(list)?;
-    let mut all = strangers;
-    all.append(&mut resolve_by_halves(others)?)?;
-    Ok(all)
+    let (strangers, groups) = grouped_by_keys(list)?;
+    resolve_groups(strangers, groups)
 }
 
 /// The resolution of the list by 1 to 64 workers, in an order that is not fixed. Each half of the list is resolved by half of

@@ -1,0 +1,112 @@
+//! Values in groups, by the keys that they share.
+//!
+//! Guarantee: the values of a group share keys, directly or through others; no two values of different groups share a key, and a
+//! stranger shares none with any other value. Cost: that of the labels, and three walks over them. Values are moved and never
+//! copied, and the room of each group is reserved once.
+ghost use Rattle.std.specs.Prelude.{◌≡◌, ◌↔◌, ◌<◌, ◌++◌, ℕ, ◌∷◌, [], length, map, replicate, set, slice_index_or, IfOk, OnOk, Contains};
+ghost use Rattle.swoosh_halves.specs.Groups.{JoinsByKeys, Follows, AreLinks, AreSized, AreCutApart, AreJoined, together};
+
+use crate::labels::labels_by_keys;
+use merge_laws::resolvable::Resolvable;
+use std::alloc::Global;
+use union_base::memory::Memory;
+
+/// Adds to the size of each label how many places have it.
+fn count_places(sizes: &mut [usize], labels: &[usize])
+    requires none { sizes.old ≡ replicate (length labels.now) 0 }
+    requires links { AreLinks labels.now }
+    ensures { AreSized sizes.new labels.now }
+{
+    for label in labels {
+        sizes[*label] += 1;
+    }
+}
+
+/// How many places have each label. Returns `Memory` if allocation fails.
+fn sizes_of(alloc: Global, labels: &[usize]) -> Result<Vec<usize>, Memory>
+    requires { AreLinks labels.now }
+    ensures length { IfOk result (λ sizes. length sizes.items ≡ length labels.now) }
+    ensures sized { IfOk result (λ sizes. AreSized sizes.items labels.now) }
+{
+    let mut sizes = vec![in alloc; 0; labels.len()]?;
+    count_places(sizes.as_mut_slice(), labels);
+    Ok(sizes)
+}
+
+/// An empty group for each size, with the room for so many values where these are more than one. Returns `Memory` if allocation
+/// fails.
+fn rooms<R: Drop>(alloc: Global, sizes: &[usize]) -> Result<Vec<Vec<R>>, Memory>
+    ensures { IfOk result (λ groups. map (λ group. group.items) groups.items
+        ≡ replicate (length sizes.now) []) }
+{
+    let mut groups = Vec::with_capacity(alloc, sizes.len())?;
+    for size in sizes {
+        let room = if *size > 1 { *size } else { 0 };
+        groups.push(Vec::with_capacity(alloc, room)?)?;
+    }
+    Ok(groups)
+}
+
+/// Puts the value last in the group at the place. Returns `Memory` if allocation fails.
+fn put<R: Drop>(groups: &mut [Vec<R>], place: usize, value: R) -> Result<(), Memory>
+    requires { place < length groups.old }
+    ensures { OnOk result (map (λ group. group.items) groups.new
+        ≡ set (map (λ group. group.items) groups.old) place
+        (slice_index_or (map (λ group. group.items) groups.old) place [] ++ value ∷ [])) }
+{
+    groups[place].push(value)?;
+    Ok(())
+}
+
+/// The values of the list that are alone under their labels, and a group of values for each label. Returns `Memory` if allocation
+/// fails.
+fn grouped<R: Resolvable>(
+    alloc: Global,
+    list: Vec<R>,
+    labels: &[usize],
+    sizes: &[usize],
+) -> Result<(Vec<R>, Vec<Vec<R>>), Memory>
+    requires labels { length labels.now ≡ length list.items }
+    requires links { AreLinks labels.now }
+    requires joined { JoinsByKeys R.has_key list.items (λ i. slice_index_or labels.now i 0) }
+    requires only { (label : ℕ → ℕ) → JoinsByKeys R.has_key list.items label
+        → Follows labels.now label }
+    requires sizes { length sizes.now ≡ length list.items }
+    requires sized { AreSized sizes.now labels.now }
+    ensures apart { IfOk result (λ cut. AreCutApart R.has_key cut.0.items
+        (map (λ group. group.items) cut.1.items)) }
+    ensures joined { IfOk result (λ cut. AreJoined R.has_key list.items
+        (map (λ group. group.items) cut.1.items)) }
+    ensures members { IfOk result (λ cut. (x : R) → Contains list.items x
+        ↔ Contains (cut.0.items ++ together (map (λ group. group.items) cut.1.items)) x) }
+{
+    let mut strangers = Vec::with_capacity(alloc, list.len())?;
+    let mut groups = rooms(alloc, sizes)?;
+    let mut place = 0;
+    for value in list {
+        let label = labels[place];
+        if sizes[label] > 1 {
+            put(groups.as_mut_slice(), label, value)?;
+        } else {
+            strangers.push(value)?;
+        }
+        place += 1;
+    }
+    Ok((strangers, groups))
+}
+
+/// The values of the list in groups, where those that share a key, directly or through others, are in one. A value that is alone in its
+/// group is a stranger instead. Returns `Memory` if allocation fails.
+pub(crate) fn grouped_by_keys<R: Resolvable>(list: Vec<R>) -> Result<(Vec<R>, Vec<Vec<R>>), Memory>
+    ensures apart { IfOk result (λ cut. AreCutApart R.has_key cut.0.items
+        (map (λ group. group.items) cut.1.items)) }
+    ensures joined { IfOk result (λ cut. AreJoined R.has_key list.items
+        (map (λ group. group.items) cut.1.items)) }
+    ensures members { IfOk result (λ cut. (x : R) → Contains list.items x
+        ↔ Contains (cut.0.items ++ together (map (λ group. group.items) cut.1.items)) x) }
+{
+    let alloc = *list.allocator();
+    let labels = labels_by_keys(alloc, list.as_slice())?;
+    let sizes = sizes_of(alloc, labels.as_slice())?;
+    grouped(alloc, list, labels.as_slice(), sizes.as_slice())
+}
