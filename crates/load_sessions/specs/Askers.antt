@@ -1,6 +1,5 @@
 -- What an asker is told.
-use Rattle.std.specs.Prelude.{◌≡◌, ◌⊎◌, ℕ, ◌≤◌, ⊤, List, [], ◌∷◌, length, take, Option, Some, None}
-use Rattle.std.proofs.Common.{inl, inr, MutBor}
+use Rattle.std.specs.Prelude.{◌≡◌, ◌⊎◌, ℕ, ◌≤◌, ⊤, List, [], ◌∷◌, length, take}
 use Rattle.authority_names.specs.Leads.{Table}
 use Rattle.catalogue_editions.specs.declared.batch.Batch.{Batch}
 use Rattle.catalogue_lock.specs.History.{IsPrefix}
@@ -43,16 +42,3 @@ pub record Asks (desk : TableId) (before now : Asker) : Type 0 where
   pub ends : (now.end ≡ Done) ⊎ (now.end ≡ Memory)
   -- Done: there is a reply to each question
   pub all : now.end ≡ Done → length now.replies.items ≡ length before.questions.items
-
--- the same of an asker, if there is one
-abbrev pub IsAskerIf : TableId → Option (MutBor Asker) → Type 0
-IsAskerIf desk None = ⊤
-IsAskerIf desk (Some asker) = IsAsker desk asker.now
-
--- what was lent is back: the asker, if there was one
-abbrev pub AsksIf : TableId → Option (MutBor Asker) → Unit {0} ⊎ ((MutBor Asker × Unit {0}) ⊎ ⊥) → Type 0
-AsksIf desk None (inl back) = ⊤
-AsksIf desk None (inr back) = ⊥
-AsksIf desk (Some asker) (inl back) = ⊥
-AsksIf desk (Some asker) (inr (inl back)) = Asks desk asker.now back.0.now
-AsksIf desk (Some asker) (inr (inr none)) = ⊥

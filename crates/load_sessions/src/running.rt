@@ -1,7 +1,7 @@
 //! The running of sessions.
 ghost use Rattle.std.specs.Prelude.{◌≡◌, ◌<◌, ◌≤◌, All};
 ghost use Rattle.library_batches.specs.Reading.{begun};
-ghost use Rattle.load_sessions.specs.Askers.{Asks, AsksIf, IsAsker, IsAskerIf};
+ghost use Rattle.load_sessions.specs.Askers.{Asks, IsAsker};
 ghost use Rattle.load_sessions.specs.Sessions.{IsReady, Runs, RunsEach, counts_of};
 ghost use Rattle.load_sessions.specs.Turning.{Ends};
 
@@ -139,17 +139,25 @@ fn run_each<R: Threads + Wait + Sync, S: Source + Send, G: Gate>(
     thread::for_each_mut(rt, sessions, workers as usize, &each);
 }
 
-/// Runs the sessions, and the asker beside them, or after them with one worker.
-fn run_with_asker<R: Threads + Wait + Sync, S: Source + Send, G: Gate>(
+/// Runs sessions at the desk, and an asker beside them, and answers when each has ended; it waits. No end is NotRun then.
+///
+/// Each session reads its source, cuts and checks its frames, and makes a turn with its pass for each batch of accepted
+/// operations; `gate` is told before and after each turn. With one worker the sessions run in their order and the asker runs
+/// last. With more they run on `workers` threads, each of which has neighbouring sessions, and the asker runs beside them.
+///
+/// A session ends with `ReadFault` only where a read of its source failed, with `TooLong` where its source gave `limit` bytes
+/// and at least one more, with `Memory` where allocation failed, and else with `Done`. The batches that a session turned are the
+/// first ones of its source whatever its end, and all of them where it is `Done`.
+pub fn run_sessions<R: Threads + Wait + Sync, S: Source + Send, G: Gate>(
     rt: &R,
     alloc: Global,
     desk: &Desk<Served>,
-    gate: &G,
     sessions: &mut [Session<S>],
     asker: &mut Asker,
     workers: u32,
+    gate: &G,
 )
-    requires some { 1 ≤ workers }
+    requires least { 1 ≤ workers }
     requires most { workers ≤ 64 }
     requires ready { All (IsReady desk.now.board.shared.table_id) sessions.old }
     requires asker { IsAsker desk.now.board.shared.table_id asker.old }
@@ -172,36 +180,4 @@ fn run_with_asker<R: Threads + Wait + Sync, S: Source + Send, G: Gate>(
         { run_each(rt, alloc, desk, gate, sessions, workers) },
         &mut || ask_all(rt, alloc, desk, asker),
     );
-}
-
-/// Runs sessions at the desk, and an asker beside them, and answers when each has ended; it waits. No end is NotRun then.
-///
-/// Each session reads its source, cuts and checks its frames, and makes a turn with its pass for each batch of accepted
-/// operations; `gate` is told before and after each turn. With one worker the sessions run in their order and the asker runs
-/// last. With more they run on `workers` threads, each of which has neighbouring sessions, and the asker runs beside them.
-///
-/// A session ends with `ReadFault` only where a read of its source failed, with `TooLong` where its source gave `limit` bytes
-/// and at least one more, with `Memory` where allocation failed, and else with `Done`. The batches that a session turned are the
-/// first ones of its source whatever its end, and all of them where it is `Done`.
-pub fn run_sessions<R: Threads + Wait + Sync, S: Source + Send, G: Gate>(
-    rt: &R,
-    alloc: Global,
-    desk: &Desk<Served>,
-    sessions: &mut [Session<S>],
-    asker: Option<&mut Asker>,
-    workers: u32,
-    gate: &G,
-)
-    requires least { 1 ≤ workers }
-    requires most { workers ≤ 64 }
-    requires ready { All (IsReady desk.now.board.shared.table_id) sessions.old }
-    requires asker { IsAskerIf desk.now.board.shared.table_id asker }
-    ensures sessions { RunsEach S.name S.left S.faults desk.now.board.shared.table_id sessions.old
-        sessions.new }
-    ensures asker { AsksIf desk.now.board.shared.table_id asker.entry asker.exit }
-{
-    match asker {
-        Some(asker) => run_with_asker(rt, alloc, desk, gate, sessions, asker, workers),
-        None => run_each(rt, alloc, desk, gate, sessions, workers),
-    }
 }

@@ -1,6 +1,7 @@
 //! Two libraries at one desk, on one worker and on two, beside an asker; and the limit of a source.
 ghost use Rattle.std.specs.Prelude.{◌≤◌, ◌+◌, IfOk};
 ghost use Rattle.catalogue_lock.specs.Tokens.{IsRootOf, root_of};
+ghost use Rattle.load_sessions.specs.Askers.{IsAsker};
 ghost use Rattle.load_sessions.specs.Sessions.{IsReady};
 
 use authority_names::name_table::NameTable;
@@ -55,6 +56,16 @@ fn session_at(
     Ok(Session::new(alloc, library, source, limit, &prefer, pass))
 }
 
+/// An asker who has no question.
+fn silent_asker(alloc: Global, desk: &Desk<Served>, root: &mut Root<Served>) -> Asker
+    requires desk { IsRootOf root.old desk.now }
+    requires few { (root_of root.old).made ≤ 10 }
+    ensures { IsAsker desk.now.board.shared.table_id result }
+{
+    let pass = desk.make_pass(root);
+    Asker::new(alloc, pass, Vec::new(alloc))
+}
+
 /// Whether the session ended with Done and has the report of the stream.
 fn is_done(session: &Session<SureSource>) -> bool {
     let report = &session.report;
@@ -88,7 +99,7 @@ fn are_loaded<R: Threads + Wait + Sync>(
         alloc,
         &desk,
         &mut sessions,
-        Some(&mut asker),
+        &mut asker,
         workers,
         &OpenGate,
     );
@@ -123,8 +134,9 @@ fn limited<R: Threads + Wait + Sync>(
     }
     let (desk, mut root) = Desk::open(alloc, Served::open(alloc, NameTable::empty(alloc))?)?;
     let session = session_at(alloc, &desk, &mut root, library, content.as_slice(), 228)?;
+    let mut asker = silent_asker(alloc, &desk, &mut root);
     let mut sessions = [session];
-    run_sessions(rt, alloc, &desk, &mut sessions, None, 4, &OpenGate);
+    run_sessions(rt, alloc, &desk, &mut sessions, &mut asker, 4, &OpenGate);
     let [session] = sessions;
     Ok(session)
 }
@@ -185,7 +197,8 @@ fn told<R: Threads + Wait + Sync>(
         before: AtomicU64::new(0),
         after: AtomicU64::new(0),
     };
-    run_sessions(rt, alloc, &desk, &mut sessions, None, 1, &gate);
+    let mut asker = silent_asker(alloc, &desk, &mut root);
+    run_sessions(rt, alloc, &desk, &mut sessions, &mut asker, 1, &gate);
     let before = gate.before.load(Ordering::SeqCst);
     let after = gate.after.load(Ordering::SeqCst);
     Ok((before, after))

@@ -9,7 +9,7 @@ use Rattle.union_io.specs.Writing.{AppendsFront}
 use Rattle.union_inputs.specs.Inputs as all
 use Rattle.union_inputs.specs.Inputs.{Contents}
 use Rattle.union_inputs.proofs.FileLaws.{Counts, flow, stops_before}
-use Rattle.union_inputs.proofs.InputLaws.{told, within_none, on_both}
+use Rattle.union_inputs.proofs.InputLaws.{told, within_none, on_both, on_files}
 use Rattle.union_words.specs.Words.{LibraryFile, Loading}
 use Rattle.union_words.specs.declared.status.Status.{Status}
 use Rattle.union_words.specs.declared.status.Status.TheVariants.{OpenFault, ReadFault, Usage, WriteFault, TooLong, Memory}
@@ -23,11 +23,6 @@ use Rattle.union_files.specs.Runs.{RunTexts, IsRunOver}
 use Rattle.union_files.specs.declared.loaded.Loaded.{Loaded}
 use Rattle.union_files.proofs.RunLaws.{stopped_first, within_all}
 use Rattle.union_commands.specs.Runs.{deliveries_of, Showing, IsUnionOf, IsUnionRun, HasTurned, IsReported, Written, Shows}
-
-pub on_told : {P Q : (List ℕ → List ℕ) → Type 0} (files : Option (List ℕ → List ℕ)) → ((contents : List ℕ → List ℕ) → P contents → Q contents)
-    → IfSome files P → IfSome files Q
-on_told None follows holds = tt
-on_told (Some contents) follows holds = follows contents holds
 
 -- the statuses of a run that wrote what was loaded
 end-done : (refused : Bool) → is_done (end_by refused) ≡ true
@@ -83,7 +78,7 @@ ended_run AreTexts refused shown noted status first libraries shelf out notes ca
       write_fault = fault;
       other = λ is. other-end refused status Usage written.kinds refl (λ e. cc) (λ e. cc) is;
       too_long = λ i is. absurd (other-end refused status (TooLong i) written.kinds refl (λ e. cc) (λ e. cc) is);
-      done = λ done. on_told shelf.files
+      done = λ done. on_files shelf.files
           (λ contents holds. (
             holds.0,
             (
@@ -96,8 +91,8 @@ ended_run AreTexts refused shown noted status first libraries shelf out notes ca
           ))
           read;
       untouched = λ early other. absurd (other (early-memory refused status written.kinds early));
-      memory = λ is. inr (on_told shelf.files (λ contents holds. (holds.0, (end_by refused, (shown, noted, holds.1, (written.memory is).0)))) read);
-      part = λ is. on_told shelf.files (λ contents holds. (holds.0, (end_by refused, (shown, noted, holds.1, written.part is)))) read;
+      memory = λ is. inr (on_files shelf.files (λ contents holds. (holds.0, (end_by refused, (shown, noted, holds.1, (written.memory is).0)))) read);
+      part = λ is. on_files shelf.files (λ contents holds. (holds.0, (end_by refused, (shown, noted, holds.1, written.part is)))) read;
       too_long_where = λ contents i is found none.
           absurd (within_none contents (first ++ inputs_of libraries) i
           (told (λ contents. all.AreWithin contents (first ++ inputs_of libraries) × AreTexts contents shown noted (end_by refused)) shelf.files contents is read).0
@@ -155,12 +150,16 @@ stopped_at_names AreTexts status before (Some path) libraries files a b c out no
     stopped_first AreTexts status before (names_file path) [] libraries (flow files a c) out notes fits
     (stops_before status (names_file path) files a b c same stops) keeps
 
--- and what is noted then
+-- what is noted where two texts were to be written and the run ended early: memory ran out
+pub written_noted : (shown noted : List ℕ) (refused : Bool) (status : Status) (out notes : Outflow) → Written shown noted (end_by refused) out notes status
+    → IsTrue (is_early status) → IsNoted notes (early_text status)
+written_noted shown noted refused status out notes written early =
+    let is = early-memory refused status written.kinds early in subst (λ s. IsNoted notes (early_text s)) (sym is) (written.memory is).1
+
+-- the same of a catalogue that was shown
 pub loaded_noted : (showing : Showing) (loaded : Loaded) (status : Status) (out notes : Outflow) → Shows showing loaded out notes status
     → IsTrue (is_early status) → IsNoted notes (early_text status)
-loaded_noted showing loaded status out notes shows early =
-    let is = early-memory loaded.refused status shows.2.kinds early in
-    subst (λ s. IsNoted notes (early_text s)) (sym is) (shows.2.memory is).1
+loaded_noted showing loaded status out notes shows early = written_noted _ _ loaded.refused status out notes shows.2 early
 
 -- a whole text is a prefix of itself
 front-of_whole : (old new : Option (List ℕ)) (text : List ℕ) → Appends old new text → AppendsFront old new text

@@ -1,5 +1,5 @@
 -- A run of `watch` or `follow` that loaded and asked, and wrote what it came to.
-use Rattle.std.proofs.Common.{◌≡◌, ℕ, ◌≤◌, Bool, List, ◌∷◌, [], ◌++◌, length, map, refl, ap, subst, ◌∙◌}
+use Rattle.std.proofs.Common.{◌≡◌, ℕ, Bool, List, length, refl, ap, subst, ◌∙◌}
 use Rattle.std.specs.Prelude.{◌||◌, IfSome}
 use Rattle.std.specs.List.{list_any}
 use Rattle.names_file.specs.Named.{Named, IsNamedBy}

@@ -1,35 +1,19 @@
 -- What comes of inputs one after the other.
-use Rattle.std.proofs.Common.{◌≡◌, ℕ, ◌+◌, ◌≤◌, Bool, true, false, cond, List, [], ◌∷◌, length, inl, inr, refl, sym, ap, subst, ◌∙◌, arith}
-use Rattle.std.specs.Prelude.{◌<◌, Option, Some, None, IfSome, nat_eq, nat_lt, drop, slice_get}
-use Rattle.std.specs.Option.{option_map}
-use Rattle.std.specs.Cmp.Lexicographic.{pointwise, bytes_decides}
+use Rattle.std.proofs.Common.{◌≡◌, ℕ, ◌+◌, false, List, ◌∷◌, inr, sym, ap, subst, ◌∙◌}
+use Rattle.std.specs.Prelude.{Option, Some, drop, slice_get}
 use Rattle.std.proofs.lemmas.Option.{slice_get_within, get_or_from_slice_get}
 use Rattle.std.proofs.lemmas.List.{drop_more}
-use Rattle.std.proofs.lemmas.Bool.Decides.{nat_tests}
-use Rattle.union_io.specs.Files.{told_file}
 use Rattle.union_io.specs.Causes.{Rose}
-use Rattle.union_io.specs.Counts.{SameCounts, SameElsewhere}
+use Rattle.union_io.specs.Counts.{SameCounts}
 use Rattle.union_io.specs.Names.{AddsName}
 use Rattle.union_words.specs.Words.{LibraryFile}
 use Rattle.union_words.specs.declared.input.Input.{Input}
-use Rattle.union_words.specs.declared.input.Input.TheVariants.{Library}
 use Rattle.union_words.specs.declared.status.Status.{Status}
 use Rattle.union_words.specs.declared.status.Status.TheVariants.{Done, DoneWithRefusals, Usage, OpenFault, ReadFault, WriteFault, TooLong, Memory}
-use Rattle.union_words.specs.Flows.{ShelfFlow, FailsAt}
-use Rattle.union_files.specs.Inputs.{input_of, inputs_of, IsTooLongAt, StopsAt, StopsOpening, OpensInOrder, is_open_fault}
-
--- the counts of a shelf
-abbrev Counts : Type 0
-Counts = List ℕ → ℕ
-
-abbrev Contents : Type 0
-Contents = List ℕ → List ℕ
-
-abbrev pub flow : Option Contents → Counts → Counts → ShelfFlow
-flow files before after = record { files = files; before = before; after = after }
-
-pub same_more : (a b c : Counts) → SameCounts a b → SameCounts b c → SameCounts a c
-same_more a b c p q = λ name. q name ∙ p name
+use Rattle.union_words.specs.Flows.{FailsAt}
+use Rattle.union_inputs.specs.Inputs.{Contents}
+use Rattle.union_inputs.proofs.FileLaws.{Counts, flow, same_more}
+use Rattle.union_files.specs.Inputs.{inputs_of, StopsOpening, OpensInOrder, is_open_fault}
 
 fails_later : (input : Input) (libraries : List LibraryFile) (files : Option Contents) (a b c : Counts) → FailsAt (inputs_of libraries) (flow files a b) input
     → SameCounts b c → FailsAt (inputs_of libraries) (flow files a c) input

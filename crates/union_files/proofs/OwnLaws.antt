@@ -1,13 +1,13 @@
 -- Which records of a library are current, and what comes of its operations, depends on its own operations alone.
-use Rattle.std.proofs.Common.{◌≡◌, ◌≢◌, ℕ, Bool, true, false, cond, ◌&&◌, List, [], ◌∷◌, ◌++◌, length, refl, sym, ap, subst, ◌∙◌, ◌==◌, eq-eqb, arith}
-use Rattle.std.specs.Prelude.{T, fold, map, filter, is_some, Some, None, Option, nat_eq, nat_le}
+use Rattle.std.proofs.Common.{◌≡◌, ◌≢◌, ℕ, Bool, true, false, cond, ◌&&◌, List, [], ◌∷◌, refl, sym, ap, subst, ◌∙◌}
+use Rattle.std.specs.Prelude.{T, fold, is_some, Some, None}
 use Rattle.std.specs.declared.cmp.Ordering.{Ordering}
 use Rattle.std.specs.declared.cmp.Ordering.TheVariants.{Less, Equal, Greater}
 use Rattle.std.specs.Ordering.{match_ordering, is_lt, is_eq, ordering_reverse}
-use Rattle.std.specs.Cmp.Lexicographic.{pointwise, bytes_decides}
-use Rattle.std.specs.List.{list_all, AllByRecursion}
+use Rattle.std.specs.Cmp.Lexicographic.{bytes_decides}
+use Rattle.std.specs.List.{list_all}
 use Rattle.std.specs.BTreeMap.{is_at, insert_entry}
-use Rattle.std.specs.Map.{lookup, remove_entry}
+use Rattle.std.specs.Map.{remove_entry}
 use Rattle.std.specs.FinMap.Entries.{by_order, put, find, below_all, is_sorted, is_sorted-put, find-put, same_entries}
 use Rattle.union_base.specs.Both.{both_true}
 use Rattle.union_base.specs.IdLaws.{ids_apart}
@@ -16,7 +16,7 @@ use Rattle.field_merge.specs.Kept.{id_cmp}
 use Rattle.field_merge.specs.KeptLaws.{id_total}
 use Rattle.catalogue_editions.specs.Batches.{is_one_of, is_own, has_one_level, is_own_op}
 use Rattle.catalogue_editions.specs.Ids.{first_id, least}
-use Rattle.catalogue_core.specs.Histories.{MapOf, at_id, is_current, id_of, after_op, after_batch, outcome_of, outcomes}
+use Rattle.catalogue_core.specs.Histories.{MapOf, at_id, id_of, after_op, after_batch, outcome_of, outcomes}
 use Rattle.catalogue_editions.specs.declared.batch.Batch.{Batch}
 use Rattle.catalogue_editions.specs.declared.edition.Edition.{Edition}
 use Rattle.catalogue_editions.specs.declared.op.Op.{Op}

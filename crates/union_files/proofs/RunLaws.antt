@@ -1,7 +1,6 @@
 -- Runs that stop at their inputs: at one of the files that are read first, or at those of libraries.
-use Rattle.std.proofs.Common.{◌≡◌, ℕ, ◌≤◌, Bool, true, false, cond, IsTrue, List, [], ◌∷◌, ◌++◌, length, inl, inr, refl, sym, ap, subst, ◌∙◌}
+use Rattle.std.proofs.Common.{◌≡◌, ◌≤◌, true, false, cond, IsTrue, List, [], ◌∷◌, ◌++◌, length, inl, inr, refl, sym, ap, subst, ◌∙◌}
 use Rattle.std.specs.Prelude.{◌<◌, ◌⊎◌, Option, Some, None, IfSome}
-use Rattle.std.specs.List.{find}
 use Rattle.std.specs.Option.{option_map, option_or}
 use Rattle.std.specs.Io.KnownBytes.{Keeps}
 use Rattle.std.proofs.lemmas.Bool.{lt-ltb}
@@ -19,13 +18,10 @@ use Rattle.union_words.specs.declared.status.Status.TheVariants.{Done, DoneWithR
 use Rattle.union_inputs.specs.Inputs as all
 use Rattle.union_inputs.specs.Readings as one
 use Rattle.union_inputs.specs.Inputs.{Contents}
+use Rattle.union_inputs.proofs.FileLaws.{Counts, flow, same_more}
 use Rattle.union_inputs.proofs.InputLaws.{not_over, none_fails, told, within_none, on_both}
-use Rattle.union_files.specs.Inputs.{input_of, inputs_of, is_overfull, first_overfull, AreWithin, IsTooLongAt, IsElsewhere, IsEarliest, FailsEarliest, StopsAt}
+use Rattle.union_files.specs.Inputs.{input_of, inputs_of, is_overfull, first_overfull, AreWithin, IsTooLongAt, IsEarliest, FailsEarliest, StopsAt}
 use Rattle.union_files.specs.Runs.{RunTexts, IsRunOver}
-use Rattle.union_files.proofs.InputLaws.{flow, same_more}
-
-abbrev Counts : Type 0
-Counts = List ℕ → ℕ
 
 -- how the input of a file is named
 abbrev named : InputFile → Input

@@ -1,6 +1,6 @@
 -- Two unions of the same deliveries have the same editions.
-use Rattle.std.proofs.Common.{◌≡◌, ◌≢◌, ℕ, zero, suc, ◌==◌, Bool, true, false, cond, List, [], ◌∷◌, length, map, refl, sym, ap, subst, ◌∙◌, arith, inl, inr, eq-eqb}
-use Rattle.std.specs.Prelude.{◌⊎◌, Some, None, Option, Contains, slice_get, filter, fold, nat_eq}
+use Rattle.std.proofs.Common.{◌≡◌, ◌≢◌, ℕ, zero, suc, ◌==◌, true, false, cond, List, [], ◌∷◌, length, map, refl, sym, ap, subst, ◌∙◌, arith, inl, inr, eq-eqb}
+use Rattle.std.specs.Prelude.{◌⊎◌, Some, None, Contains, slice_get, filter, fold, nat_eq}
 use Rattle.std.specs.Map.{values_of}
 use Rattle.std.specs.List.{AllByRecursion}
 use Rattle.std.specs.Cmp.Lexicographic.{pointwise, bytes_decides}
@@ -8,9 +8,8 @@ use Rattle.std.proofs.lemmas.Bool.Decides.{nat_tests}
 use Rattle.std.proofs.lemmas.Option.{same_Some, slice_get_within, slice_get_read, get_or_from_slice_get}
 use Rattle.union_base.specs.declared.record_id.RecordId.{RecordId}
 use Rattle.catalogue_editions.specs.Resolutions.{IsOrderedResolution}
-use Rattle.catalogue_editions.specs.declared.batch.Batch.{Batch}
 use Rattle.catalogue_editions.specs.declared.edition.Edition.{Edition}
-use Rattle.catalogue_core.specs.Histories.{MapOf, at_id, after_batch, current, bases}
+use Rattle.catalogue_core.specs.Histories.{MapOf, at_id, after_batch, current}
 use Rattle.catalogue_core.specs.declared.history_entry.HistoryEntry.{HistoryEntry}
 use Rattle.catalogue_core.proofs.SameEditions.{same_editions_of}
 use Rattle.library_batches.specs.Batches.{AreBatches}
@@ -18,7 +17,7 @@ use Rattle.library_batches.proofs.SameLaws.{one-batches}
 use Rattle.union_files.specs.Deliveries.{Delivery, Stream, delivered, codes_of, AreDistinct, batches_of}
 use Rattle.union_files.specs.Interleavings.{batches_under, IsInterleaving}
 use Rattle.union_files.specs.Unions.{IsUnion, AreSameDeliveries}
-use Rattle.union_files.proofs.InterleavingLaws.{each-at, mapped-at, unmapped-at, apart-at, IsOf, entries-of}
+use Rattle.union_files.proofs.InterleavingLaws.{mapped-at, unmapped-at, apart-at, IsOf, entries-of}
 use Rattle.union_files.proofs.OwnLaws.{IsSorted, HaveSameOwn, own-after_batch, batch-own, apart-after_ops, sorted-batch, one-map}
 
 -- the current records after a history, from these on

@@ -1,6 +1,6 @@
 -- What must hold of a run that reads some files, one after the other, then loads the files of libraries, and writes two texts: the one
 -- that it shows, and after it the one that it notes.
-use Rattle.std.specs.Prelude.{◌≡◌, ◌≢◌, ℕ, ◌⊎◌, false, IsTrue, List, [], ◌++◌, Some, IfSome}
+use Rattle.std.specs.Prelude.{◌≡◌, ◌≢◌, ℕ, ◌⊎◌, false, IsTrue, List, ◌++◌, Some, IfSome}
 use Rattle.std.specs.Io.KnownBytes.{Appends, Keeps}
 use Rattle.union_io.specs.Writing.{AppendsFront}
 use Rattle.union_inputs.specs.Inputs.{AreWithin, IsTooLongAt, Contents}
@@ -9,7 +9,7 @@ use Rattle.union_words.specs.Statuses.{is_done, is_early, is_input_fault}
 use Rattle.union_words.specs.Words.{LibraryFile}
 use Rattle.union_words.specs.declared.input.Input.{Input}
 use Rattle.union_words.specs.declared.status.Status.{Status}
-use Rattle.union_words.specs.declared.status.Status.TheVariants.{Done, DoneWithRefusals, Usage, OpenFault, ReadFault, WriteFault, TooLong, Memory}
+use Rattle.union_words.specs.declared.status.Status.TheVariants.{Usage, OpenFault, ReadFault, WriteFault, TooLong, Memory}
 use Rattle.union_files.specs.Inputs.{inputs_of, FailsEarliest}
 
 -- which texts a run shows and notes of the contents of its files, and how it ends where both are written

@@ -9,14 +9,13 @@ use Rattle.library_batches.specs.declared.stop.Stop.TheVariants.{TooLong, Failed
 use Rattle.library_stream.specs.declared.frame_reader.TheConstants.{LARGEST_SOURCE}
 use Rattle.union_files.specs.Inputs.{AreWithin, OpenedState, file_of, files_of, is_overfull, first_overfull}
 use Rattle.union_io.specs.Files.{told_file}
+use Rattle.union_inputs.specs.Inputs.{Contents}
 use Rattle.union_inputs.specs.Readings.{IsStop, Reads}
+use Rattle.union_inputs.proofs.InputLaws.{on_both}
 use Rattle.union_load.specs.declared.reports.Reports.{Reports}
 use Rattle.union_words.specs.Words.{LibraryFile}
 use Rattle.union_follow.specs.Turning.{AreCalm, AreTurnedFrom, AreUnread, HaltsIn, IsTurned, StopsIn}
 use Rattle.union_follow.specs.declared.libraries.Halt.{Halt}
-
-abbrev Contents : Type 0
-Contents = List ℕ → List ℕ
 
 -- a file that fits is not overfull
 fits_whole : (contents : Contents) (file : LibraryFile) → length (contents file.path) ≤ LARGEST_SOURCE → is_overfull contents file ≡ false
@@ -29,11 +28,6 @@ within_more contents file rest fits later = ap (λ b. cond b (Some file) (first_
 overfull_more : (contents : Contents) (file other : LibraryFile) (rest : List LibraryFile) → is_overfull contents file ≡ false
     → first_overfull contents rest ≡ Some other → first_overfull contents (file ∷ rest) ≡ Some other
 overfull_more contents file other rest fits later = ap (λ b. cond b (Some file) (first_overfull contents rest)) fits ∙ later
-
-on_both : {P Q R : Contents → Type 0} (files : Option Contents) → ((contents : Contents) → P contents → Q contents → R contents)
-    → IfSome files P → IfSome files Q → IfSome files R
-on_both None follows p q = tt
-on_both (Some contents) follows p q = follows contents p q
 
 -- a file that does not fit is the first overfull one
 overfull_first : (contents : Contents) (file : LibraryFile) (rest : List LibraryFile) → LARGEST_SOURCE < length (contents file.path)

@@ -1,27 +1,20 @@
 -- Opened files, and the shelf to which they are given back.
 use Rattle.std.proofs.Common.{◌≡◌, ℕ, zero, suc, ◌<◌, List, [], ◌∷◌, sym, ap, subst, ◌∙◌, arith}
 use Rattle.std.specs.Prelude.{Option, Some, Ok, Err, IfSome, slice_get, IsTrue}
-use mathlib.Core.Path.{fun_ext}
 use Rattle.catalogue_core.specs.declared.history_entry.HistoryEntry.{HistoryEntry}
 use Rattle.library_batches.specs.declared.stop.Stop.{Stop}
 use Rattle.library_batches.specs.declared.stop.Stop.TheVariants.{TooLong, Failed, Memory}
-use Rattle.union_files.specs.Inputs.{AreFresh, AreWithin, OpenedState, StopsAt, file_of, files_of}
-use Rattle.union_files.proofs.InputLaws.{flow}
+use Rattle.union_files.specs.Inputs.{AreFresh, AreWithin, OpenedState, file_of, files_of}
+use Rattle.union_inputs.specs.Inputs.{Contents}
+use Rattle.union_inputs.proofs.FileLaws.{Counts, flow}
 use Rattle.union_files.proofs.InterleavingLaws.{unmapped-at}
 use Rattle.union_io.specs.Causes.{Rose}
 use Rattle.union_io.specs.Counts.{SameCounts, SameElsewhere}
 use Rattle.union_io.specs.Names.{is_among}
 use Rattle.union_load.specs.declared.reports.Reports.{Reports}
 use Rattle.union_words.specs.Words.{LibraryFile}
-use Rattle.union_words.specs.declared.status.Status.{Status}
 use Rattle.union_follow.specs.Turning.{AreCalm, AreListed, AreTurnedFrom, AreUnread, FailsOnly, HaltsAt, HaltsIn, StopsIn}
 use Rattle.union_follow.specs.declared.libraries.Halt.{Halt}
-
-abbrev Contents : Type 0
-Contents = List ℕ → List ℕ
-
-abbrev Counts : Type 0
-Counts = List ℕ → ℕ
 
 -- a read of the file at a place failed, and the count of its name rose
 abbrev pub RaisesAt : List OpenedState → Counts → Counts → Type 0
@@ -80,11 +73,6 @@ halts_returned Failed place file told libraries now a b stops at calm raises =
     subst (λ path. Rose (a path) (b path) × SameElsewhere a b path) name (raises place found.0 stops found.1)
 halts_returned TooLong place file told libraries now a b stops at calm raises = (calm stops.0, stops.1)
 halts_returned Memory place file told libraries now a b stops at calm raises = calm stops
-
--- a run that stops, where nothing had failed before
-pub stops_since : (status : Status) (libraries : List LibraryFile) (files : Option Contents) (a b c : Counts) → SameCounts a b
-    → StopsAt status libraries (flow files b c) → StopsAt status libraries (flow files a c)
-stops_since status libraries files a b c same stops = subst (λ counts. StopsAt status libraries (flow files counts c)) (fun_ext same) stops
 
 -- why the load stopped, at which library of the command
 pub halts_at : (R : Contents → Type 0) (halt : Halt) (files : Option Contents) (before now : List OpenedState) (libraries : List LibraryFile) (a b : Counts)

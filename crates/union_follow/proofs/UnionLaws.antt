@@ -12,6 +12,7 @@ use Rattle.catalogue_lock.specs.History.{changes_of}
 use Rattle.catalogue_lock.specs.Rule.{EndedOk}
 use Rattle.iso2709_frame.specs.Frames.{frames}
 use Rattle.load_sessions.specs.Entries.{entries_of}
+use Rattle.union_inputs.specs.Inputs.{Contents}
 use Rattle.union_files.specs.Deliveries.{codes_of, AreDistinct, delivery, has_refused}
 use Rattle.union_files.specs.Inputs.{deliveries}
 use Rattle.union_files.specs.Unions.{HasUnited}
@@ -25,9 +26,6 @@ use Rattle.union_words.specs.Words.{LibraryFile}
 use Rattle.union_follow.proofs.EntryLaws.{pair, entries_prefix}
 use Rattle.union_follow.specs.Following.{HasFollowed, IsInOrder}
 use Rattle.union_follow.specs.Turning.{AreTurnedFrom, HasTurned, IsBelow, IsTurned, turns_as}
-
-abbrev Contents : Type 0
-Contents = List ℕ → List ℕ
 
 -- ---- numbers
 

@@ -41,7 +41,7 @@ WHAT IS WRITTEN
     last record of an id is the one that counts.
 
 GROUPS
-    PATH has a line LIB.CTL for each record, and an empty line behind each group.
+    PATH has a line LIB.CTL for each record, and an empty line after each group.
 
 STANDARD ERROR
     'LIB refused FRAME RULE PLACE' for each refused record, as union check has

@@ -1,35 +1,29 @@
 -- What sessions leave at the desk makes the union of their files.
-use Rattle.std.proofs.Common.{◌≡◌, ◌≢◌, ℕ, zero, suc, ◌+◌, ◌<◌, ◌≤◌, Bool, true, false, cond, ◌==◌, List, [], ◌∷◌, ◌++◌, length, refl, sym, ap, subst, ◌∙◌, arith, IsTrue}
-use Rattle.std.specs.Prelude.{map, filter, nat_lt, Option, Some, None, slice_get}
-use Rattle.std.specs.List.{list_all, list_any, flat_map, AllZip, AllByRecursion}
+use Rattle.std.proofs.Common.{◌≡◌, ℕ, zero, suc, ◌+◌, ◌<◌, true, false, cond, ◌==◌, List, [], ◌∷◌, ◌++◌, length, refl, sym, ap, subst, ◌∙◌, arith}
+use Rattle.std.specs.Prelude.{map, filter, nat_lt, Some, None, slice_get}
+use Rattle.std.specs.List.{list_all, list_any, flat_map, AllByRecursion}
 use Rattle.std.proofs.lemmas.Bool.Decides.{nat_tests}
 use Rattle.std.proofs.lemmas.Option.{same_Some}
 use Rattle.authority_names.specs.Leads.{Table}
 use Rattle.catalogue_editions.specs.declared.batch.Batch.{Batch}
 use Rattle.catalogue_core.specs.declared.history_entry.HistoryEntry.{HistoryEntry}
-use Rattle.catalogue_lock.specs.Ended.{Ended}
-use Rattle.catalogue_lock.specs.History.{changes_of, IsPrefix}
+use Rattle.catalogue_lock.specs.History.{changes_of}
 use Rattle.catalogue_lock.specs.Rule.{EndedOk}
 use Rattle.iso2709_frame.specs.Frames.{frames}
-use Rattle.library_batches.specs.Batches.{AreBatches}
 use Rattle.library_batches.specs.Outcomes.{found_in}
-use Rattle.library_batches.specs.Streams.{Frame}
 use Rattle.load_sessions.specs.Entries.{entries_of}
 use Rattle.load_sessions.specs.Tallies.{found}
-use Rattle.union_base.specs.Both.{both_true, true_both}
+use Rattle.union_base.specs.Both.{true_both}
 use Rattle.union_reports.specs.Reports.{report_text}
-use Rattle.union_words.specs.Words.{LibraryFile}
 use Rattle.union_load.proofs.OwnLaws.{IsApart, found-apart}
-use Rattle.union_files.specs.Deliveries.{Delivery, delivery, codes_of, AreDistinct, has_refused, Stream, delivered, batches_of, report_of, reports_of}
+use Rattle.union_inputs.specs.Inputs.{Contents}
+use Rattle.union_files.specs.Deliveries.{Delivery, delivery, codes_of, AreDistinct, has_refused, Stream, delivered, batches_of, reports_of}
 use Rattle.union_files.specs.Inputs.{deliveries}
-use Rattle.union_files.proofs.InterleavingLaws.{each-at, mapped-at, apart-at, own-batches}
+use Rattle.union_files.proofs.InterleavingLaws.{each-at, apart-at, own-batches}
 use Rattle.union_files.specs.Interleavings.{batches_under, IsInterleaving}
 use Rattle.union_load.specs.Sessions.{Course, file_of_course, delivery_of, ended_of, AreNumbered, IsWhole, course_text}
-use Rattle.union_files.specs.Unions.{HasLoaded, HasUnited}
+use Rattle.union_files.specs.Unions.{HasUnited}
 use Rattle.union_files.specs.declared.loaded.Loaded.{Loaded}
-
-abbrev Contents : Type 0
-Contents = List ℕ → List ℕ
 
 abbrev Entries : Type 0
 Entries = List (ℕ × Batch)

@@ -6,9 +6,10 @@ use Rattle.std.specs.Cmp.Lexicographic.{pointwise, bytes_decides}
 use Rattle.std.specs.List.{list_any}
 use Rattle.std.specs.Option.{option_map}
 use Rattle.std.proofs.lemmas.Option.{same_Some}
-use Rattle.union_io.specs.Causes.{Rose}
-use Rattle.union_io.specs.Counts.{SameCounts, SameElsewhere}
-use Rattle.union_files.proofs.InputLaws.{flow, drop_at}
+use Rattle.union_io.specs.Counts.{SameCounts}
+use Rattle.union_inputs.specs.Inputs.{Contents}
+use Rattle.union_inputs.proofs.FileLaws.{Counts, flow}
+use Rattle.union_files.proofs.InputLaws.{drop_at}
 use Rattle.union_files.specs.Inputs.{Gathers, input_of, inputs_of, IsEarliest, IsElsewhere, StopsAt}
 use Rattle.load_sessions.specs.declared.session.Session.{Session}
 use Rattle.union_load.specs.Sessions.{Course, course_of, courses_of, file_of_course, Closes, fails_on, is_failed_in, first_failed, NoneFailed, RaisesFailed}
@@ -17,12 +18,6 @@ use Rattle.union_words.specs.Words.{LibraryFile}
 use Rattle.union_words.specs.declared.input.Input.TheVariants.{Library}
 use Rattle.union_words.specs.declared.status.Status.{Status}
 use Rattle.union_words.specs.declared.status.Status.TheVariants.{ReadFault, TooLong, Memory}
-
-abbrev Counts : Type 0
-Counts = List ℕ → ℕ
-
-abbrev Contents : Type 0
-Contents = List ℕ → List ℕ
 
 -- ---- places
 

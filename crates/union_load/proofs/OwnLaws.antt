@@ -1,12 +1,11 @@
 -- What comes of a library's operations among others is what comes of them alone.
-use Rattle.std.proofs.Common.{◌≡◌, ◌≢◌, ℕ, Bool, true, false, cond, List, [], ◌∷◌, ◌++◌, refl, sym, ap, subst, ◌∙◌, ◌==◌, eq-eqb, arith}
+use Rattle.std.proofs.Common.{◌≡◌, ◌≢◌, ℕ, true, false, cond, List, [], ◌∷◌, ◌++◌, refl, sym, ap, subst, ◌∙◌, ◌==◌, eq-eqb, arith}
 use Rattle.std.specs.Prelude.{map, filter}
 use Rattle.std.specs.List.{AllByRecursion}
 use Rattle.std.proofs.lemmas.Bool.Decides.{nat_tests}
 use Rattle.catalogue_core.specs.Histories.{MapOf, after_batch, outcomes}
 use Rattle.catalogue_editions.specs.declared.batch.Batch.{Batch}
 use Rattle.catalogue_editions.specs.declared.edition.Edition.{Edition}
-use Rattle.catalogue_editions.specs.declared.outcome.Outcome.{Outcome}
 use Rattle.library_batches.specs.Outcomes.{found_in}
 use Rattle.catalogue_lock.specs.History.{changes_of}
 use Rattle.load_sessions.specs.Tallies.{found_from, found}

@@ -1,39 +1,32 @@
 -- What sessions come to, one after the other.
-use Rattle.std.proofs.Common.{◌≡◌, ℕ, suc, ◌+◌, ◌<◌, Bool, true, false, cond, ◌||◌, inl, inr, List, [], ◌∷◌, ◌++◌, length, append_assoc, append-nil, refl, IsTrue, sym, ap, subst, ◌∙◌, arith}
+use Rattle.std.proofs.Common.{Vec, ◌≡◌, ℕ, suc, ◌+◌, ◌<◌, Bool, true, false, cond, ◌||◌, List, [], ◌∷◌, ◌++◌, length, append_assoc, append-nil, refl, IsTrue, sym, ap, subst, ◌∙◌, arith}
 use Rattle.std.specs.Prelude.{map, All, Option, Some, None, IfSome, Result, Ok, Err}
 use Rattle.std.specs.List.{list_any, flat_map, AllByRecursion}
 use Rattle.std.specs.Option.{option_map}
+use Rattle.std.specs.Vec.{with_items}
+use Rattle.std.proofs.lemmas.List.{with_items_is}
 use Rattle.std.proofs.lemmas.List.Elements.{All-from_recursion}
-use Rattle.std.proofs.lemmas.Option.{IfSome_then}
 use Rattle.atomic_table.specs.Seated.{TableId}
 use Rattle.catalogue_lock.specs.Tokens.{view}
-use Rattle.iso2709_frame.specs.Frames.{frames}
 use Rattle.library_batches.specs.Reading.{most_bytes}
 use Rattle.load_sessions.specs.Sessions.{IsReady, IsLoaded, Runs, RunsEach}
 use Rattle.load_sessions.specs.declared.end.End.{End}
 use Rattle.load_sessions.specs.declared.end.End.TheVariants.{ReadFault as EndFault}
 use Rattle.load_sessions.specs.declared.session.Session.{Session}
 use Rattle.union_io.specs.Causes.{Rose}
-use Rattle.union_io.specs.Counts.{SameCounts}
 use Rattle.union_io.specs.Files.{told_file}
 use Rattle.union_io.specs.Names.{is_among}
-use Rattle.union_files.proofs.InputLaws.{flow, same_more}
+use Rattle.union_inputs.specs.Inputs.{Contents}
+use Rattle.union_inputs.proofs.InputLaws.{on_both}
 use Rattle.union_files.specs.Deliveries.{has_refused}
-use Rattle.union_files.specs.Inputs.{Gathers, inputs_of, is_overfull, first_overfull, AreWithin, IsTooLongAt, IsEarliest, StopsAt, IsFresh, AreFresh, files_of}
-use Rattle.union_load.specs.Sessions.{is_fault, Course, file_of_course, delivery_of, AreNumbered, course_text, AreReported, StopsBehind, Closes, IsReadyAs, AreReady, courses_of, session_state, session_states, HasRun, HaveRun}
+use Rattle.union_files.specs.Inputs.{is_overfull, first_overfull, AreWithin, IsTooLongAt, IsFresh, AreFresh, files_of}
+use Rattle.union_load.specs.Sessions.{is_fault, Course, file_of_course, delivery_of, AreNumbered, course_text, AreReported, Closes, IsReadyAs, AreReady, courses_of, session_state, session_states, HasRun, HaveRun}
 use Rattle.union_load.specs.declared.reports.Reports.{Reports}
-use Rattle.union_words.specs.Flows.{InputFile}
 use Rattle.union_words.specs.Words.{LibraryFile}
 use Rattle.union_words.specs.declared.input.Input.{Input}
 use Rattle.union_words.specs.declared.input.Input.TheVariants.{Library}
 use Rattle.union_words.specs.declared.status.Status.{Status}
-use Rattle.union_words.specs.declared.status.Status.TheVariants.{Done, DoneWithRefusals, Usage, OpenFault, ReadFault, WriteFault, TooLong, Memory}
-
-abbrev Counts : Type 0
-Counts = List ℕ → ℕ
-
-abbrev Contents : Type 0
-Contents = List ℕ → List ℕ
+use Rattle.union_words.specs.declared.status.Status.TheVariants.{TooLong, Memory}
 
 -- ---- two ends, one after the other
 
@@ -51,11 +44,6 @@ within_both : (contents : Contents) (file : LibraryFile) (rest : List LibraryFil
 within_both contents file rest within later =
     elim (is_overfull contents file) as (λ b. cond b (Some file) None ≡ None → cond b (Some file) (first_overfull contents rest) ≡ None)
     [ true ↦ λ within. cc | false ↦ λ within. later ] within
-
-on_both : {P Q R : Contents → Type 0} (files : Option Contents) → ((contents : Contents) → P contents → Q contents → R contents)
-    → IfSome files P → IfSome files Q → IfSome files R
-on_both None follows p q = tt
-on_both (Some contents) follows p q = follows contents p q
 
 -- an end after an input that was read
 pub closes_behind : {T : Type 0} (later : Result T Status) (file : LibraryFile) (rest : List LibraryFile) (files : Option Contents) (P Q R : Contents → Type 0)
@@ -141,7 +129,7 @@ module _ {S : Type 0} where
       pub numbers : AreNumbered number (courses_of name now)
       pub long : length (courses_of name now) ≡ length before
 
-    pub have_run : (desk : TableId) (prefer : List (List ℕ)) (number : ℕ) (files : Option Contents) (names : List (List ℕ)) (before now : List (Session S))
+    have_run : (desk : TableId) (prefer : List (List ℕ)) (number : ℕ) (files : Option Contents) (names : List (List ℕ)) (before now : List (Session S))
         → AreReady desk prefer number before
         → AreFresh files names (session_states name left faults before) → RunsEach name left faults desk before now
         → HaveEnded desk prefer number files names before now
@@ -164,3 +152,13 @@ module _ {S : Type 0} where
           numbers = (one.keeps.pass.0 ∙ ready.0.number_is, more.numbers);
           long = ap suc more.long;
         }
+
+    -- the same of a list of sessions whose places were lent to be run
+    pub have_ended : {Z : Type 0} (desk : TableId) (prefer : List (List ℕ)) (number : ℕ) (files : Option Contents) (names : List (List ℕ))
+        (sessions : Vec (Session S) Z) (lent now : List (Session S)) → lent ≡ sessions.items → AreReady desk prefer number sessions.items
+        → AreFresh files names (session_states name left faults sessions.items) → RunsEach name left faults desk lent now
+        → HaveEnded desk prefer number files names sessions.items (with_items sessions now).items
+    have_ended desk prefer number files names sessions lent now same ready fresh runs =
+        let each : RunsEach name left faults desk sessions.items now = subst (λ before. RunsEach name left faults desk before now) same runs in
+        subst (HaveEnded desk prefer number files names sessions.items) (sym (with_items_is sessions now (each.long ∙ sym sessions.ok.0)))
+        (have_run desk prefer number files names sessions.items now ready fresh each)

@@ -15,7 +15,7 @@ use Rattle.library_batches.specs.Reading.{most_bytes}
 use Rattle.load_sessions.specs.Sessions.{IsReady, IsLoaded, counts_of}
 use Rattle.load_sessions.specs.Tallies.{found}
 use Rattle.load_sessions.specs.declared.end.End.{End}
-use Rattle.load_sessions.specs.declared.end.End.TheVariants.{NotRun, Done as EndDone, ReadFault as EndFault, TooLong as EndTooLong, Memory as EndMemory}
+use Rattle.load_sessions.specs.declared.end.End.TheVariants.{Done as EndDone, ReadFault as EndFault, TooLong as EndTooLong}
 use Rattle.load_sessions.specs.declared.session.Session.{Session}
 use Rattle.union_io.specs.Causes.{Rose}
 use Rattle.union_io.specs.Files.{told_file}

@@ -5,15 +5,13 @@
 //! these have ended, one pass more asks the late questions. Whatever the order of the turns, the catalogue's history has the
 //! batches of each library in their order and no others, and the reports are in the order of the command. Each source is
 //! given back to its shelf. Memory grows with what is loaded.
-ghost use Rattle.std.specs.Prelude.{◌≡◌, ◌<◌, ◌≤◌, ◌+◌, ◌==◌, ◌&&◌, [], IfOk, IfErr, All, length, not};
+ghost use Rattle.std.specs.Prelude.{◌≡◌, ◌<◌, ◌≤◌, ◌+◌, ◌==◌, ◌&&◌, [], IfOk, IfErr, length, not};
 ghost use Rattle.std.specs.List.{AllByRecursion};
 ghost use Rattle.catalogue_core.specs.Catalogues.{by_names};
 ghost use Rattle.catalogue_lock.specs.Rule.{EndedOk};
 ghost use Rattle.catalogue_lock.specs.Tokens.{root_of, view, IsPassOf, IsRootOf};
 ghost use Rattle.union_words.specs.Meanings.{libraries_meaning};
-ghost use Rattle.load_sessions.specs.Askers.{Asks, IsAsker};
 ghost use Rattle.load_sessions.specs.Entries.{entries_of};
-ghost use Rattle.load_sessions.specs.Sessions.{IsReady, RunsEach};
 ghost use Rattle.union_files.specs.Inputs.{Gathers, OpensInOrder, deliveries};
 ghost use Rattle.union_load.specs.Replies.{AreReplies, HasAsked, left_by};
 ghost use Rattle.union_files.specs.Unions.{HasUnited};
@@ -33,7 +31,6 @@ use load_sessions::end::End;
 use load_sessions::questions::Questions;
 use load_sessions::running::run_sessions;
 use load_sessions::served::Served;
-use load_sessions::session::Session;
 use std::alloc::Global;
 use std::sync::Wait;
 use std::thread::Threads;
@@ -41,7 +38,6 @@ use union_base::memory::Memory;
 use union_files::loaded::Loaded;
 use union_io::gate::Gate;
 use union_io::shelf::Shelf;
-use union_io::source::Source;
 use union_words::loading::Loading;
 use union_words::status::Status;
 
@@ -76,35 +72,6 @@ fn open_desk(
     ensures names { IfOk result (λ opened. (root_of opened.1).setting ≡ names) }
 {
     Desk::open(alloc, served(alloc, names, is_asked)?)
-}
-
-/// Runs the sessions, by `workers` workers, and the asker beside them.
-fn run_all<R: Threads + Wait + Sync, S: Source + Send, G: Gate>(
-    rt: &R,
-    alloc: Global,
-    desk: &Desk<Served>,
-    sessions: &mut Vec<Session<S>>,
-    asker: &mut Asker,
-    workers: u32,
-    gate: &G,
-)
-    requires least { 1 ≤ workers }
-    requires most { workers ≤ 64 }
-    requires ready { All (IsReady desk.now.board.shared.table_id) sessions.old.items }
-    requires asker { IsAsker desk.now.board.shared.table_id asker.old }
-    ensures sessions { RunsEach S.name S.left S.faults desk.now.board.shared.table_id
-        sessions.old.items sessions.new.items }
-    ensures asker { Asks desk.now.board.shared.table_id asker.old asker.new }
-{
-    run_sessions(
-        rt,
-        alloc,
-        desk,
-        sessions.as_mut_slice(),
-        Some(asker),
-        workers,
-        gate,
-    );
 }
 
 /// Ends the asker, asks the late questions, and closes the desk.
@@ -206,11 +173,11 @@ pub fn load_and_ask<R: Threads + Wait + Sync, F: Shelf, G: Gate>(
     let Questions { beside, late } = questions;
     let mut sessions = start_sessions(alloc, &desk, &mut root, loading, shelf)?;
     let mut asker = start_asker(alloc, &desk, &mut root, beside);
-    run_all(
+    run_sessions(
         rt,
         alloc,
         &desk,
-        &mut sessions,
+        sessions.as_mut_slice(),
         &mut asker,
         loading.workers.number(),
         gate,

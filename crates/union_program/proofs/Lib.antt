@@ -1,4 +1,3 @@
 mod AnsweredLaws
 mod FollowLaws
 mod JsonLaws
-mod NamedLaws

@@ -1,9 +1,9 @@
 -- Each frame of the generator breaks no rule.
-use Rattle.std.proofs.Common.{◌≡◌, ℕ, suc, ◌+◌, ◌<◌, ◌≤◌, Bool, true, false, not, ◌&&◌, List, [], ◌∷◌, ◌++◌, refl, sym, ◌∙◌, ap, subst, arith, None}
+use Rattle.std.proofs.Common.{◌≡◌, ℕ, ◌+◌, ◌<◌, ◌≤◌, Bool, true, false, not, ◌&&◌, List, [], ◌∷◌, ◌++◌, refl, sym, ◌∙◌, ap, subst, arith, None}
 use Rattle.std.specs.Prelude.{◌==◌, codes, nat_lt, if◌then◌else◌}
 use Rattle.std.specs.List.{list_all}
 use Rattle.std.specs.Str.{is_utf8}
-use Rattle.std.proofs.lemmas.Bool.{and_parts, and_from, not-true, ne_eqb}
+use Rattle.std.proofs.lemmas.Bool.{and_parts, not-true, ne_eqb}
 use Rattle.std.proofs.lemmas.Bool.Decides.{nat_tests}
 use Rattle.std.proofs.lemmas.Str.{is_utf8-from_IsUtf8}
 use Rattle.iso2709_frame.specs.Frames.{IsWhole}
@@ -22,7 +22,7 @@ use Rattle.marc_fields.proofs.NoFailure.{text-spelled}
 use Rattle.marc_fields.specs.declared.marc_record.Record.{Record}
 use Rattle.marc_fields.proofs.RecordLaws.{spelling-IsSpelled}
 use Rattle.marc_parts.specs.Loads.{has_number_shape, is_utf8_field}
-use Rattle.marc_parts.specs.Trimmed.{blank, trim_start, before_trimmed, trim_end, trimmed}
+use Rattle.marc_parts.specs.Trimmed.{trim_start, before_trimmed, trim_end, trimmed}
 use Rattle.marc_rules.proofs.CheckLaws.{frame-IsWhole}
 use Rattle.marc_rules.specs.Contents.{is_utf8_at, content_failure}
 use Rattle.marc_rules.specs.NineteenRules.{first_rule}

@@ -1,12 +1,12 @@
 -- A block of a library's frames, and the batch that it gives.
-use Rattle.std.proofs.Common.{◌≡◌, ℕ, suc, ◌+◌, ◌≤◌, ◌<◌, Bool, true, false, ◌&&◌, List, [], ◌∷◌, ◌++◌, length, map, ◌⊎◌, inl, inr, refl, sym, ap, subst, ◌∙◌, arith, append_assoc, append-nil, None, length-append}
+use Rattle.std.proofs.Common.{◌≡◌, ℕ, suc, ◌+◌, ◌≤◌, ◌<◌, true, ◌&&◌, List, [], ◌∷◌, ◌++◌, length, map, inl, inr, refl, sym, ap, subst, ◌∙◌, arith, append_assoc, append-nil, length-append}
 use Rattle.std.specs.Prelude.{filter, IsTrue, Some, nat_le, is_none, cond}
 use Rattle.std.specs.List.{AllZip, list_all}
 use Rattle.std.proofs.lemmas.Bool.{and_from}
 use Rattle.std.proofs.lemmas.Bool.Decides.{nat_tests}
 use Rattle.std.proofs.lemmas.List.{map-append, length-map}
 use Rattle.std.proofs.lemmas.List.Folds.{list_all-append}
-use Rattle.marc_fields.specs.Spelling.{Spells, spelling}
+use Rattle.marc_fields.specs.Spelling.{spelling}
 use Rattle.catalogue_core.specs.Batches.{is_own_op, is_batch}
 use Rattle.catalogue_core.specs.Ops.{op as op_of}
 use Rattle.catalogue_editions.specs.declared.batch.Batch.{Batch}

@@ -8,7 +8,7 @@ use Rattle.std.specs.List.{list_all}
 use Rattle.isbn_keys.specs.Isbn.{check_digit}
 use Rattle.marc_leader.specs.Codes.{is_printable}
 use Rattle.marc_leader.specs.Numeral.{numeral}
-use Rattle.union_base.specs.Fields.{is_text_byte, is_text}
+use Rattle.union_base.specs.Fields.{is_text_byte}
 use Rattle.union_trial.specs.TrialRecords.{fixed_text, isbn_stem, isbn_text}
 
 -- what each digit passes, a number's digits pass

@@ -1,7 +1,7 @@
 -- What is told of the lines of a file of questions by replies to its questions.
 use Rattle.std.proofs.Common.{◌≡◌, ℕ, ◌+◌, ◌-◌, ◌≤◌, ◌==◌, Bool, true, false, cond, List, [], ◌∷◌, ◌++◌, zero, suc, length, map, take, drop, refl, sym, ap, subst, ◌∙◌, arith, length-append, take-append-drop, get_or, ◌<◌, drop-cons, add-one, append_assoc}
 use Rattle.std.specs.Prelude.{Option, Result, Ok, Err}
-use Rattle.std.specs.List.{AllByRecursion, AllZip, flat_map}
+use Rattle.std.specs.List.{AllByRecursion, flat_map}
 use Rattle.std.proofs.Math.Seq.{drop-append_seam}
 use Rattle.std.proofs.lemmas.List.{length-map, length-drop, length-take, map-append}
 use Rattle.std.proofs.lemmas.Grind.{flat_map-append}

@@ -1,8 +1,8 @@
 -- The lines on the turns of a history in which streams interleave stand for that history.
 use Rattle.std.proofs.Common.{◌≡◌, ◌≢◌, ℕ, suc, ◌+◌, ◌<◌, ◌≤◌, ◌==◌, Bool, true, false, cond, List, [], ◌∷◌, ◌++◌, length, map, drop, get_or, zero, not, refl, sym, ap, subst, ◌∙◌, arith, inl, inr}
-use Rattle.std.specs.Prelude.{Some, None, Option, IsTrue, slice_get, slice_index_or, filter, nat_lt}
-use Rattle.std.specs.List.{AllByRecursion, AllZip, list_all, position_or_len}
-use Rattle.std.specs.Cmp.Lexicographic.{pointwise, bytes_decides}
+use Rattle.std.specs.Prelude.{IsTrue, slice_index_or, filter, nat_lt}
+use Rattle.std.specs.List.{AllByRecursion, AllZip, list_all}
+use Rattle.std.specs.Cmp.Lexicographic.{bytes_decides}
 use Rattle.std.proofs.lemmas.Bool.Decides.{nat_tests}
 use Rattle.std.proofs.lemmas.List.{get_or_past, length-map}
 use Rattle.std.proofs.lemmas.Option.{slice_get_cases, slice_get-map, get_or_from_slice_get}
@@ -11,7 +11,7 @@ use Rattle.union_base.specs.Both.{both_true}
 use Rattle.library_batches.specs.Streams.{Frame}
 use Rattle.catalogue_editions.specs.declared.batch.Batch.{Batch}
 use Rattle.catalogue_core.specs.declared.history_entry.HistoryEntry.{HistoryEntry}
-use Rattle.library_batches.specs.Batches.{IsBatchOf, AreBatches}
+use Rattle.library_batches.specs.Batches.{IsBatchOf}
 use Rattle.union_words.specs.Alike.{is_text}
 use Rattle.union_files.specs.Deliveries.{Stream, AreDistinct, batches_of}
 use Rattle.union_files.specs.Interleavings.{batches_under, IsInterleaving}

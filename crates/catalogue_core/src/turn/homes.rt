@@ -1,7 +1,11 @@
-//! The homes of current records, as the install of a plan moves them.
+//! The table of homes, as the install of a plan changes it.
 //!
-//! A map may want memory for a new key. So new ids are let in first, each with a home that says nothing yet, or none of them
-//! if allocation fails; what follows changes homes that are there, or takes them away, and takes no memory.
+//! The home of a current record has the place in the history at which the record was loaded, and the number of the block that its
+//! edition is in. A plan notes each id that its turn touches: with a place if the record is current after the turn, and without
+//! one if it is not.
+//!
+//! Only a new id needs memory. So `admit` adds the new ids first, each with a blank home, or none of them if allocation fails.
+//! The calls after it (`move_all`, `house_all`) change or remove homes that are there. They take no memory and cannot fail.
 ghost use Rattle.std.specs.Prelude.{◌≡◌, ◌≤◌, length, map, fold, OnOk, OnErr};
 ghost use Rattle.catalogue_core.specs.Homes.{standing, admitted, taken_back, moved, housed, housed_all};
 
@@ -16,14 +20,14 @@ use union_base::copied::Copied;
 use union_base::memory::Memory;
 use union_base::record_id::RecordId;
 
-/// A home that says nothing yet.
+/// The home of a new id until `move_all` sets its place and `house_all` its block.
 const BLANK: Home = Home {
     place: Place { turn: 0, op: 0 },
     block: 0,
 };
 
-/// Gives a home to each id that is current by the plan and has none, and appends it to those that came. Returns `Memory` if
-/// allocation fails; some of them may have homes then, and each of these is among those that came.
+/// Adds a blank home for each id that is current by the plan and has no home, and appends the id to `came`. Returns `Memory` if
+/// allocation fails. Some homes may have been added by then; the id of each of them is in `came`.
 fn let_in<'a>(
     alloc: Global,
     homes: &mut HomeTable,
@@ -44,7 +48,7 @@ fn let_in<'a>(
     Ok(())
 }
 
-/// Takes the homes under the ids away again, the last first. Takes no memory.
+/// Removes the homes of the ids in `came`, the last first. Takes no memory.
 fn take_back(homes: &mut HomeTable, mut came: Vec<&RecordId>)
     ensures { homes.new.entries
         ≡ taken_back homes.old.entries (map (λ id. id.now) came.entry.items) }
@@ -54,8 +58,8 @@ fn take_back(homes: &mut HomeTable, mut came: Vec<&RecordId>)
     }
 }
 
-/// Gives a home to each id that is current by the plan and has none. Returns `Memory` if allocation fails; none of them has
-/// one then.
+/// Adds a blank home for each id that is current by the plan and has no home. Returns `Memory` if allocation fails; the table is
+/// as before then.
 pub fn admit(
     alloc: Global,
     homes: &mut HomeTable,
@@ -75,7 +79,7 @@ pub fn admit(
     }
 }
 
-/// Moves the home under the id to that place; takes it away where there is none. Takes no memory.
+/// Sets the place in the home of the id, or removes the home if there is no place. Takes no memory.
 fn move_one(homes: &mut HomeTable, id: &RecordId, place: Option<Place>)
     ensures { homes.new.entries ≡ moved homes.old.entries (id.now, place) }
 {
@@ -85,7 +89,8 @@ fn move_one(homes: &mut HomeTable, id: &RecordId, place: Option<Place>)
     }
 }
 
-/// Moves the homes as the plan has it. Takes no memory.
+/// Sets the place in the home of each id that is current by the plan, and removes the home of each id that no longer is. Takes
+/// no memory.
 pub fn move_all(homes: &mut HomeTable, touched: &BTreeMap<RecordId, Option<Place>>)
     ensures { homes.new.entries ≡ fold moved homes.old.entries touched.now.entries }
 {
@@ -94,7 +99,7 @@ pub fn move_all(homes: &mut HomeTable, touched: &BTreeMap<RecordId, Option<Place
     }
 }
 
-/// Puts the number into the home under each of the ids. Takes no memory.
+/// Sets the block in the home of each of the ids to that number. Takes no memory.
 fn house(homes: &mut HomeTable, ids: &[RecordId], number: u64)
     ensures { homes.new.entries ≡ housed number homes.old.entries ids.now }
 {
@@ -103,7 +108,7 @@ fn house(homes: &mut HomeTable, ids: &[RecordId], number: u64)
     }
 }
 
-/// Gives each contributor of each opened block its number. Takes no memory.
+/// Sets the block in the home of each contributor of an opened block to the number of that block. Takes no memory.
 pub fn house_all(homes: &mut HomeTable, opened: &[Keyed<Edition>], numbers: &[u64])
     requires { length opened.now ≤ length numbers.now }
     ensures { homes.new.entries ≡ housed_all homes.old.entries opened.now numbers.now }

@@ -124,8 +124,8 @@ fn regroup(works: &mut Option<Works>, change: Option<WorkChange>)
     }
 }
 
-/// Appends the turn to the history, and makes the homes, the blocks and the works those of the plan. Memory where it runs out;
-/// then all is as before, but for room.
+/// Appends the turn to the history, and makes the homes, the blocks and the works those of the plan. Returns `Memory` if allocation
+/// fails; all is as before then, but for room.
 pub fn install(
     alloc: Global,
     history: &mut Vec<HistoryEntry>,

@@ -105,8 +105,8 @@ fn plan_withdrawal<L: Ledger>(
     }
 }
 
-/// The plan after an operation of the batch, which stands at that place, and what came of it. Counts the match tests. Memory
-/// where it runs out.
+/// The plan after an operation of the batch, which stands at that place, and what came of it. Counts the match tests. Returns
+/// `Memory` if allocation fails.
 fn plan_op<L: Ledger>(
     alloc: Global,
     context: &Context<'_>,

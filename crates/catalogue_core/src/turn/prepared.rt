@@ -1,5 +1,10 @@
-//! The plan of a turn whose loads are resolved among themselves already: the records that the batch names are withdrawn, and then
-//! what its loads come to is inserted, a part at a time.
+//! The plan of a turn for a batch whose loads were resolved among themselves before the turn.
+//!
+//! Each record that the batch loads or withdraws is withdrawn first, if it is current. Then the parts are inserted, one after the
+//! other: the editions to which the records that the batch leaves loaded resolve among themselves. Where each of these records was
+//! loaded, and what came of each operation, does not depend on the editions: one walk over the batch finds it.
+//!
+//! Cost: at most the reach of the parts in match tests (specs/PreparedReaches.antt).
 ghost use Rattle.std.specs.Prelude.{◌≡◌, ◌≤◌, ◌+◌, ◌++◌, ◌∷◌, [], ℕ, List, true, false, is_some, unwrap_or, IfOk, OnOk};
 ghost use Rattle.std.specs.BTreeMap.{is_at};
 ghost use Rattle.std.specs.Map.{remove_entry, values_of};
@@ -55,7 +60,8 @@ fn named(alloc: Global, library: &LibraryCode, op: &Op) -> Result<RecordId, Memo
     }
 }
 
-/// The plan without the record of that id, where it is current by it. Counts the match tests. Returns `Memory` if allocation fails.
+/// The plan after the withdrawal of the record of that id, or the same plan if the record is not current by it. Counts the match
+/// tests. Returns `Memory` if allocation fails.
 fn withdraw_current<L: Ledger>(
     alloc: Global,
     context: &Context<'_>,
@@ -80,8 +86,8 @@ fn withdraw_current<L: Ledger>(
     }
 }
 
-/// The plan without the record that the operation names, where it is current by it. Counts the match tests. Returns `Memory` if
-/// allocation fails.
+/// The plan after the withdrawal of the record that the operation loads or withdraws, or the same plan if the record is not current
+/// by it. Counts the match tests. Returns `Memory` if allocation fails.
 fn withdraw_named<L: Ledger>(
     alloc: Global,
     context: &Context<'_>,
@@ -137,8 +143,8 @@ fn insert_parts<L: Ledger>(
     Ok(change)
 }
 
-/// A plan of the turn of this batch, by which the records that the batch names are no longer current. Counts the match tests.
-/// Returns `Memory` if allocation fails.
+/// The plan that withdraws each current record which the batch loads or withdraws, and inserts nothing yet. Counts the match
+/// tests. Returns `Memory` if allocation fails.
 fn without_named<L: Ledger>(
     alloc: Global,
     context: &Context<'_>,
@@ -167,7 +173,8 @@ fn without_named<L: Ledger>(
     Ok(plan)
 }
 
-/// Whether a record is current: by what the turn made of it, where the turn touched it, and else by its home.
+/// Whether a record is current. If the turn has touched it, `touched` decides: a place means that it is current. Else it is current
+/// if it has a home.
 fn is_current(touched: Option<Option<Place>>, home: Option<Home>) -> bool
     ensures { result ≡ is_some (unwrap_or touched (option_map (λ home. home.place) home)) }
 {
@@ -177,8 +184,8 @@ fn is_current(touched: Option<Option<Place>>, home: Option<Home>) -> bool
     }
 }
 
-/// Notes in `touched` what an operation of the batch does, which is at that place, and answers what came of it. Returns
-/// `Memory` if allocation fails.
+/// Notes in `touched` what the operation makes of its record: a load gives it this place, and a withdrawal none. Answers what came
+/// of the operation. Returns `Memory` if allocation fails.
 fn touch_op(
     alloc: Global,
     homes: &HomeTable,
@@ -219,8 +226,8 @@ fn touch_op(
     }
 }
 
-/// Where the records are found that the batch, as the next turn, loads or withdraws, and what came of each of its operations.
-/// Returns `Memory` if allocation fails.
+/// What the batch makes of each record that it loads or withdraws, as the next turn of the history: the place at which the record
+/// was loaded, or none if it is withdrawn in the end. And what came of each operation. Returns `Memory` if allocation fails.
 fn touch_all(
     alloc: Global,
     context: &Context<'_>,
@@ -253,7 +260,8 @@ fn touch_all(
     Ok((touched, outcomes))
 }
 
-/// The plan of the turn, where the batch's loads come to these parts; and what came of each of the batch's operations. Counts the match tests. Returns `Memory` if allocation fails.
+/// The plan of the turn, and what came of each of the batch's operations. `parts` are the editions to which the records that the
+/// batch leaves loaded resolve among themselves. Counts the match tests. Returns `Memory` if allocation fails.
 pub fn planned_parts<L: Ledger>(
     alloc: Global,
     context: &Context<'_>,

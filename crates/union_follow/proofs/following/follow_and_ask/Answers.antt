@@ -8,7 +8,7 @@ use Rattle.catalogue_core.specs.Catalogues.{CatalogueValue}
 use Rattle.snapshot_desk.proofs.Prefixes.{prefix_trans}
 use Rattle.union_base.specs.Both.{both_true}
 use Rattle.union_files.proofs.DistinctLaws.{distinct_deliveries}
-use Rattle.union_files.proofs.InputLaws.{same_more}
+use Rattle.union_inputs.proofs.FileLaws.{same_more}
 use Rattle.union_files.specs.Inputs.{AreWithin, deliveries}
 use Rattle.union_load.specs.Replies.{AreReplies}
 use Rattle.union_words.specs.Meanings.{libraries_meaning}

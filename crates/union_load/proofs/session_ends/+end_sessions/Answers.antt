@@ -1,4 +1,4 @@
-use Rattle.std.proofs.Common.{◌∷◌, [], ap, sym, subst}
+use Rattle.std.proofs.Common.{◌∷◌, [], sym, subst}
 use Rattle.std.specs.Prelude.{map}
 use Rattle.union_load.proofs.FaultLaws.{unfailed-one, unfailed-more}
 use Rattle.union_load.proofs.SessionLaws.{closes_behind, reported_both}

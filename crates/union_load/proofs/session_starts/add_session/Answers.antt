@@ -1,4 +1,4 @@
-use Rattle.std.proofs.Common.{◌≡◌, ◌+◌, ◌∷◌, [], length, arith, sym, subst, ◌∙◌}
+use Rattle.std.proofs.Common.{◌≡◌, ◌+◌, length, arith, sym, subst, ◌∙◌}
 use Rattle.union_load.proofs.SessionLaws.{ready_pushed}
 use Rattle.union_load.specs.Sessions.{AreReady, IsReadyAs}
 use Rattle.union_load.proofs.session_starts.add_session.Goals as goal

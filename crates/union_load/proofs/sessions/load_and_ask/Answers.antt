@@ -1,64 +1,89 @@
 use Rattle.std.proofs.Common.{◌≡◌, ◌+◌, ◌<◌, ◌≤◌, ◌++◌, ◌||◌, ◌&&◌, ℕ, [], true, append-nil, vec_items, sym, ap, subst, ◌∙◌, arith}
-use Rattle.std.specs.Prelude.{map, length, nat_le, IfSome}
+use Rattle.std.specs.Prelude.{map, length, nat_le, All, Err, IfSome}
 use Rattle.std.specs.List.{AllByRecursion, flat_map, list_all, list_any}
+use Rattle.std.specs.Vec.{with_items}
 use Rattle.std.proofs.lemmas.Option.{IfSome_then}
+use Rattle.std.proofs.lemmas.Result.{err_from_is_err_and}
+use mathlib.Core.Path.{fun_ext}
 use Rattle.catalogue_editions.specs.declared.batch.Batch.{Batch}
 use Rattle.catalogue_lock.specs.Rule.{EndedOk}
 use Rattle.catalogue_lock.specs.Tokens.{root_of, view}
 use Rattle.load_sessions.specs.Askers.{Replied}
 use Rattle.load_sessions.specs.Entries.{entries_of}
+use Rattle.load_sessions.specs.Sessions.{IsReady}
 use Rattle.union_base.specs.Both.{both_true}
 use Rattle.union_load.proofs.CourseLaws.{united, delivered-files}
 use Rattle.union_files.proofs.DistinctLaws.{distinct_deliveries}
-use Rattle.union_files.proofs.InputLaws.{same_more}
+use Rattle.union_inputs.proofs.FileLaws.{flow, same_more}
 use Rattle.union_load.proofs.ReplyLaws.{each_weaker, numbered_below, replied_over}
-use Rattle.union_load.proofs.SessionLaws.{HaveEnded, have_run, ready_all}
+use Rattle.union_load.proofs.SessionLaws.{have_ended, ready_all}
 use Rattle.union_files.specs.Deliveries.{codes_of, AreDistinct, has_refused}
-use Rattle.union_files.specs.Inputs.{AreWithin, deliveries}
+use Rattle.union_files.specs.Inputs.{AreWithin, StopsAt, deliveries}
 use Rattle.union_load.specs.Replies.{AreReplies}
-use Rattle.union_load.specs.Sessions.{AreReported, course_text, courses_of, delivery_of, ended_of, file_of_course}
+use Rattle.union_load.specs.Sessions.{course_text, courses_of, delivery_of, ended_of, file_of_course}
 use Rattle.union_files.specs.Unions.{HasUnited}
 use Rattle.union_words.specs.Meanings.{libraries_meaning}
-use Rattle.union_words.specs.Words.{LibraryFile, is_library_word, have_distinct_codes, most_libraries}
+use Rattle.union_words.specs.Words.{is_library_word, have_distinct_codes, most_libraries}
 use Rattle.union_load.proofs.sessions.load_and_ask.Goals as goal
 
-pub run_all-requires-clause-ready : goal.run_all-requires-clause-ready
-run_all-requires-clause-ready g c κs within =
-    ready_all c.in-Ok.desk.board.shared.table_id c.args.loading.now.prefer 0 c.in_ok-sessions.sessions.items c.in_ok-sessions.ensures.ready
+pub run_sessions-requires-clause-ready : goal.run_sessions-requires-clause-ready
+run_sessions-requires-clause-ready g c κs within =
+    subst (All (IsReady c.in-Ok.desk.board.shared.table_id)) (sym c.as_mut_slice.ensures.value)
+    (ready_all c.in-Ok.desk.board.shared.table_id c.args.loading.now.prefer 0 c.in_ok-sessions.sessions.items c.in_ok-sessions.ensures.ready)
 
 pub end_all-requires-clause-ran : goal.end_all-requires-clause-ran
 end_all-requires-clause-ran g c κs within =
-    (have_run g.F.Src.Source.name g.F.Src.Source.left g.F.Src.Source.faults c.in-Ok.desk.board.shared.table_id c.args.loading.now.prefer 0
-    (g.F.Shelf.files c.start_sessions.new.shelf) (g.F.Shelf.opened c.start_sessions.new.shelf) c.in_ok-sessions.sessions.items c.run_all.new.sessions.items
-    c.in_ok-sessions.ensures.ready c.in_ok-sessions.ensures.fresh c.run_all.ensures.sessions).ran
+    (have_ended g.F.Src.Source.name g.F.Src.Source.left g.F.Src.Source.faults c.in-Ok.desk.board.shared.table_id c.args.loading.now.prefer 0
+    (g.F.Shelf.files c.start_sessions.new.shelf) (g.F.Shelf.opened c.start_sessions.new.shelf) c.in_ok-sessions.sessions _ c.run_sessions.new.sessions
+    c.as_mut_slice.ensures.value c.in_ok-sessions.ensures.ready c.in_ok-sessions.ensures.fresh c.run_sessions.ensures.sessions).ran
 
 pub end_all-requires-clause-libraries : goal.end_all-requires-clause-libraries
 end_all-requires-clause-libraries g c κs within =
-    (have_run g.F.Src.Source.name g.F.Src.Source.left g.F.Src.Source.faults c.in-Ok.desk.board.shared.table_id c.args.loading.now.prefer 0
-    (g.F.Shelf.files c.start_sessions.new.shelf) (g.F.Shelf.opened c.start_sessions.new.shelf) c.in_ok-sessions.sessions.items c.run_all.new.sessions.items
-    c.in_ok-sessions.ensures.ready c.in_ok-sessions.ensures.fresh c.run_all.ensures.sessions).files_are ∙ c.in_ok-sessions.ensures.opened
+    (have_ended g.F.Src.Source.name g.F.Src.Source.left g.F.Src.Source.faults c.in-Ok.desk.board.shared.table_id c.args.loading.now.prefer 0
+    (g.F.Shelf.files c.start_sessions.new.shelf) (g.F.Shelf.opened c.start_sessions.new.shelf) c.in_ok-sessions.sessions _ c.run_sessions.new.sessions
+    c.as_mut_slice.ensures.value c.in_ok-sessions.ensures.ready c.in_ok-sessions.ensures.fresh c.run_sessions.ensures.sessions).files_are ∙ c.in_ok-sessions.ensures.opened
 
 pub close_desk-requires-clause-numbers : goal.close_desk-requires-clause-numbers
 close_desk-requires-clause-numbers g c =
-    let have = have_run g.F.Src.Source.name g.F.Src.Source.left g.F.Src.Source.faults c.in-Ok.desk.board.shared.table_id c.args.loading.now.prefer 0
-    (g.F.Shelf.files c.start_sessions.new.shelf) (g.F.Shelf.opened c.start_sessions.new.shelf) c.in_ok-sessions.sessions.items c.run_all.new.sessions.items
-    c.in_ok-sessions.ensures.ready c.in_ok-sessions.ensures.fresh c.run_all.ensures.sessions in
-    let courses = courses_of g.F.Src.Source.name c.run_all.new.sessions.items in
+    let have = have_ended g.F.Src.Source.name g.F.Src.Source.left g.F.Src.Source.faults c.in-Ok.desk.board.shared.table_id c.args.loading.now.prefer 0
+    (g.F.Shelf.files c.start_sessions.new.shelf) (g.F.Shelf.opened c.start_sessions.new.shelf) c.in_ok-sessions.sessions _ c.run_sessions.new.sessions
+    c.as_mut_slice.ensures.value c.in_ok-sessions.ensures.ready c.in_ok-sessions.ensures.fresh c.run_sessions.ensures.sessions in
+    let courses = courses_of g.F.Src.Source.name (with_items c.in_ok-sessions.sessions c.run_sessions.new.sessions).items in
     let made = (root_of c.end_all.new.root).made in
     let few : 0 + length courses + 1 ≤ made = omega (arith, have.long, c.in_ok-end_all.ensures.root.made, c.start_asker-asker.ensures.made, c.in_ok-sessions.ensures.made) in
     subst (AllByRecursion (λ left. left.number + 1 < made))
     (sym (c.in_ok-end_all.ensures.root.ended ∙ ap (λ ended. ended ++ map ended_of courses) (c.start_asker-asker.ensures.ended ∙ c.in_ok-sessions.ensures.ended)))
     (numbered_below 0 courses made have.numbers few)
 
+pub returns-in_err-end_all-clause-gathers : goal.returns-in_err-end_all-clause-gathers
+returns-in_err-end_all-clause-gathers g c =
+    let status = c.in_err-end_all.field-0.0 in
+    let libraries = libraries_meaning c.args.loading.now.libraries in
+    let files = g.F.Shelf.files c.args.shelf.now in
+    let between = g.F.Shelf.faults c.start_sessions.new.shelf in
+    let after = g.F.Shelf.faults c.end_all.new.shelf in
+    let p = err_from_is_err_and c.from_residual-in_err-end_all.result c.from_residual-in_err-end_all.ensures.1 in
+    let stops : StopsAt status libraries (flow files between after)
+    = subst (λ told. StopsAt status libraries (flow told between after)) c.in_ok-sessions.ensures.files c.in_err-end_all.ensures.gathers in
+    rw (p.1 ∙ ap Err p.2)
+    (subst (λ before. StopsAt status libraries (flow files before after)) (fun_ext c.in_ok-sessions.ensures.calm) stops)
+
+pub close_desk-requires-clause-known : goal.close_desk-requires-clause-known
+close_desk-requires-clause-known g c =
+    let courses = courses_of g.F.Src.Source.name (with_items c.in_ok-sessions.sessions c.run_sessions.new.sessions).items in
+    subst (AllByRecursion (λ left. length left.seen ≤ (root_of c.end_all.new.root).floor))
+    (sym (c.in_ok-end_all.ensures.root.ended ∙ ap (λ ended. ended ++ map ended_of courses) (c.start_asker-asker.ensures.ended ∙ c.in_ok-sessions.ensures.ended)))
+    c.in_ok-end_all.ensures.root.known
+
 pub close_desk-requires-clause-asked : goal.close_desk-requires-clause-asked
 close_desk-requires-clause-asked g c =
-    let asks = c.run_all.ensures.asker in
+    let asks = c.run_sessions.ensures.asker in
     let before = c.start_asker-asker.result in
-    let seen = (view c.run_all.new.asker.pass).seen in
-    let replies = c.run_all.new.asker.replies.items in
+    let seen = (view c.run_sessions.new.asker.pass).seen in
+    let replies = c.run_sessions.new.asker.replies.items in
     λ done. record {
       idle = asks.knows.own ∙ c.start_asker-asker.ensures.own;
-      replied = subst (λ names. Replied names seen 0 c.run_all.new.asker.questions.items replies)
+      replied = subst (λ names. Replied names seen 0 c.run_sessions.new.asker.questions.items replies)
           (c.start_asker-asker.ensures.names ∙ sym (c.in_ok-end_all.ensures.root.setting ∙ c.start_asker-asker.ensures.setting))
           (subst (λ questions. Replied (view before.pass).setting seen 0 questions replies) (sym asks.questions)
           (replied_over (view before.pass).setting seen seen 0 (view before.pass).floor before.questions.items replies ([], append-nil seen) (omega arith) asks.replied));
@@ -69,10 +94,10 @@ pub returns-in-Ok-close_desk-clause-gathers : goal.returns-in-Ok-close_desk-clau
 returns-in-Ok-close_desk-clause-gathers g c =
     let name = g.F.Src.Source.name in
     let prefer = c.args.loading.now.prefer in
-    let have = have_run g.F.Src.Source.name g.F.Src.Source.left g.F.Src.Source.faults c.in-Ok.desk.board.shared.table_id c.args.loading.now.prefer 0
-    (g.F.Shelf.files c.start_sessions.new.shelf) (g.F.Shelf.opened c.start_sessions.new.shelf) c.in_ok-sessions.sessions.items c.run_all.new.sessions.items
-    c.in_ok-sessions.ensures.ready c.in_ok-sessions.ensures.fresh c.run_all.ensures.sessions in
-    let courses = courses_of name c.run_all.new.sessions.items in
+    let have = have_ended g.F.Src.Source.name g.F.Src.Source.left g.F.Src.Source.faults c.in-Ok.desk.board.shared.table_id c.args.loading.now.prefer 0
+    (g.F.Shelf.files c.start_sessions.new.shelf) (g.F.Shelf.opened c.start_sessions.new.shelf) c.in_ok-sessions.sessions _ c.run_sessions.new.sessions
+    c.as_mut_slice.ensures.value c.in_ok-sessions.ensures.ready c.in_ok-sessions.ensures.fresh c.run_sessions.ensures.sessions in
+    let courses = courses_of name (with_items c.in_ok-sessions.sessions c.run_sessions.new.sessions).items in
     let words = c.args.loading.now.libraries.words.now in
     let libraries = libraries_meaning c.args.loading.now.libraries in
     let loaded = c.in-Ok-close_desk.watched.loaded in
@@ -115,7 +140,7 @@ returns-in-Ok-close_desk-clause-beside g c =
     = c.in_ok-end_all.ensures.root.setting ∙ (c.start_asker-asker.ensures.setting ∙ (c.in_ok-sessions.ensures.setting ∙ c.in-Ok.ensures.names)) in
     subst (λ names. AreReplies names watched.loaded.catalogue.history 0 c.args.start.questions.beside.items watched.beside.items) named
     (subst (λ questions. AreReplies (root_of c.end_all.new.root).setting watched.loaded.catalogue.history 0 questions watched.beside.items)
-    (c.run_all.ensures.asker.questions ∙ ap vec_items c.start_asker-asker.ensures.questions) c.in-Ok-close_desk.ensures.beside)
+    (c.run_sessions.ensures.asker.questions ∙ ap vec_items c.start_asker-asker.ensures.questions) c.in-Ok-close_desk.ensures.beside)
 
 pub returns-in-Ok-close_desk-clause-late : goal.returns-in-Ok-close_desk-clause-late
 returns-in-Ok-close_desk-clause-late g c =

@@ -5,13 +5,14 @@ use Rattle.union_words.specs.Meanings.{libraries_meaning}
 use Rattle.union_inputs.specs.Inputs as all
 use Rattle.union_inputs.specs.declared.text_file.TheConstants.{LARGEST_TEXT}
 use Rattle.union_inputs.proofs.FileLaws.{flow, same_more}
+use Rattle.union_inputs.proofs.InputLaws.{on_files}
 use Rattle.union_files.specs.Inputs.{AreWithin, StopsAt}
 use Rattle.union_files.proofs.RunLaws.{stopped_at_libraries, within_cons}
 use Rattle.union_follow.specs.Following.{HasFollowed}
 use Rattle.union_watch.specs.AskLines.{lines_in}
 use Rattle.union_watch.specs.Runs.{asks_file, first_files, deliveries_of, IsWatchOf}
 use Rattle.union_watch.specs.Told.{told_of}
-use Rattle.union_commands.proofs.RunLaws.{keeps_all, on_told}
+use Rattle.union_commands.proofs.RunLaws.{keeps_all}
 use Rattle.union_commands.proofs.WatchLaws.{asked_run, HasRead}
 use Rattle.union_program.specs.Follow.{AreInOrder, followed}
 use Rattle.union_program.proofs.FollowLaws.{followed-turned}
@@ -32,7 +33,7 @@ returns-in-Ok-follow_and_answer-clause-run g c =
     = subst (λ t. IfSome files (λ contents. (length (contents c.args.asks.now) ≤ LARGEST_TEXT) × (t ≡ contents c.args.asks.now)))
     (sym c.as_slice.ensures.value) c.in-Ok.ensures.reads.1 in
     let first : IfSome files (HasRead watch text no_names)
-    = on_told files (λ contents asks. record {
+    = on_files files (λ contents asks. record {
       within = within_cons contents (asks_file watch) [] asks.0 refl;
       text_is = asks.1;
       named = refl;
@@ -42,7 +43,7 @@ returns-in-Ok-follow_and_answer-clause-run g c =
     c.in-Ok.ensures.files c.in-Ok-follow_and_answer.ensures.gathers.1 in
     asked_run AreInOrder watch text no_names loaded (told_of (lines_in text) replies) answered.refused c.write_answered.result (flow files before after) _ _
     (same_more before between after c.in-Ok.ensures.reads.0 c.in-Ok-follow_and_answer.ensures.gathers.0) first
-    (on_told files (λ contents united. (united.0, followed-turned (deliveries_of contents watch) loaded united.1)) united)
+    (on_files files (λ contents united. (united.0, followed-turned (deliveries_of contents watch) loaded united.1)) united)
     c.in-Ok-follow_and_answer.ensures.told c.in-Ok-follow_and_answer.ensures.timely c.in-Ok-follow_and_answer.ensures.refused
     (rw c.in-Ok-follow_and_answer.ensures.lines at c.write_answered.ensures)
 
@@ -54,7 +55,7 @@ returns-in-Ok-clause-run g c =
     let before = g.F.Shelf.faults c.read_asks.new.shelf in
     let after = g.F.Shelf.faults c.follow_and_answer.new.shelf in
     let first : IfSome files (λ contents. all.AreWithin contents (first_files watch))
-    = on_told {P = λ contents. (length (contents c.args.asks.now) ≤ LARGEST_TEXT) × (c.in-Ok.text.items ≡ contents c.args.asks.now)} files
+    = on_files {P = λ contents. (length (contents c.args.asks.now) ≤ LARGEST_TEXT) × (c.in-Ok.text.items ≡ contents c.args.asks.now)} files
     (λ contents asks. within_cons contents (asks_file watch) [] asks.0 refl) c.in-Ok.ensures.reads.1 in
     let stops : StopsAt status watch.libraries (flow files before after)
     = subst (λ fs. StopsAt status watch.libraries (flow fs before after)) c.in-Ok.ensures.files c.in-Err-follow_and_answer.ensures.gathers in

@@ -4,13 +4,13 @@ use Rattle.std.specs.Option.{option_copied}
 use Rattle.names_file.specs.Named.{named_by, names_inputs}
 use Rattle.names_file.proofs.NamesLaws.{names_read}
 use Rattle.union_inputs.proofs.FileLaws.{flow, same_more}
-use Rattle.union_inputs.proofs.InputLaws.{on_all}
+use Rattle.union_inputs.proofs.InputLaws.{on_all, on_files}
 use Rattle.union_words.specs.Meanings.{loading_meaning}
 use Rattle.union_files.specs.Inputs.{AreWithin, StopsAt}
 use Rattle.union_files.specs.Interleavings.{IsInterleaving}
 use Rattle.union_files.proofs.RunLaws.{stopped_at_libraries}
 use Rattle.union_commands.specs.Runs.{deliveries_of, showing_of, HasTurned, IsUnionOf}
-use Rattle.union_commands.proofs.RunLaws.{stopped_at_names, loaded_run, loaded_noted, keeps_all, on_told}
+use Rattle.union_commands.proofs.RunLaws.{stopped_at_names, loaded_run, loaded_noted, keeps_all}
 use Rattle.union_program.proofs.run.run_union.Goals as goal
 
 pub returns-in-Ok-load_by_names-clause-run : goal.returns-in-Ok-load_by_names-clause-run
@@ -44,7 +44,7 @@ returns-in-Err-load_by_names-clause-run g c =
     let named = names_read (option_copied c.args.loading.now.names) c.in-Ok.names (flow files before between) c.in-Ok.ensures.reads in
     rw c.end.ensures.same
     (stopped_at_libraries (IsUnionOf (showing_of c.args.shown) loading) status (names_inputs loading.names) loading.libraries files before between after _ _
-    named.0 (on_told files (λ contents holds. holds.0) named.1)
+    named.0 (on_files files (λ contents holds. holds.0) named.1)
     (subst (λ fs. StopsAt status loading.libraries (flow fs between after)) c.in-Ok.ensures.files c.in-Err-load_by_names.ensures.gathers)
     (keeps_all (g.O.Sink.written c.args.out.now)))
 

@@ -6,7 +6,7 @@ use Rattle.union_words.specs.Meanings.{loading_meaning}
 use Rattle.union_inputs.specs.Inputs as all
 use Rattle.union_inputs.specs.declared.text_file.TheConstants.{LARGEST_TEXT}
 use Rattle.union_inputs.proofs.FileLaws.{flow, same_more}
-use Rattle.union_inputs.proofs.InputLaws.{on_both}
+use Rattle.union_inputs.proofs.InputLaws.{on_both, on_files}
 use Rattle.union_files.specs.Inputs.{AreWithin, StopsAt}
 use Rattle.union_files.specs.Interleavings.{IsInterleaving}
 use Rattle.union_files.proofs.RunLaws.{stopped_at_libraries, within_cons}
@@ -14,9 +14,8 @@ use Rattle.union_watch.specs.AskLines.{lines_in}
 use Rattle.union_watch.specs.Runs.{asks_file, first_files, watch_of, deliveries_of, IsWatchOf}
 use Rattle.union_watch.specs.Told.{told_of}
 use Rattle.union_commands.specs.Runs.{HasTurned}
-use Rattle.union_commands.proofs.RunLaws.{keeps_all, on_told, stopped_at_names}
+use Rattle.union_commands.proofs.RunLaws.{keeps_all, stopped_at_names, written_noted}
 use Rattle.union_commands.proofs.WatchLaws.{asked_run, HasRead}
-use Rattle.union_program.proofs.NamedLaws.{noted_early}
 use Rattle.union_program.proofs.run.run_watch.Goals as goal
 
 pub returns-in-Ok-load_and_answer-clause-run : goal.returns-in-Ok-load_and_answer-clause-run
@@ -86,7 +85,7 @@ returns-in-Ok-clause-run g c =
     let asked = g.F.Shelf.faults c.read_asks.new.shelf in
     let named = g.F.Shelf.faults c.names_of.new.shelf in
     let first : IfSome files (λ contents. all.AreWithin contents (asks_file watch ∷ []))
-    = on_told {P = λ contents. (length (contents c.args.asks.now) ≤ LARGEST_TEXT) × (c.in-Ok.text.items ≡ contents c.args.asks.now)} files
+    = on_files {P = λ contents. (length (contents c.args.asks.now) ≤ LARGEST_TEXT) × (c.in-Ok.text.items ≡ contents c.args.asks.now)} files
     (λ contents asks. within_cons contents (asks_file watch) [] asks.0 refl) c.in-Ok.ensures.reads.1 in
     let stops : ReadsNames watch.names (Err status) (flow files asked named)
     = subst (λ fs. ReadsNames watch.names (Err status) (flow fs asked named)) c.in-Ok.ensures.files c.in-Err-names_of.ensures.reads in
@@ -97,5 +96,4 @@ returns-in-Ok-clause-run g c =
 pub returns-in-Ok-load_and_answer-clause-noted : goal.returns-in-Ok-load_and_answer-clause-noted
 returns-in-Ok-load_and_answer-clause-noted g c =
     let answered = c.in-Ok-load_and_answer.answered in
-    λ early. noted_early (answered.loaded.refused || answered.refused) c.write_answered.result _ c.write_answered.ensures.kinds
-    (λ is. (c.write_answered.ensures.memory is).1) early
+    λ early. written_noted _ _ (answered.loaded.refused || answered.refused) c.write_answered.result _ _ c.write_answered.ensures early

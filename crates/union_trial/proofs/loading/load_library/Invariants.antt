@@ -1,5 +1,5 @@
 use Rattle.std.proofs.Common.{◌≡◌, length}
-use Rattle.union_trial.specs.Streams.{still_drawn, library_code}
+use Rattle.union_trial.specs.Streams.{still_drawn}
 use Rattle.union_trial.proofs.BlockLaws.{HasLoaded}
 use Rattle.union_trial.proofs.loading.load_library.Given as goal
 

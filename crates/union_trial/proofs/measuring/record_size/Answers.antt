@@ -1,4 +1,4 @@
-use Rattle.std.proofs.Common.{◌≡◌, ◌≤◌, ◌++◌, [], length, sym, subst, ap, ◌∙◌, arith}
+use Rattle.std.proofs.Common.{◌≡◌, ◌≤◌, ◌++◌, length, sym, subst, ap, ◌∙◌, arith}
 use Rattle.catalogue_export.specs.Editions.{edition_text}
 use Rattle.union_trial.proofs.SizeLaws.{edition-size}
 use Rattle.union_trial.proofs.measuring.record_size.Goals as goal

@@ -1,4 +1,4 @@
-use Rattle.std.proofs.Common.{◌≤◌, ◌+◌, Bor, length, map, refl, sym, ap, ◌∙◌, arith, take}
+use Rattle.std.proofs.Common.{◌≤◌, ◌+◌, Bor, length, map, sym, ap, ◌∙◌, arith}
 use Rattle.std.proofs.lemmas.List.{take_all, length-map}
 use Rattle.catalogue_editions.specs.declared.edition.Edition.{Edition}
 use Rattle.catalogue_export.specs.Editions.{export_text}

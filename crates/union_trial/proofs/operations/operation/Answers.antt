@@ -1,4 +1,4 @@
-use Rattle.std.proofs.Common.{◌≡◌, sym, ap, subst, ◌∙◌}
+use Rattle.std.proofs.Common.{◌≡◌, sym, subst, ◌∙◌}
 use Rattle.marc_fields.specs.Spelling.{Spells, spelling}
 use Rattle.marc_fields.proofs.RecordLaws.{Spells-one}
 use Rattle.iso2709_frame.specs.Frames.{IsWhole}

@@ -1,5 +1,3 @@
-use Rattle.std.proofs.Common.{sym, ap, ◌∙◌}
-use Rattle.marc_fields.specs.Appending.{too_long, IsCause}
 use Rattle.union_trial.proofs.Acceptance.{drawn-fits}
 use Rattle.union_trial.proofs.operations.write_frame.Goals as goal
 

@@ -1,4 +1,4 @@
-use Rattle.std.proofs.Common.{◌≡◌, ℕ, ◌+◌, List, ◌++◌, drop, map}
+use Rattle.std.proofs.Common.{◌≡◌, ℕ, List, ◌++◌, drop, map}
 use Rattle.catalogue_export.specs.Writing.{IsWrittenTo}
 use Rattle.union_watch.specs.AskLines.{line_meaning}
 use Rattle.union_watch.specs.Told.{told_of, told_text_of}

@@ -1,4 +1,4 @@
-use Rattle.std.proofs.Common.{◌≡◌, ℕ, ◌+◌, List, ◌++◌, drop, length}
+use Rattle.std.proofs.Common.{◌≡◌, ℕ, ◌+◌, List, ◌++◌, drop}
 use Rattle.std.specs.List.{flat_map}
 use Rattle.catalogue_export.specs.Writing.{IsWrittenTo}
 use Rattle.union_watch.specs.TurnLines.{turn_text, turns_from, turns_text}

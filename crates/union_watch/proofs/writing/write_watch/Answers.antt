@@ -1,5 +1,4 @@
-use Rattle.std.proofs.Common.{◌++◌, List, map, Ok, Err, subst, ◌∙◌}
-use Rattle.catalogue_export.specs.Writing.{HasMoved}
+use Rattle.std.proofs.Common.{◌++◌, map}
 use Rattle.union_watch.specs.AskLines.{line_meaning}
 use Rattle.union_watch.specs.Told.{told_of, told_text_of}
 use Rattle.union_watch.specs.TurnLines.{turns_text}

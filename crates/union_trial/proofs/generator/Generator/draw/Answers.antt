@@ -1,4 +1,4 @@
-use Rattle.std.proofs.Common.{◌*◌, ◌^◌, refl, ap, ◌∙◌}
+use Rattle.std.proofs.Common.{◌*◌, ◌^◌, refl}
 use Rattle.std.proofs.Math.Nat.{mod-add-mod}
 use Rattle.union_trial.specs.Draws.{next_state, number_below}
 use Rattle.union_trial.proofs.generator.Generator.draw.Goals as goal

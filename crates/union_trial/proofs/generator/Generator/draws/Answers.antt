@@ -1,5 +1,5 @@
-use Rattle.std.proofs.Common.{refl, ap, ◌∙◌}
-use Rattle.union_trial.specs.Draws.{next_state, draws_of, state_behind}
+use Rattle.std.proofs.Common.{refl}
+use Rattle.union_trial.specs.Draws.{draws_of, state_behind}
 use Rattle.union_trial.proofs.generator.Generator.draws.Goals as goal
 
 pub returns-clause-state : goal.returns-clause-state
