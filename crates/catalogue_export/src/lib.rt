@@ -8,12 +8,14 @@
 //! they are sorted once by their tags, and each record is written once.
 #![tactic(auto)]
 
+pub mod by_workers;
 pub mod edition;
 pub mod editions;
 pub mod export;
 pub mod export_fail;
 mod fields;
 mod fitting;
+pub mod form;
 pub mod laws;
 mod own_fields;
 pub mod pending;

@@ -199,7 +199,10 @@ fn run_union<R: Threads + Wait + Sync, F: Shelf, O: Sink, N: Sink, G: Gate>(
         Ok(names) => {
             let none = Questions::none(host.alloc);
             match load_by_names(host, loading, names, none, shelf) {
-                Ok(watched) => write_shown(host.alloc, shown, watched.loaded, out, notes),
+                Ok(watched) => {
+                    let loaded = watched.loaded;
+                    write_shown(host.rt, host.alloc, shown, loading.workers, loaded, out, notes)
+                }
                 Err(status) => end(notes, status),
             }
         }
