@@ -24,8 +24,8 @@ are-parts told noted editions [] few each = nil_from_length editions (omega (ari
 are-parts told noted editions (one ∷ more) few each = (
   each 0 one (omega arith),
   are-parts told noted (drop 256 editions) more (omega (arith, few, length-drop 256 editions))
-  (λ n d within. subst (λ es. IfOk (get_or more n d) (IsPartOf told noted (map (λ e. e.now) (take 256 es))))
-  (sym (drop-drop (n * 256) 256 editions ∙ ap (λ k. drop k editions) (omega arith))) (each (suc n) d (omega (arith, within)))),
+      (λ n d within. subst (λ es. IfOk (get_or more n d) (IsPartOf told noted (map (λ e. e.now) (take 256 es))))
+      (sym (drop-drop (n * 256) 256 editions ∙ ap (λ k. drop k editions) (omega arith))) (each (suc n) d (omega (arith, within)))),
 )
 
 -- the writing of a part is the export of its editions

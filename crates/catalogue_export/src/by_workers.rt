@@ -98,11 +98,12 @@ fn write_by_workers<R: Threads + Sync, F: ExportForm + Send, O: Sink>(
         return write_editions::<F, O>(alloc, catalogue, editions, out, left);
     }
     let most = workers as usize * SHARE;
-    let mut rest = editions;
-    while !rest.is_empty() {
-        let (round, later) = rest.split_at(rest.len().min(most));
+    let mut done = 0;
+    'rounds: while done < editions.len() {
+        let end = done + most.min(editions.len() - done);
+        let round = &editions[done..end];
         match write_round::<R, F, O>(rt, alloc, catalogue, round, out, left) {
-            Ok(()) => rest = later,
+            Ok(()) => done = end,
             Err(fail) => return Err(fail),
         }
     }

@@ -1,11 +1,13 @@
-use Rattle.std.proofs.Common.{◌≡◌, ◌≤◌, ◌*◌, Bor, List, [], length, map, get_or, take, drop, sym, subst, ◌∙◌, append-nil, arith}
+use Rattle.std.proofs.Common.{◌≡◌, ◌≤◌, ◌*◌, Bor, List, [], length, map, get_or, take, drop, sym, ap, subst, ◌∙◌, append-nil, arith}
 use Rattle.std.specs.Prelude.{IfOk, Ok, Err}
-use Rattle.std.proofs.lemmas.List.{take-append-drop, nil_from_length}
+use Rattle.std.proofs.lemmas.List.{take-append-drop}
+use Rattle.std.proofs.lemmas.Result.{err_from_is_err_and}
 use Rattle.catalogue_editions.specs.declared.edition.Edition.{Edition}
 use Rattle.catalogue_export.specs.Editions.{left_of_one}
 use Rattle.catalogue_export.specs.Parts.{IsPartOf}
-use Rattle.catalogue_export.specs.Writing.{Output}
-use Rattle.catalogue_export.proofs.ExportLaws.{IsExportedTo, export-unmade, to-begin, to-more, to-stop, to-end}
+use Rattle.catalogue_export.specs.Writing.{Output, IsExport}
+use Rattle.catalogue_export.specs.declared.export_fail.ExportFail.TheVariants.{Memory}
+use Rattle.catalogue_export.proofs.ExportLaws.{export-unmade, to-begin, to-more, to-stop}
 use Rattle.catalogue_export.proofs.PartLaws.{AreParts, are-parts, part-export}
 use Rattle.catalogue_export.proofs.by_workers.write_round.Goals as goal
 
@@ -26,7 +28,19 @@ loop-made-init g c =
     )
 
 pub returns-in_err-part : goal.returns-in_err-part
-returns-in_err-part g c = ?
+returns-in_err-part g c =
+    let shown = g.F.ExportForm.shown c.args.catalogue.now.names in
+    let noted = left_of_one c.args.catalogue.now.names in
+    let editions = c.args.editions.now in
+    let rest = c.loop-made.invariant.0 in
+    let out : Output = record { old = g.O.Sink.written c.args.out.now; new = g.O.Sink.written c.loop-made.out; before = g.O.Sink.faults c.args.out.now; after = g.O.Sink.faults c.loop-made.out } in
+    let failed = err_from_is_err_and c.from_residual-in_err-part.result c.from_residual-in_err-part.ensures.1 in
+    subst (λ result. IsExport shown noted (map (λ (e : Bor Edition). e.now) editions) out c.args.left.now.items c.loop-made.left.items result)
+    (sym (failed.1 ∙ ap Err failed.2))
+    (to-stop shown noted editions rest rest [] (g.O.Sink.written c.args.out.now) (g.O.Sink.written c.loop-made.out) (g.O.Sink.written c.loop-made.out)
+    (g.O.Sink.faults c.args.out.now) (g.O.Sink.faults c.loop-made.out) (g.O.Sink.faults c.loop-made.out)
+    c.args.left.now.items c.loop-made.left.items c.loop-made.left.items Memory (sym (append-nil rest)) c.loop-made.invariant.2
+    (export-unmade shown noted (map (λ (e : Bor Edition). e.now) rest) (g.O.Sink.written c.loop-made.out) (g.O.Sink.faults c.loop-made.out) c.loop-made.left.items))
 
 pub loop-made-preserved : goal.loop-made-preserved
 loop-made-preserved g c =
