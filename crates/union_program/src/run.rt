@@ -201,15 +201,8 @@ fn run_union<R: Threads + Wait + Sync, F: Shelf, O: Sink, N: Sink, G: Gate>(
             match load_by_names(host, loading, names, none, shelf) {
                 Ok(watched) => {
                     let loaded = watched.loaded;
-                    write_shown(
-                        host.rt,
-                        host.alloc,
-                        shown,
-                        loading.workers,
-                        loaded,
-                        out,
-                        notes,
-                    )
+                    let workers = loading.workers;
+                    write_shown(host.rt, host.alloc, shown, workers, loaded, out, notes)
                 }
                 Err(status) => end(notes, status),
             }
