@@ -5,7 +5,7 @@ use Rattle.std.specs.List.{flat_map}
 use Rattle.std.specs.declared.option.Option.{Option}
 use Rattle.std.proofs.lemmas.Grind.{flat_map-append}
 use Rattle.std.proofs.lemmas.List.{map-append}
-use Rattle.catalogue_export.specs.Writing.{IsWrittenTo, HasWritten, GainsFront, Output, IsExport}
+use Rattle.catalogue_export.specs.Writing.{HasWritten, GainsFront, Output, IsExport}
 use Rattle.catalogue_export.specs.declared.export_fail.ExportFail.{ExportFail}
 use Rattle.catalogue_export.specs.declared.export_fail.ExportFail.TheVariants.{Memory}
 use Rattle.catalogue_export.proofs.WritingLaws.{Appends-nothing, written-none, front-more, rest-written, none-written, gains-none, gains-more}
