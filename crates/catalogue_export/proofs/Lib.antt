@@ -14,5 +14,7 @@ pub mod ExportedParts
 pub mod ExportedProof
 pub mod EditionLaws
 pub mod WritingLaws
+pub mod ExportLaws
+mod PartLaws
 pub mod AroundLaws
 mod WorkWalk

@@ -5,4 +5,5 @@ pub mod OwnFields
 pub mod ExportedLaws
 pub mod Editions
 pub mod Writing
+pub mod Parts
 pub mod WorkLists

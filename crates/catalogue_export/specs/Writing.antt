@@ -1,5 +1,6 @@
 -- What the writing of a text says of its output, where it may stop half-way.
-use Rattle.std.specs.Prelude.{◌≡◌, ◌≢◌, ◌++◌, ℕ, List, Result, Err, MatchResult}
+use Rattle.std.specs.Prelude.{◌≡◌, ◌≢◌, ◌++◌, ℕ, List, Result, Err, MatchResult, OnOk, OnErr}
+use Rattle.std.specs.List.{flat_map}
 use Rattle.std.specs.declared.option.Option.{Option}
 use Rattle.std.specs.Io.KnownBytes.{Appends}
 use Rattle.union_io.specs.Causes.{Rose}
@@ -39,3 +40,11 @@ pub record GainsFront {A : Type 0} (old new more : List A) : Type 0 where
   pub rest : List A
   pub split : more ≡ front ++ rest
   pub grown : new ≡ old ++ front
+
+-- what is told of each of some values was written, one after the other, and a list has gained what is noted of each; or a prefix of
+-- both
+pub record IsExport {X Y : Type 0} (told : X → List ℕ) (noted : X → List Y) (all : List X) (out : Output) (old new : List Y)
+    (result : Result (Unit {0}) ExportFail) : Type 0 where
+  pub written : HasWritten (flat_map told all) out result
+  pub gained : OnOk result (new ≡ old ++ flat_map noted all)
+  pub stopped : OnErr result (GainsFront old new (flat_map noted all))

@@ -1,8 +1,10 @@
 //! The export of several editions.
-ghost use Rattle.std.specs.Prelude.{◌≡◌, ◌++◌, OnOk, OnErr, IfOk};
-ghost use Rattle.catalogue_export.specs.Editions.{edition_text, export_text, fields_left, left_of, noted};
+ghost use Rattle.std.specs.Prelude.{◌≡◌, ◌++◌, map, OnOk, OnErr, IfOk};
+ghost use Rattle.std.specs.List.{flat_map};
+ghost use Rattle.catalogue_export.specs.Editions.{edition_text, fields_left, left_of, noted};
 
 use crate::edition::edition_bytes;
+use crate::form::ExportForm;
 use catalogue_core::catalogue::Catalogue;
 use catalogue_core::edition::Edition;
 use std::alloc::Global;
@@ -10,25 +12,25 @@ use union_base::copied::Copied;
 use union_base::memory::Memory;
 use union_base::record_id::RecordId;
 
-/// Appends the records of the editions, one after the other, each under its own work key by the catalogue's names; and appends
-/// to `left`, for each edition of which fields were left out since a frame has no room for more, its least contributor and their
-/// number.
+/// Appends the records of the editions in this form, one after the other, each under its own work key by the catalogue's names;
+/// and appends to `left`, for each edition of which fields were left out since a frame has no room for more, its least contributor
+/// and their number.
 ///
 /// Returns `Memory` if allocation fails.
-pub fn append_editions(
+pub fn append_editions<F: ExportForm>(
     alloc: Global,
     catalogue: &Catalogue,
-    editions: &[Edition],
+    editions: &[&Edition],
     into: &mut Vec<u8>,
     left: &mut Vec<(RecordId, usize)>,
 ) -> Result<(), Memory>
     ensures text { OnOk result (into.new.items ≡ into.old.items
-        ++ export_text catalogue.now.names editions.now) }
+        ++ flat_map (F.shown catalogue.now.names) (map (λ e. e.now) editions.now)) }
     ensures left { OnOk result (left.new.items ≡ left.old.items
-        ++ left_of catalogue.now.names editions.now) }
+        ++ left_of catalogue.now.names (map (λ e. e.now) editions.now)) }
 {
     for edition in editions {
-        let count = append_edition(alloc, catalogue, edition, into)?;
+        let count = F::append(alloc, catalogue, edition, into)?;
         note_left(alloc, edition, count, left)?;
     }
     Ok(())

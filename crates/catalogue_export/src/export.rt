@@ -2,11 +2,12 @@
 ghost use Rattle.std.specs.Prelude.{◌≡◌, ◌++◌, map, OnOk, OnErr, List};
 ghost use Rattle.catalogue_core.specs.Histories.{AreEditionsOf};
 ghost use Rattle.catalogue_editions.specs.declared.edition.Edition.{Edition as EditionModel};
-ghost use Rattle.catalogue_export.specs.Editions.{edition_text, export_text, left_of_one, left_of};
-ghost use Rattle.catalogue_export.specs.Writing.{GainsFront, HasMoved, HasWritten};
+ghost use Rattle.catalogue_export.specs.Editions.{export_text, left_of_one, left_of};
+ghost use Rattle.catalogue_export.specs.Writing.{GainsFront, HasMoved, HasWritten, IsExport};
 
-use crate::editions::{append_edition, note_left};
+use crate::editions::note_left;
 use crate::export_fail::ExportFail;
+use crate::form::{ExportForm, Iso2709};
 use crate::pending::{hand_on, hand_on_rest};
 use catalogue_core::catalogue::Catalogue;
 use catalogue_core::edition::Edition;
@@ -41,35 +42,34 @@ pub fn export<O: Sink>(
         (left_of catalogue.now.names all)) }
 {
     match catalogue.editions(alloc) {
-        Ok(editions) => write_editions(alloc, catalogue, editions.as_slice(), out, left),
+        Ok(editions) => {
+            write_editions::<Iso2709, O>(alloc, catalogue, editions.as_slice(), out, left)
+        }
         Err(Memory) => Err(ExportFail::Memory),
     }
 }
 
-/// Writes the records of the editions, one after the other, and notes those of which fields were left out.
-fn write_editions<O: Sink>(
+/// Writes the records of the editions in this form, one after the other, and notes those of which fields were left out.
+pub(crate) fn write_editions<F: ExportForm, O: Sink>(
     alloc: Global,
     catalogue: &Catalogue,
     editions: &[&Edition],
     out: &mut O,
     left: &mut Vec<(RecordId, usize)>,
 ) -> Result<(), ExportFail>
-    ensures written { HasWritten (export_text catalogue.now.names (map (λ e. e.now) editions.now))
+    ensures { IsExport (F.shown catalogue.now.names) (left_of_one catalogue.now.names)
+        (map (λ e. e.now) editions.now)
         (record {
           old = O.written out.old;
           new = O.written out.new;
           before = O.faults out.old;
           after
               = O.faults out.new;
-        }) result }
-    ensures left { OnOk result (left.new.items ≡ left.old.items
-        ++ left_of catalogue.now.names (map (λ e. e.now) editions.now)) }
-    ensures stopped { OnErr result (GainsFront left.old.items left.new.items
-        (left_of catalogue.now.names (map (λ e. e.now) editions.now))) }
+        }) left.old.items left.new.items result }
 {
     let mut pending = Vec::new(alloc);
     for edition in editions {
-        match write_edition(alloc, catalogue, edition, &mut pending, left, out) {
+        match write_edition::<F, O>(alloc, catalogue, edition, &mut pending, left, out) {
             Ok(()) => {}
             Err(fail) => return Err(fail),
         }
@@ -78,7 +78,7 @@ fn write_editions<O: Sink>(
 }
 
 /// Writes the record of an edition after what is pending, and notes the edition where fields of it were left out.
-fn write_edition<O: Sink>(
+fn write_edition<F: ExportForm, O: Sink>(
     alloc: Global,
     catalogue: &Catalogue,
     edition: &Edition,
@@ -86,7 +86,7 @@ fn write_edition<O: Sink>(
     left: &mut Vec<(RecordId, usize)>,
     out: &mut O,
 ) -> Result<(), ExportFail>
-    ensures text { HasMoved (pending.old.items ++ edition_text catalogue.now.names edition.now)
+    ensures text { HasMoved (pending.old.items ++ F.shown catalogue.now.names edition.now)
         pending.new.items
         (record {
           old = O.written out.old;
@@ -100,7 +100,7 @@ fn write_edition<O: Sink>(
     ensures stopped { OnErr result (GainsFront left.old.items left.new.items
         (left_of_one catalogue.now.names edition.now)) }
 {
-    let count = append_edition(alloc, catalogue, edition, pending)?;
+    let count = F::append(alloc, catalogue, edition, pending)?;
     note_left(alloc, edition, count, left)?;
     hand_on(pending, out)
 }

@@ -4,16 +4,20 @@
 //! contributor, and the united fields, as many of them in this order as a frame has room for.
 //!
 //! Guarantee: `edition::edition_bytes` and `editions::append_editions` append exactly the bytes that specs/Exported.antt and
-//! specs/Editions.antt define. Cost: the fields of an edition are borrowed, and only those that it does not have are made;
-//! they are sorted once by their tags, and each record is written once.
+//! specs/Editions.antt define, and an export has these in order, whether one worker makes it (`export`) or several do
+//! (`by_workers`). A crate above can write the records in a form of its own (`form::ExportForm`). Cost: the fields of an edition
+//! are borrowed, and only those that it does not have are made; they are sorted once by their tags, and each record is written
+//! once.
 #![tactic(auto)]
 
+pub mod by_workers;
 pub mod edition;
 pub mod editions;
 pub mod export;
 pub mod export_fail;
 mod fields;
 mod fitting;
+pub mod form;
 pub mod laws;
 mod own_fields;
 pub mod pending;

@@ -2,6 +2,7 @@
 use crate::worked::{BLUE, BRIDGE, RED, edition_in};
 use catalogue_core::catalogue::Catalogue;
 use catalogue_export::editions::append_editions;
+use catalogue_export::form::Iso2709;
 use merge_laws::join::Join;
 use std::test::Fail;
 
@@ -23,13 +24,11 @@ fn two_editions_one_behind_the_other(rt: HostRuntime) -> Result<(), Fail> {
     let blue = edition_in(alloc, "LIBA", BLUE)?;
     let bridge = edition_in(alloc, "LIBA", BRIDGE)?;
     let ships = red.joined(alloc, &blue)?.joined(alloc, &bridge)?;
-    let mut editions = Vec::new(alloc);
-    editions.push(ships)?;
-    editions.push(edition_in(alloc, "LIBA", ONE)?)?;
+    let cat = edition_in(alloc, "LIBA", ONE)?;
     let mut text = Vec::new(alloc);
     let mut left = Vec::new(alloc);
     let catalogue = Catalogue::empty(alloc)?;
-    append_editions(alloc, &catalogue, editions.as_slice(), &mut text, &mut left)?;
+    append_editions::<Iso2709>(alloc, &catalogue, &[&ships, &cat], &mut text, &mut left)?;
     let mut expected = Vec::new(alloc);
     expected.extend_from_slice(SHIPS_EXPORTED)?;
     expected.extend_from_slice(ONE_EXPORTED)?;

@@ -3,11 +3,13 @@
 //!
 //! What a proof cannot see is tested here by the public calls of each crate: the forms of words, worked files and their texts, each
 //! fault in turn, and sessions that are held by gates. The tests are in a crate of their own, since a crate with tests is
-//! proved twice, with them and without: so these libraries are proved once. There is a module for each of them, and four
-//! more for the program: `union_json_tests`, on MARC in JSON, `union_tests`, on several libraries at once, `union_names_tests`, on
-//! a file of names, and `gate_tests`, on the order of their turns.
+//! proved twice, with them and without: so these libraries are proved once. There is a module for each of them, four more
+//! for the program: `union_json_tests`, on MARC in JSON, `union_tests`, on several libraries at once, `union_names_tests`, on a
+//! file of names, and `gate_tests`, on the order of their turns; and `export_tests`, on the export of a generated catalogue.
 #![tactic(auto)]
 
+#[cfg(test)]
+mod export_tests;
 #[cfg(test)]
 mod gate_tests;
 #[cfg(test)]

@@ -1,6 +1,6 @@
 -- What a run does, by the form of its words.
 use Rattle.std.specs.Prelude.{◌≡◌, ◌≢◌, ℕ, ◌⊎◌, ◌<◌, ◌≤◌, ◌||◌, false, IsTrue, List, [], ◌∷◌, ◌++◌, length, map, Some, IfSome}
-use Rattle.std.specs.List.{list_any}
+use Rattle.std.specs.List.{flat_map, list_any}
 use Rattle.std.specs.Io.KnownBytes.{Appends, Keeps}
 use Rattle.authority_names.specs.Leads.{Table}
 use Rattle.catalogue_core.specs.Histories.{AreEditionsOf}
@@ -58,6 +58,10 @@ pub record IsCheck (library : List ℕ) (file : Inflow) (out : Outflow) (status 
 pub record Showing : Type 0 where
   pub shown : Table → List Edition → List ℕ
   pub noted : Table → List Edition → List ℕ
+
+-- what is shown of each edition in some form, one after the other, and lines on what was left out
+abbrev pub shown_by : (Table → Edition → List ℕ) → Showing
+shown_by shown = record { shown = λ names editions. flat_map (shown names) editions; noted = left_lines }
 
 -- the export, and lines on what was left out of it
 abbrev pub exported : Showing

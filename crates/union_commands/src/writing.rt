@@ -3,16 +3,18 @@ ghost use Rattle.std.specs.Prelude.{◌≡◌, ◌++◌, IfOk};
 ghost use Rattle.std.specs.List.{flat_map};
 ghost use Rattle.union_reports.specs.Reports.{left_line};
 ghost use Rattle.union_words.specs.Statuses.{end_by};
-ghost use Rattle.union_commands.specs.Runs.{exported, exported_in_json, listed, showing_of, IsReported, Shows};
+ghost use Rattle.union_commands.specs.Runs.{listed, showing_of, shown_by, IsReported, Shows};
 
 use crate::notes::put_early;
 use crate::shown::Shown;
-use catalogue_export::export::export;
+use catalogue_export::by_workers::export_by_workers;
 use catalogue_export::export_fail::ExportFail;
+use catalogue_export::form::{ExportForm, Iso2709};
 use catalogue_export::works_text::works_text;
-use catalogue_json::json_export::export_json;
+use catalogue_json::json_export::JsonLines;
 use std::alloc::Global;
 use std::mem::forget;
+use std::thread::Threads;
 use union_base::memory::Memory;
 use union_base::record_id::RecordId;
 use union_files::loaded::Loaded;
@@ -21,6 +23,7 @@ use union_io::sink::{Sink, put_all};
 use union_reports::reports::add_left_lines;
 use union_words::form::Form;
 use union_words::status::Status;
+use union_words::workers::Workers;
 
 /// How a run ends that came to its end, by whether some frame was refused. Takes no memory.
 fn end_by(refused: bool) -> Status
@@ -83,14 +86,16 @@ pub fn write_reports<N: Sink>(
     }
 }
 
-/// Writes the export, the reports, and what was left out.
-fn write_export<O: Sink, N: Sink>(
+/// Writes the records of the editions in this form, which `workers` workers make, the reports, and what was left out.
+fn write_export<R: Threads + Sync, F: ExportForm + Send, O: Sink, N: Sink>(
+    rt: &R,
     alloc: Global,
+    workers: Workers,
     loaded: Loaded,
     out: &mut O,
     notes: &mut N,
 ) -> Status
-    ensures { Shows exported loaded
+    ensures { Shows (shown_by F.shown) loaded
         (record {
           old = O.written out.old;
           new = O.written out.new;
@@ -107,41 +112,8 @@ fn write_export<O: Sink, N: Sink>(
         result }
 {
     let mut left = Vec::new(alloc);
-    match export(alloc, &loaded.catalogue, out, &mut left) {
-        Ok(()) => write_reports(alloc, loaded, left.as_slice(), notes),
-        Err(ExportFail::WriteFault) => Status::WriteFault,
-        Err(ExportFail::Memory) => {
-            put_early(notes, &Status::Memory);
-            Status::Memory
-        }
-    }
-}
-
-/// Writes the export as lines of JSON, the reports, and what was left out.
-fn write_json_export<O: Sink, N: Sink>(
-    alloc: Global,
-    loaded: Loaded,
-    out: &mut O,
-    notes: &mut N,
-) -> Status
-    ensures { Shows exported_in_json loaded
-        (record {
-          old = O.written out.old;
-          new = O.written out.new;
-          before = O.faults out.old;
-          after
-              = O.faults out.new;
-        })
-        (record {
-          old = N.written notes.old;
-          new = N.written notes.new;
-          before = N.faults notes.old;
-          after = N.faults notes.new;
-        })
-        result }
-{
-    let mut left = Vec::new(alloc);
-    match export_json(alloc, &loaded.catalogue, out, &mut left) {
+    let catalogue = &loaded.catalogue;
+    match export_by_workers::<R, F, O>(rt, alloc, catalogue, workers.number(), out, &mut left) {
         Ok(()) => write_reports(alloc, loaded, left.as_slice(), notes),
         Err(ExportFail::WriteFault) => Status::WriteFault,
         Err(ExportFail::Memory) => {
@@ -184,10 +156,12 @@ fn write_works<O: Sink, N: Sink>(
     }
 }
 
-/// Writes what is to be shown of the catalogue, and the reports.
-pub fn write_shown<O: Sink, N: Sink>(
+/// Writes what is to be shown of the catalogue, and the reports. The records of an export are made by `workers` workers.
+pub fn write_shown<R: Threads + Sync, O: Sink, N: Sink>(
+    rt: &R,
     alloc: Global,
     shown: Shown,
+    workers: Workers,
     loaded: Loaded,
     out: &mut O,
     notes: &mut N,
@@ -209,8 +183,12 @@ pub fn write_shown<O: Sink, N: Sink>(
         result }
 {
     match shown {
-        Shown::Export(Form::Iso2709) => write_export(alloc, loaded, out, notes),
-        Shown::Export(Form::Json) => write_json_export(alloc, loaded, out, notes),
+        Shown::Export(Form::Iso2709) => {
+            write_export::<R, Iso2709, O, N>(rt, alloc, workers, loaded, out, notes)
+        }
+        Shown::Export(Form::Json) => {
+            write_export::<R, JsonLines, O, N>(rt, alloc, workers, loaded, out, notes)
+        }
         Shown::Works => write_works(alloc, loaded, out, notes),
     }
 }

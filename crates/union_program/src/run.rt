@@ -199,7 +199,11 @@ fn run_union<R: Threads + Wait + Sync, F: Shelf, O: Sink, N: Sink, G: Gate>(
         Ok(names) => {
             let none = Questions::none(host.alloc);
             match load_by_names(host, loading, names, none, shelf) {
-                Ok(watched) => write_shown(host.alloc, shown, watched.loaded, out, notes),
+                Ok(watched) => {
+                    let loaded = watched.loaded;
+                    let workers = loading.workers;
+                    write_shown(host.rt, host.alloc, shown, workers, loaded, out, notes)
+                }
                 Err(status) => end(notes, status),
             }
         }
@@ -277,9 +281,9 @@ fn run_follow<R: Threads + Wait + Sync, F: Shelf, O: Sink, N: Sink, G>(
 ///
 /// A run that ends early, for another cause than a failed write, has one line on `notes` that says why. After `export`, `works`
 /// and the file of questions of `watch` the option `--workers=N` says how many workers load the libraries, each by a session of
-/// its own, `--prefer=LIB,..` which libraries' records are preferred, and `--names=PATH` by which names works are made: that file is
-/// read before any library's file is opened, and what is told of it stands on `notes` before the reports. `gate` is told before and
-/// after each turn of a session. Waits for the workers.
+/// its own, and make the records of an export, `--prefer=LIB,..` which libraries' records are preferred, and `--names=PATH` by which
+/// names works are made: that file is read before any library's file is opened, and what is told of it stands on `notes` before the
+/// reports. `gate` is told before and after each turn of a session. Waits for the workers.
 pub fn union_run<R: Threads + Wait + Sync, F: Shelf, O: Sink, N: Sink, G: Gate>(
     rt: &R,
     alloc: Global,

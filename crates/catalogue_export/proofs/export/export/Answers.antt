@@ -14,7 +14,7 @@ returns-in-Ok g c =
       c.in-Ok.ensures.0,
       c.in-Ok.ensures.1,
       subst (λ all. HasWritten (export_text c.args.catalogue.now.names all) out c.write_editions.result) same c.write_editions.ensures.written,
-      subst (λ all. OnOk c.write_editions.result (c.write_editions.new.left.items ≡ c.args.left.now.items ++ left_of c.args.catalogue.now.names all)) same c.write_editions.ensures.left,
+      subst (λ all. OnOk c.write_editions.result (c.write_editions.new.left.items ≡ c.args.left.now.items ++ left_of c.args.catalogue.now.names all)) same c.write_editions.ensures.gained,
       subst (λ all. OnErr c.write_editions.result (GainsFront c.args.left.now.items c.write_editions.new.left.items (left_of c.args.catalogue.now.names all))) same c.write_editions.ensures.stopped,
     )
 

@@ -1,7 +1,8 @@
 use Rattle.std.proofs.Common.{◌++◌, ◌+◌, ◌≤◌, [], Bor, map, take, drop, length, refl, sym, ap, subst, ◌∙◌, append-nil, append_assoc, arith}
 use Rattle.std.proofs.lemmas.List.{take_all, length-map}
 use Rattle.catalogue_editions.specs.declared.edition.Edition.{Edition}
-use Rattle.catalogue_export.specs.Editions.{edition_text, export_text, left_of_one, left_of}
+use Rattle.std.specs.List.{flat_map}
+use Rattle.catalogue_export.specs.Editions.{left_of_one, left_of}
 use Rattle.catalogue_export.specs.Writing.{IsWrittenTo}
 use Rattle.catalogue_core.proofs.WalkLaws.{told-more}
 use Rattle.catalogue_export.proofs.AroundLaws.{told-around, seen-at}
@@ -17,69 +18,58 @@ loop-edition-init g c =
       left = sym (append-nil c.args.left.now.items);
     }
 
-pub returns-in-Err-clause-written : goal.returns-in-Err-clause-written
-returns-in-Err-clause-written g c =
+pub returns-in-Err : goal.returns-in-Err
+returns-in-Err g c =
     let before = c.loop-edition.invariant in
+    let shown = g.F.ExportForm.shown c.args.catalogue.now.names in
+    let noted = left_of_one c.args.catalogue.now.names in
     let all = map (λ (e : Bor Edition). e.now) c.args.editions.now in
     let place = c.loop-edition.edition-index in
     let e = c.edition-item.result.now in
     let at = seen-at c.args.editions.now place c.edition-item.result c.loop-edition-test.true c.edition-item.is in
-    stopped-written (g.O.Sink.written c.args.out.now) (g.O.Sink.written c.loop-edition.out) (g.O.Sink.written c.write_edition.new.out)
-    (g.O.Sink.faults c.args.out.now) (g.O.Sink.faults c.loop-edition.out) (g.O.Sink.faults c.write_edition.new.out)
-    (export_text c.args.catalogue.now.names (take place all)) c.loop-edition.pending.items (edition_text c.args.catalogue.now.names e) c.write_edition.new.pending.items
-    (export_text c.args.catalogue.now.names all) (export_text c.args.catalogue.now.names (drop (place + 1) all)) c.in-Err.fail
-    before.moved before.calm c.in-Err.ensures.text (told-around (edition_text c.args.catalogue.now.names) all place e at)
-
-pub returns-in-Err-clause-stopped : goal.returns-in-Err-clause-stopped
-returns-in-Err-clause-stopped g c =
-    let before = c.loop-edition.invariant in
-    let all = map (λ (e : Bor Edition). e.now) c.args.editions.now in
-    let place = c.loop-edition.edition-index in
-    let e = c.edition-item.result.now in
-    let at = seen-at c.args.editions.now place c.edition-item.result c.loop-edition-test.true c.edition-item.is in
-    gains-more c.args.left.now.items c.loop-edition.left.items c.write_edition.new.left.items (left_of c.args.catalogue.now.names (take place all)) (left_of_one c.args.catalogue.now.names e)
-    (left_of c.args.catalogue.now.names (drop (place + 1) all)) (left_of c.args.catalogue.now.names all) before.left c.in-Err.ensures.stopped (told-around (left_of_one c.args.catalogue.now.names) all place e at)
+    record {
+      written = stopped-written (g.O.Sink.written c.args.out.now) (g.O.Sink.written c.loop-edition.out) (g.O.Sink.written c.write_edition.new.out)
+          (g.O.Sink.faults c.args.out.now) (g.O.Sink.faults c.loop-edition.out) (g.O.Sink.faults c.write_edition.new.out)
+          (flat_map shown (take place all)) c.loop-edition.pending.items (shown e) c.write_edition.new.pending.items
+          (flat_map shown all) (flat_map shown (drop (place + 1) all)) c.in-Err.fail
+          before.moved before.calm c.in-Err.ensures.text (told-around shown all place e at);
+      gained = tt;
+      stopped = gains-more c.args.left.now.items c.loop-edition.left.items c.write_edition.new.left.items (flat_map noted (take place all)) (noted e)
+          (flat_map noted (drop (place + 1) all)) (flat_map noted all) before.left c.in-Err.ensures.stopped (told-around noted all place e at);
+    }
 
 pub loop-edition-preserved : goal.loop-edition-preserved
 loop-edition-preserved g c =
     let before = c.loop-edition.invariant in
+    let shown = g.F.ExportForm.shown c.args.catalogue.now.names in
     let all = map (λ (e : Bor Edition). e.now) c.args.editions.now in
     let place = c.loop-edition.edition-index in
     let e = c.edition-item.result.now in
     let at = seen-at c.args.editions.now place c.edition-item.result c.loop-edition-test.true c.edition-item.is in
     record {
       moved = subst (λ text. IsWrittenTo text c.write_edition.new.pending.items (g.O.Sink.written c.args.out.now) (g.O.Sink.written c.write_edition.new.out))
-          (sym (told-more (edition_text c.args.catalogue.now.names) all place e at))
+          (sym (told-more shown all place e at))
           (moved-more _ _ _ _ _ _ _ _ _ before.moved c.in-Ok.ensures.text);
       calm = c.in-Ok.ensures.text.calm (λ is. cc) ∙ before.calm;
       left = c.in-Ok.ensures.left ∙ ap (λ l. l ++ left_of_one c.args.catalogue.now.names e) before.left ∙ append_assoc c.args.left.now.items (left_of c.args.catalogue.now.names (take place all)) (left_of_one c.args.catalogue.now.names e)
           ∙ ap (λ l. c.args.left.now.items ++ l) (sym (told-more (left_of_one c.args.catalogue.now.names) all place e at));
     }
 
-pub returns-clause-written : goal.returns-clause-written
-returns-clause-written g c =
+pub returns : goal.returns
+returns g c =
     let before = c.loop-edition.invariant in
+    let shown = g.F.ExportForm.shown c.args.catalogue.now.names in
     let all = map (λ (e : Bor Edition). e.now) c.args.editions.now in
     let past : length all ≤ c.loop-edition.edition-index = omega (arith, length-map c.args.editions.now (λ (e : Bor Edition). e.now), c.loop-edition-test.false) in
     let whole = take_all c.loop-edition.edition-index all past in
     let written = g.O.Sink.written c.args.out.now in
-    rest-written written (g.O.Sink.written c.loop-edition.out) (g.O.Sink.written c.hand_on_rest.new.out)
-    (g.O.Sink.faults c.args.out.now) (g.O.Sink.faults c.loop-edition.out) (g.O.Sink.faults c.hand_on_rest.new.out)
-    (export_text c.args.catalogue.now.names all) c.loop-edition.pending.items c.hand_on_rest.result
-    (subst (λ es. IsWrittenTo (export_text c.args.catalogue.now.names es) c.loop-edition.pending.items written (g.O.Sink.written c.loop-edition.out)) whole before.moved) before.calm
-    (rw c.as_slice.ensures.value at c.hand_on_rest.ensures)
-
-pub returns-clause-left : goal.returns-clause-left
-returns-clause-left g c =
-    let before = c.loop-edition.invariant in
-    let all = map (λ (e : Bor Edition). e.now) c.args.editions.now in
-    let past : length all ≤ c.loop-edition.edition-index = omega (arith, length-map c.args.editions.now (λ (e : Bor Edition). e.now), c.loop-edition-test.false) in
-    on-ok c.hand_on_rest.result (before.left ∙ ap (λ es. c.args.left.now.items ++ left_of c.args.catalogue.now.names es) (take_all c.loop-edition.edition-index all past))
-
-pub returns-clause-stopped : goal.returns-clause-stopped
-returns-clause-stopped g c =
-    let before = c.loop-edition.invariant in
-    let all = map (λ (e : Bor Edition). e.now) c.args.editions.now in
-    let past : length all ≤ c.loop-edition.edition-index = omega (arith, length-map c.args.editions.now (λ (e : Bor Edition). e.now), c.loop-edition-test.false) in
-    on-err c.hand_on_rest.result (gains-all c.args.left.now.items c.loop-edition.left.items (left_of c.args.catalogue.now.names all)
-    (before.left ∙ ap (λ es. c.args.left.now.items ++ left_of c.args.catalogue.now.names es) (take_all c.loop-edition.edition-index all past)))
+    let left = before.left ∙ ap (λ es. c.args.left.now.items ++ left_of c.args.catalogue.now.names es) whole in
+    record {
+      written = rest-written written (g.O.Sink.written c.loop-edition.out) (g.O.Sink.written c.hand_on_rest.new.out)
+          (g.O.Sink.faults c.args.out.now) (g.O.Sink.faults c.loop-edition.out) (g.O.Sink.faults c.hand_on_rest.new.out)
+          (flat_map shown all) c.loop-edition.pending.items c.hand_on_rest.result
+          (subst (λ es. IsWrittenTo (flat_map shown es) c.loop-edition.pending.items written (g.O.Sink.written c.loop-edition.out)) whole before.moved) before.calm
+          (rw c.as_slice.ensures.value at c.hand_on_rest.ensures);
+      gained = on-ok c.hand_on_rest.result left;
+      stopped = on-err c.hand_on_rest.result (gains-all c.args.left.now.items c.loop-edition.left.items (left_of c.args.catalogue.now.names all) left);
+    }

@@ -1,0 +1,187 @@
+//! The export of a catalogue, made by several workers.
+//!
+//! The editions are taken in rounds. In a round each worker makes the records of a share of neighbouring editions, and then the
+//! shares are written in order, so what is written is what one worker writes. Memory does not grow with the export: a round is
+//! written before the next one is made. Cost: a thread for each worker but one in each round.
+ghost use Rattle.std.specs.Prelude.{◌≡◌, ◌++◌, ◌≤◌, map, OnOk, OnErr, IfOk, List};
+ghost use Rattle.std.specs.List.{flat_map};
+ghost use Rattle.catalogue_core.specs.Histories.{AreEditionsOf};
+ghost use Rattle.catalogue_editions.specs.declared.edition.Edition.{Edition as EditionModel};
+ghost use Rattle.catalogue_export.specs.Editions.{left_of_one, left_of};
+ghost use Rattle.catalogue_export.specs.Parts.{IsPartOf};
+ghost use Rattle.catalogue_export.specs.Writing.{GainsFront, HasWritten, IsExport};
+
+use crate::editions::append_editions;
+use crate::export::write_editions;
+use crate::export_fail::ExportFail;
+use crate::form::ExportForm;
+use crate::pending::hand_on_rest;
+use catalogue_core::catalogue::Catalogue;
+use catalogue_core::edition::Edition;
+use std::alloc::Global;
+use std::thread;
+use std::thread::Threads;
+use union_base::memory::Memory;
+use union_base::record_id::RecordId;
+use union_io::sink::Sink;
+
+/// How many editions a worker makes the records of in a round.
+const SHARE: usize = 256;
+
+/// The records of neighbouring editions, and those of the editions of which fields were left out.
+#[derive(Drop)]
+struct Part {
+    text: Vec<u8>,
+    left: Vec<(RecordId, usize)>,
+}
+
+/// Writes the export of a catalogue in this form, as `export` does, its records made by `workers` workers, 1 to 64. One worker
+/// makes no thread.
+///
+/// Returns `WriteFault` only where a write of `out` failed, and `Memory` if allocation fails. A prefix of the export was
+/// written then, and `left` has gained a prefix of what it would have.
+pub fn export_by_workers<R: Threads + Sync, F: ExportForm + Send, O: Sink>(
+    rt: &R,
+    alloc: Global,
+    catalogue: &Catalogue,
+    workers: u32,
+    out: &mut O,
+    left: &mut Vec<(RecordId, usize)>,
+) -> Result<(), ExportFail>
+    requires least { 1 ≤ workers }
+    requires most { workers ≤ 64 }
+    ensures { (all : List EditionModel) × AreEditionsOf catalogue.now.history all
+        × HasWritten (flat_map (F.shown catalogue.now.names) all)
+        (record {
+          old = O.written out.old;
+          new = O.written out.new;
+          before = O.faults out.old;
+          after
+              = O.faults out.new;
+        }) result
+        × OnOk result (left.new.items ≡ left.old.items ++ left_of catalogue.now.names all)
+        × OnErr result (GainsFront left.old.items left.new.items
+        (left_of catalogue.now.names all)) }
+{
+    match catalogue.editions(alloc) {
+        Ok(editions) => {
+            let all = editions.as_slice();
+            write_by_workers::<R, F, O>(rt, alloc, catalogue, all, workers, out, left)
+        }
+        Err(Memory) => Err(ExportFail::Memory),
+    }
+}
+
+/// Writes the records of the editions, by so many workers, and notes those of which fields were left out.
+fn write_by_workers<R: Threads + Sync, F: ExportForm + Send, O: Sink>(
+    rt: &R,
+    alloc: Global,
+    catalogue: &Catalogue,
+    editions: &[&Edition],
+    workers: u32,
+    out: &mut O,
+    left: &mut Vec<(RecordId, usize)>,
+) -> Result<(), ExportFail>
+    requires least { 1 ≤ workers }
+    requires most { workers ≤ 64 }
+    ensures { IsExport (F.shown catalogue.now.names) (left_of_one catalogue.now.names)
+        (map (λ e. e.now) editions.now)
+        (record {
+          old = O.written out.old;
+          new = O.written out.new;
+          before = O.faults out.old;
+          after
+              = O.faults out.new;
+        }) left.old.items left.new.items result }
+{
+    if workers == 1 {
+        return write_editions::<F, O>(alloc, catalogue, editions, out, left);
+    }
+    let most = workers as usize * SHARE;
+    let mut done = 0;
+    'rounds: while done < editions.len() {
+        let end = done + most.min(editions.len() - done);
+        let round = &editions[done..end];
+        match write_round::<R, F, O>(rt, alloc, catalogue, round, out, left) {
+            Ok(()) => done = end,
+            Err(fail) => return Err(fail),
+        }
+    }
+    Ok(())
+}
+
+/// Makes the records of the editions, those of each share by a worker of its own, and writes them in order.
+fn write_round<R: Threads + Sync, F: ExportForm + Send, O: Sink>(
+    rt: &R,
+    alloc: Global,
+    catalogue: &Catalogue,
+    editions: &[&Edition],
+    out: &mut O,
+    left: &mut Vec<(RecordId, usize)>,
+) -> Result<(), ExportFail>
+    ensures { IsExport (F.shown catalogue.now.names) (left_of_one catalogue.now.names)
+        (map (λ e. e.now) editions.now)
+        (record {
+          old = O.written out.old;
+          new = O.written out.new;
+          before = O.faults out.old;
+          after
+              = O.faults out.new;
+        }) left.old.items left.new.items result }
+{
+    let make = |_start: usize, share: &[&Edition]| -> Result<Part, Memory>
+        ensures { IfOk result (IsPartOf (F.shown catalogue.entry.now.names)
+            (left_of_one catalogue.entry.now.names) (map (λ e. e.now) share.now)) }
+    { part_of::<F>(alloc, catalogue, share) };
+    let parts = thread::map_chunks(rt, alloc, editions, SHARE, &make)?;
+    for made in parts {
+        let part = made?;
+        match write_part(part, out, left) {
+            Ok(()) => {}
+            Err(fail) => return Err(fail),
+        }
+    }
+    Ok(())
+}
+
+/// Makes the records of the editions, and notes those of which fields were left out. Returns `Memory` if allocation fails.
+fn part_of<F: ExportForm>(
+    alloc: Global,
+    catalogue: &Catalogue,
+    editions: &[&Edition],
+) -> Result<Part, Memory>
+    ensures { IfOk result (IsPartOf (F.shown catalogue.now.names)
+        (left_of_one catalogue.now.names) (map (λ e. e.now) editions.now)) }
+{
+    let mut part = Part {
+        text: Vec::new(alloc),
+        left: Vec::new(alloc),
+    };
+    append_editions::<F>(alloc, catalogue, editions, &mut part.text, &mut part.left)?;
+    Ok(part)
+}
+
+/// Notes the editions of the part of which fields were left out, and writes its records.
+fn write_part<O: Sink>(
+    part: Part,
+    out: &mut O,
+    left: &mut Vec<(RecordId, usize)>,
+) -> Result<(), ExportFail>
+    ensures written { HasWritten part.text.items
+        (record {
+          old = O.written out.old;
+          new = O.written out.new;
+          before = O.faults out.old;
+          after
+              = O.faults out.new;
+        }) result }
+    ensures left { OnOk result (left.new.items ≡ left.old.items ++ part.left.items) }
+    ensures stopped { OnErr result (GainsFront left.old.items left.new.items part.left.items) }
+{
+    let Part {
+        text,
+        left: mut more,
+    } = part;
+    left.append(&mut more)?;
+    hand_on_rest(text.as_slice(), out)
+}

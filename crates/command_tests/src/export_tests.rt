@@ -1,0 +1,78 @@
+//! What no clause says: that several workers come to the end of an export. What they write is what one of them writes.
+ghost use Rattle.std.specs.Prelude.{◌≡◌, ◌≤◌, ◌<◌};
+
+use catalogue_core::catalogue::Catalogue;
+use catalogue_export::by_workers::export_by_workers;
+use catalogue_export::export::export;
+use catalogue_export::export_fail::ExportFail;
+use catalogue_export::form::{ExportForm, Iso2709};
+use catalogue_json::json_export::JsonLines;
+use merge_laws::steps::Steps;
+use std::alloc::Global;
+use std::marker::Brand;
+use std::sync::ledger::{Blank, Ledger};
+use std::test::Fail;
+use std::thread::Threads;
+use union_base::memory::Memory;
+use union_io::mem_sink::MemSink;
+use union_trial::loading::load_all;
+
+/// How many records are generated. Their editions are more than two workers take in two rounds.
+const RECORDS: u32 = 1_600;
+
+/// More bytes than their export has.
+const ROOM: usize = 2_000_000;
+
+/// A catalogue of generated records.
+fn filled<R: Threads + Sync, L: Ledger>(
+    rt: &R,
+    alloc: Global,
+    blank: Blank,
+) -> Result<Catalogue, Memory>
+    requires name { blank.name ≡ L.name }
+    requires parts { blank.parts ≡ L.parts }
+    requires some { 0 < L.parts }
+{
+    let mut catalogue = Catalogue::empty(alloc)?;
+    let mut steps: Steps<L> = Steps::open(blank);
+    load_all(rt, alloc, 7, RECORDS, 1, &mut catalogue, &mut steps)?;
+    Ok(catalogue)
+}
+
+/// A sink with room for the export.
+fn sink(alloc: Global) -> Result<MemSink, Memory> {
+    Ok(MemSink::new(Vec::new(alloc), Vec::with_capacity(alloc, ROOM)?, ROOM))
+}
+
+/// What so many workers write of the catalogue in this form.
+fn written_by<R: Threads + Sync, F: ExportForm + Send>(
+    rt: &R,
+    alloc: Global,
+    catalogue: &Catalogue,
+    workers: u32,
+) -> Result<MemSink, ExportFail>
+    requires some { 1 ≤ workers }
+    requires most { workers ≤ 64 }
+{
+    let mut out = sink(alloc)?;
+    let mut left = Vec::new(alloc);
+    export_by_workers::<R, F, MemSink>(rt, alloc, catalogue, workers, &mut out, &mut left)?;
+    Ok(out)
+}
+
+#[test]
+fn several_workers_write_what_one_writes(rt: HostRuntime) -> Result<(), Fail> {
+    let alloc = rt.alloc();
+    let catalogue = filled::<HostRuntime, Brand>(&rt, alloc, Blank::new(1))?;
+    let mut out = sink(alloc)?;
+    let mut left = Vec::new(alloc);
+    export(alloc, &catalogue, &mut out, &mut left)?;
+    let lines = written_by::<HostRuntime, JsonLines>(&rt, alloc, &catalogue, 1)?;
+    for workers in [1, 2, 5] {
+        let records = written_by::<HostRuntime, Iso2709>(&rt, alloc, &catalogue, workers)?;
+        assert!(rt; records.content() == out.content());
+        let others = written_by::<HostRuntime, JsonLines>(&rt, alloc, &catalogue, workers)?;
+        assert!(rt; others.content() == lines.content());
+    }
+    Ok(())
+}
