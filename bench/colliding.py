@@ -1,10 +1,11 @@
 #!/usr/bin/env python3
-"""Makes records whose control numbers collide in the index: bench/colliding.py COUNT > FILE
+"""Makes records whose control pairs collide in the index: bench/colliding.py COUNT > FILE
 
 The index is a hash map of the kit (indexmap) with the kit's hasher FoldHasher: it multiplies 16 bytes at a time to 128 bits and joins the
 halves by xor, from a state that is the same in every run. Where the first 8 of 16 bytes are the state itself, the product is 0 and so is
 the state after it, whatever the other 8 bytes are. So a source is looked for after which the state is 8 printable bytes, and all
-numbers that begin with these 8 bytes and have 16 are alike to the hasher.
+numbers that begin with these 8 bytes and have 16 are alike to the hasher. The homes of a library's records are a map of the same kind, in
+which a control number stands alone; there 16 bytes are looked for after which the state is 8 printable bytes.
 """
 import sys
 
@@ -43,23 +44,29 @@ def written(state, text):
     return folded(number_at(text, max(size - 16, 0), 8) ^ state, number_at(text, size - 8, 8) ^ MULTIPLIER)
 
 
-def hash_of(source, number):
-    """The hash of a control pair: the number of its kind, and its two texts, each with a byte 0xFF after it."""
+def after(*pieces):
+    """The hasher's state after these pieces, which is the hash."""
     state = INITIAL
-    for piece in (b"\0", source, b"\xff", number, b"\xff"):
+    for piece in pieces:
         state = written(state, piece)
     return state
+
+
+def hash_of(source, number):
+    """The hash of a control pair: the number of its kind, and its two texts, each with a byte 0xFF after it."""
+    return after(b"\0", source, b"\xff", number, b"\xff")
+
+
+def is_printable(text):
+    return all(0x21 <= byte <= 0x7E for byte in text)
 
 
 def colliding():
     """A source, and the 8 bytes with which numbers of 16 bytes have to begin."""
     for at in range(10**7):
         source = b"S%d" % at
-        state = INITIAL
-        for piece in (b"\0", source, b"\xff"):
-            state = written(state, piece)
-        first = ((state + 16) & WORD).to_bytes(8, "little")
-        if all(0x21 <= byte <= 0x7E for byte in first):
+        first = ((after(b"\0", source, b"\xff") + 16) & WORD).to_bytes(8, "little")
+        if is_printable(first):
             return source, first
     raise ValueError("no source is found")
 
@@ -78,6 +85,18 @@ def colliding_pairs(count):
     pairs = [(source, first + suffix(at)) for at in range(count)]
     assert len({hash_of(*pair) for pair in pairs[:1000]}) == 1
     return pairs
+
+
+def colliding_numbers(count):
+    """As many control numbers of 32 bytes whose homes collide: 16 bytes, the state after them, and 8 bytes that differ."""
+    for at in range(10**7):
+        front = b"%016d" % at
+        state = folded(number_at(front, 0, 8) ^ (INITIAL + 32), number_at(front, 8, 8) ^ MULTIPLIER).to_bytes(8, "little")
+        if is_printable(state):
+            numbers = [front + state + suffix(it) for it in range(count)]
+            assert len({after(it, b"\xff") for it in numbers[:1000]}) == 1
+            return numbers
+    raise ValueError("no front is found")
 
 
 if __name__ == "__main__":

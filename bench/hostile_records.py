@@ -115,3 +115,12 @@ def with_pairs(pairs):
 
 def usual_pairs(count):
     return with_pairs([(b"OCLC", b"number-%09d" % at) for at in range(count)])
+
+
+def with_numbers(numbers):
+    """A record under each control number."""
+    return b"".join(book(number, b"Title number %07d" % at) for at, number in enumerate(numbers))
+
+
+def usual_numbers(count):
+    return with_numbers([b"number-%025d" % at for at in range(count)])

@@ -9,6 +9,7 @@ use union_io::gate::Gate;
 use union_io::mem_shelf::MemShelf;
 use union_io::mem_sink::MemSink;
 use union_program::run::union_run;
+use union_words::status::Status;
 
 /// How many bytes an output takes.
 const ROOM: usize = 65_536;
@@ -47,6 +48,22 @@ pub struct Ended {
     pub number: u8,
     pub out: Vec<u8>,
     pub notes: Vec<u8>,
+}
+
+impl Ended {
+    /// A run that ended with that status and wrote so on its two outputs.
+    pub fn of(
+        alloc: Global,
+        status: Status,
+        out: &MemSink,
+        notes: &MemSink,
+    ) -> Result<Ended, Memory> {
+        Ok(Ended {
+            number: status.exit_number(),
+            out: out.content().to_vec(alloc)?,
+            notes: notes.content().to_vec(alloc)?,
+        })
+    }
 }
 
 /// The words of a line, between blanks.
@@ -109,9 +126,5 @@ pub fn run<R: Threads + Wait + Sync, G: Gate>(
         &mut notes,
         gate,
     );
-    Ok(Ended {
-        number: status.exit_number(),
-        out: out.content().to_vec(alloc)?,
-        notes: notes.content().to_vec(alloc)?,
-    })
+    Ended::of(alloc, status, &out, &notes)
 }

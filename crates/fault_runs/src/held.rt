@@ -6,15 +6,20 @@ use crate::report::{add_ended, add_number};
 use authority_names::name_table::NameTable;
 use catalogue_core::catalogue::Catalogue;
 use catalogue_export::export::export;
+use catalogue_export::export_fail::ExportFail;
 use field_merge::preference::Preference;
 use load_sessions::questions::Questions;
 use std::alloc::Global;
 use std::sync::Wait;
 use std::thread::Threads;
 use union_base::memory::Memory;
-use union_io::gate::OpenGate;
+use union_commands::notes::put_early;
+use union_io::gate::{Gate, OpenGate};
+use union_io::shelf::Shelf;
+use union_io::sink::{Sink, put_all};
 use union_load::sessions::load_and_ask;
 use union_load::start::Start;
+use union_program::run::union_run;
 use union_words::libraries::Libraries;
 use union_words::loading::Loading;
 use union_words::status::Status;
@@ -32,6 +37,11 @@ pub enum What {
 
 /// The number of records that makes a second batch.
 const TWO_BATCHES: u32 = 257;
+
+/// The words of the two commands.
+const WATCH: &[u8] = b"watch --ask=q --workers=2 LIBA=a LIBB=b";
+
+const EXPORT: &[u8] = b"export --workers=2 LIBA=a LIBB=b";
 
 /// What that word asks for.
 pub fn what_of(word: &str) -> Option<What> {
@@ -57,34 +67,35 @@ fn turns_line(alloc: Global, catalogue: &Catalogue) -> Result<Vec<u8>, Memory> {
     Ok(text)
 }
 
-fn exported(alloc: Global, catalogue: &Catalogue) -> Result<Vec<u8>, Memory> {
-    let mut out = sink(alloc, &[])?;
+/// Writes the export of the catalogue, and then the line of its turns on the second output.
+fn write_loaded<O: Sink, N: Sink>(
+    alloc: Global,
+    catalogue: &Catalogue,
+    out: &mut O,
+    notes: &mut N,
+) -> Result<(), ExportFail> {
     let mut left = Vec::new(alloc);
-    match export(alloc, catalogue, &mut out, &mut left) {
-        Ok(()) => Ok(out.content().to_vec(alloc)?),
-        Err(_) => Err(Memory),
-    }
+    export(alloc, catalogue, out, &mut left)?;
+    let line = turns_line(alloc, catalogue)?;
+    put_all(notes, line.as_slice())?;
+    Ok(())
 }
 
-/// A run that ended so and wrote nothing.
-fn quiet(alloc: Global, status: Status) -> Ended {
-    Ended {
-        number: status.exit_number(),
-        out: Vec::new(alloc),
-        notes: Vec::new(alloc),
-    }
-}
-
-fn run_sessions_held<R: Threads + Wait + Sync, G: Met>(
+/// Loads the two files by sessions alone, and writes what they came to.
+fn load_and_write<R: Threads + Wait + Sync, F: Shelf, O: Sink, N: Sink, G: Gate>(
     rt: &R,
     alloc: Global,
+    shelf: &mut F,
+    out: &mut O,
+    notes: &mut N,
     gate: &G,
-) -> Result<Ended, Memory> {
-    let mut shelf = shelf_of(alloc, &NONE)?;
-    let words = words_of(alloc, b"LIBA=a LIBB=b")?;
+) -> Status {
+    let Ok(words) = words_of(alloc, b"LIBA=a LIBB=b") else {
+        return Status::Memory;
+    };
     let (Some(libraries), Some(workers)) = (Libraries::read(words.as_slice()), Workers::read(b"2"))
     else {
-        return Ok(quiet(alloc, Status::Usage));
+        return Status::Usage;
     };
     let loading = Loading {
         workers,
@@ -96,34 +107,65 @@ fn run_sessions_held<R: Threads + Wait + Sync, G: Met>(
         names: NameTable::empty(alloc),
         questions: Questions::none(alloc),
     };
-    match load_and_ask(rt, alloc, &loading, start, &mut shelf, gate) {
-        Ok(watched) => Ok(Ended {
-            number: 0,
-            out: exported(alloc, &watched.loaded.catalogue)?,
-            notes: turns_line(alloc, &watched.loaded.catalogue)?,
-        }),
-        Err(status) => Ok(quiet(alloc, status)),
+    match load_and_ask(rt, alloc, &loading, start, shelf, gate) {
+        Ok(watched) => match write_loaded(alloc, &watched.loaded.catalogue, out, notes) {
+            Ok(()) => Status::Done,
+            Err(ExportFail::WriteFault) => Status::WriteFault,
+            Err(ExportFail::Memory) => Status::Memory,
+        },
+        Err(status) => status,
     }
 }
 
-/// Runs two sessions, by two workers, whose turns the gate holds.
-pub fn run_held<R: Threads + Wait + Sync, G: Met>(
+/// Runs the words of the line as the program does.
+fn run_line<R: Threads + Wait + Sync, F: Shelf, O: Sink, N: Sink, G: Gate>(
+    rt: &R,
+    alloc: Global,
+    line: &[u8],
+    shelf: &mut F,
+    out: &mut O,
+    notes: &mut N,
+    gate: &G,
+) -> Status {
+    match words_of(alloc, line) {
+        Ok(words) => union_run(rt, alloc, words.as_slice(), shelf, out, notes, gate),
+        Err(Memory) => Status::Memory,
+    }
+}
+
+/// Runs two sessions, by two workers, whose turns the gate holds. They load the files `a` and `b` of the shelf.
+pub fn run_held<R: Threads + Wait + Sync, F: Shelf, O: Sink, N: Sink, G: Gate>(
+    rt: &R,
+    alloc: Global,
+    what: What,
+    shelf: &mut F,
+    out: &mut O,
+    notes: &mut N,
+    gate: &G,
+) -> Status {
+    match what {
+        What::Sessions => {
+            let status = load_and_write(rt, alloc, shelf, out, notes, gate);
+            put_early(notes, &status);
+            status
+        }
+        What::Watch => run_line(rt, alloc, WATCH, shelf, out, notes, gate),
+        What::Export => run_line(rt, alloc, EXPORT, shelf, out, notes, gate),
+    }
+}
+
+/// Runs the two sessions over files in memory.
+fn run_in_memory<R: Threads + Wait + Sync, G: Gate>(
     rt: &R,
     alloc: Global,
     what: What,
     gate: &G,
 ) -> Result<Ended, Memory> {
-    match what {
-        What::Sessions => run_sessions_held(rt, alloc, gate),
-        What::Watch => {
-            let line = b"watch --ask=q --workers=2 LIBA=a LIBB=b";
-            run(rt, alloc, line, &NONE, gate)
-        }
-        What::Export => {
-            let line = b"export --workers=2 LIBA=a LIBB=b";
-            run(rt, alloc, line, &NONE, gate)
-        }
-    }
+    let mut shelf = shelf_of(alloc, &NONE)?;
+    let mut out = sink(alloc, &[])?;
+    let mut notes = sink(alloc, &[])?;
+    let status = run_held(rt, alloc, what, &mut shelf, &mut out, &mut notes, gate);
+    Ended::of(alloc, status, &out, &notes)
 }
 
 /// The runs that each gate holds, and their names.
@@ -152,7 +194,7 @@ fn tell_ordered<R: Threads + Wait + Sync>(
 ) -> Result<(), Memory> {
     for (what, name) in HELD {
         let gate = OrderGate::new(looks, 0);
-        let ended = run_held(rt, alloc, what, &gate)?;
+        let ended = run_in_memory(rt, alloc, what, &gate)?;
         text.extend_from_slice(b"the second session first, ")?;
         add_ended(text, name, &ended)?;
         add_met(text, &gate)?;
@@ -172,7 +214,7 @@ fn tell_meeting<R: Threads + Wait + Sync>(
     let serial = run(rt, alloc, line, &NONE, &OpenGate)?;
     for (what, name) in HELD {
         let gate = MeetingGate::new(looks);
-        let ended = run_held(rt, alloc, what, &gate)?;
+        let ended = run_in_memory(rt, alloc, what, &gate)?;
         text.extend_from_slice(b"sessions that meet, ")?;
         text.extend_from_slice(name)?;
         text.extend_from_slice(b": status ")?;
@@ -201,8 +243,7 @@ pub fn tell_held<R: Threads + Wait + Sync>(
         ..NONE
     };
     let gate = OrderGate::new(looks, 1);
-    let line = b"watch --ask=q --workers=2 LIBA=a LIBB=b";
-    let ended = run(rt, alloc, line, &files, &gate)?;
+    let ended = run(rt, alloc, WATCH, &files, &gate)?;
     text.extend_from_slice(b"two turns of the second session first, ")?;
     add_ended(text, b"watch", &ended)?;
     add_met(text, &gate)
