@@ -135,7 +135,10 @@ fn groups_of_many_sizes(rt: HostRuntime) -> Result<(), Fail> {
     let masks = mixed(rt.alloc())?;
     for workers in 1..5 {
         let found = resolved(&rt, rt.alloc(), masks.as_slice(), workers)?;
-        assert_eq!(rt; found.as_slice(), [0b1, 0b110, 0b1000, 0b110000, 0xF_FFFF_u64 << 40].as_slice());
+        assert_eq!(rt;
+            found.as_slice(),
+            [0b1, 0b110, 0b1000, 0b110000, 0xF_FFFF_u64 << 40].as_slice()
+        );
     }
     Ok(())
 }
