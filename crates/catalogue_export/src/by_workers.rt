@@ -72,7 +72,7 @@ pub fn export_by_workers<R: Threads + Sync, F: ExportForm + Send, O: Sink>(
     }
 }
 
-/// Writes the records of the editions, by so many workers, and notes those of which fields were left out.
+/// Writes the records of the editions, by `workers` workers, and notes those of which fields were left out.
 fn write_by_workers<R: Threads + Sync, F: ExportForm + Send, O: Sink>(
     rt: &R,
     alloc: Global,

@@ -51,7 +51,7 @@ pub fn append_edition(
     edition_bytes(alloc, edition, &key, into)
 }
 
-/// Notes the edition, where so many of its fields were left out. Returns `Memory` if allocation fails; then `left` is unchanged.
+/// Notes the edition where `count` of its fields were left out. Returns `Memory` if allocation fails; then `left` is unchanged.
 pub fn note_left(
     alloc: Global,
     edition: &Edition,

@@ -81,7 +81,7 @@ pub(crate) fn contributor_field(
     made_blank(alloc, b"993", &subfields, buffer)
 }
 
-/// The longest prefix of the text of at most so many bytes that ends between two characters.
+/// The longest prefix of the text that has at most `most` bytes and ends between two characters.
 fn front_within(text: &[u8], most: usize) -> &[u8]
     ensures { result.now ≡ front_within most text.now }
 {

@@ -44,7 +44,7 @@ fn sink(alloc: Global) -> Result<MemSink, Memory> {
     Ok(MemSink::new(Vec::new(alloc), Vec::with_capacity(alloc, ROOM)?, ROOM))
 }
 
-/// What so many workers write of the catalogue in this form.
+/// What `workers` workers write of the catalogue in this form.
 fn written_by<R: Threads + Sync, F: ExportForm + Send>(
     rt: &R,
     alloc: Global,

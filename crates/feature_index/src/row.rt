@@ -178,7 +178,7 @@ impl Row {
     }
 }
 
-/// A list of the numbers, with room for so many more.
+/// A list of the numbers, with room for `spare` more.
 fn with_room_after(alloc: Global, numbers: &[u64], spare: u32) -> Result<Vec<u64>, Memory>
     ensures numbers { IfOk result (λ v. v.items ≡ numbers.now) }
     ensures room { IfOk result (λ v. length v.items + spare ≤ vec_capacity v) }

@@ -50,7 +50,7 @@ fn features_with(alloc: Global, code: &str, which: Sizes) -> Result<Features, Fa
     features_in(alloc, code, &frame)
 }
 
-/// What records of one library merge to that have so many titles, dates and names in all.
+/// What records of one library merge to that have these numbers of titles, dates and names in all.
 fn merged(alloc: Global, code: &str, sizes: Sizes) -> Result<Features, Fail> {
     let (titles, dates, names) = sizes;
     let mut all = features_with(alloc, code, (0, 0, 0))?;
@@ -93,7 +93,7 @@ fn finds(alloc: Global, other: &Features, one: &Features) -> Result<bool, Memory
     Ok(sought.iter().any(|key| posted.as_slice().contains(key)))
 }
 
-/// Whether features of those sizes have a key for each of so many triples, in the index and to seek by.
+/// Whether features of those sizes have a key for each of `triples` triples, in the index and to seek by.
 fn have_few(alloc: Global, sizes: Sizes, triples: usize) -> Result<bool, Fail> {
     let few = merged(alloc, "LIBA", sizes)?;
     let own = sizes.0 as usize;

@@ -33,8 +33,7 @@ fn sizes_of(alloc: Global, labels: &[usize]) -> Result<Vec<usize>, Memory>
     Ok(sizes)
 }
 
-/// An empty group for each size, with the room for so many values where these are more than one. Returns `Memory` if allocation
-/// fails.
+/// An empty group for each size, with room for as many values where these are more than one. Returns `Memory` if allocation fails.
 fn rooms<R: Drop>(alloc: Global, sizes: &[usize]) -> Result<Vec<Vec<R>>, Memory>
     ensures { IfOk result (λ groups. map (λ group. group.items) groups.items
         ≡ replicate (length sizes.now) []) }

@@ -112,8 +112,8 @@ impl<R: Resolvable> Blocks<R> {
     }
 
     /// The change with the value inserted: its view is the resolution of the view so far and the value, and it closes no block
-    /// that is not merged with the value. Counts at most the reach of the insertion, also where it answers Memory. Memory
-    /// where it runs out.
+    /// that is not merged with the value. Counts at most the reach of the insertion, also where it answers Memory.
+    /// Returns `Memory` if allocation fails.
     pub fn plan_insert<L: Ledger>(
         &self,
         alloc: Global,

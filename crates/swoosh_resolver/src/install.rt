@@ -142,7 +142,7 @@ fn make_room_for_all<R: Resolvable>(
     Ok(())
 }
 
-/// The numbers of so many opened values, in their order. Returns `Memory` if allocation fails.
+/// The numbers of the opened values, `opened` of them, in their order. Returns `Memory` if allocation fails.
 fn numbers_of_opened(
     alloc: Global,
     closed: &[u64],

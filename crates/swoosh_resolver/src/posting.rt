@@ -42,8 +42,8 @@ pub(crate) fn unpost<R: Resolvable>(postings: &mut Postings<R::Key>, keyed: &Key
     }
 }
 
-/// Puts the number under a copy of each key of the value, and makes the room for it. Memory where it runs out, and then it may
-/// stand under some of them.
+/// Puts the number under a copy of each key of the value, and makes the room for it. Returns `Memory` if allocation fails; then it
+/// may stand under some of them.
 pub(crate) fn post_copies<R: Resolvable>(
     alloc: Global,
     postings: &mut Postings<R::Key>,
@@ -103,8 +103,8 @@ pub(crate) fn make_room_for<R: Resolvable>(
     Ok(())
 }
 
-/// The numbers of the blocks that have one of the keys, in ascending order, whichever blocks the postings are of. Memory where
-/// it runs out.
+/// The numbers of the blocks that have one of the keys, in ascending order, whichever blocks the postings are of. Returns
+/// `Memory` if allocation fails.
 pub(crate) fn candidates<R: Resolvable>(
     alloc: Global,
     postings: &Postings<R::Key>,
