@@ -120,7 +120,7 @@ fn run<R: Threads + Wait + Sync, F: Shelf, O: Sink, N: Sink>(
     }
 }
 
-/// The words after the program's name. They are ASCII, so that only want of memory keeps them.
+/// The words after the program's name. They are ASCII, so reading them fails only for want of memory.
 fn words(rt: &HostRuntime, alloc: Global) -> Result<Vec<String>, Memory> {
     let mut words = Vec::new(alloc);
     match env::args(rt) {
