@@ -12,6 +12,7 @@ ghost use Rattle.authority_names.specs.Leads.{joined_lead, seen_from};
 ghost use Rattle.authority_names.specs.Places.{leads, joined_place, table_of, HasPlaces};
 
 use indexmap::IndexMap;
+use key_hashing::hashing::Hashing;
 use union_base::bytes::Bytes;
 
 /// What a heading leads to.
@@ -24,7 +25,7 @@ pub(crate) enum Lead {
 }
 
 /// The headings, each with what it leads to.
-pub(crate) type Headings = IndexMap<Bytes, Lead>;
+pub(crate) type Headings = IndexMap<Bytes, Lead, Hashing>;
 
 /// Puts in an established heading, and answers its place. Takes no memory.
 pub(crate) fn establish(headings: &mut Headings, heading: Bytes) -> usize

@@ -10,6 +10,7 @@ use crate::authority::names_of;
 use crate::leads::{Headings, establish, heading_from, how_many_lead, lead_all};
 use crate::refusal::NameRefusal;
 use indexmap::IndexMap;
+use key_hashing::hashing::Hashing;
 use marc_fields::marc_record::Record;
 use std::alloc::Global;
 use std::marker::Model;
@@ -46,14 +47,19 @@ impl Model for NameTable {
 }
 
 impl NameTable {
-    /// The table of no records. Takes no memory.
-    pub fn empty(alloc: Global) -> NameTable
+    /// The table of no records, which hashes its headings by these numbers. Takes no memory.
+    pub fn empty(alloc: Global, hashing: Hashing) -> NameTable
         ensures value { result ≡ finite.empty }
         ensures means { IsTableOf result [] }
     {
         NameTable {
-            headings: IndexMap::new(alloc),
+            headings: IndexMap::with_hasher(alloc, hashing),
         }
+    }
+
+    /// The numbers by which the table hashes its headings. Takes no memory.
+    pub fn hashing(&self) -> Hashing {
+        *self.headings.hasher()
     }
 
     /// Adds the record's names: its established heading, in the field 100, 110 or 111, and its see-from headings, in the fields

@@ -4,6 +4,7 @@ ghost use Rattle.feature_index.specs.Postings.{Ascends, Exchanges, Gains, Loses,
 
 use crate::row::Row;
 use indexmap::IndexMap;
+use key_hashing::hashing::Hashing;
 use std::alloc::Global;
 use std::hash::Hash;
 use std::marker::Model;
@@ -13,7 +14,7 @@ use union_base::memory::Memory;
 /// each key has a spare: how many numbers more can be put under it without taking memory.
 #[derive(Drop)]
 pub struct Postings<K: Eq + Hash + Drop> {
-    rows: IndexMap<K, Row>,
+    rows: IndexMap<K, Row, Hashing>,
 }
 
 impl<K: Eq + Hash + Drop> Model for Postings<K> {
@@ -26,13 +27,18 @@ impl<K: Eq + Hash + Drop> Model for Postings<K> {
 }
 
 impl<K: Eq + Hash + Drop> Postings<K> {
-    /// No numbers under any key. Takes no memory.
-    pub fn empty(alloc: Global) -> Postings<K>
+    /// No numbers under any key, in a map that hashes keys by these numbers. Takes no memory.
+    pub fn empty(alloc: Global, hashing: Hashing) -> Postings<K>
         ensures { result ≡ [] }
     {
         Postings {
-            rows: IndexMap::new(alloc),
+            rows: IndexMap::with_hasher(alloc, hashing),
         }
+    }
+
+    /// The numbers by which the map hashes keys. Takes no memory.
+    pub fn hashing(&self) -> Hashing {
+        *self.rows.hasher()
     }
 
     /// The numbers under the key, in ascending order, each once. Takes no memory.

@@ -7,6 +7,7 @@ ghost use Rattle.record_homes.specs.Libraries.{row_at, Sets};
 use crate::home::Home;
 use crate::move_to::MoveTo;
 use indexmap::IndexMap;
+use key_hashing::hashing::Hashing;
 use std::alloc::Global;
 use std::marker::Model;
 use union_base::bytes::Bytes;
@@ -15,7 +16,7 @@ use union_base::memory::Memory;
 /// The homes of one library's records, under their control numbers.
 #[derive(Drop)]
 pub struct LibraryHomes {
-    rows: IndexMap<Bytes, Home>,
+    rows: IndexMap<Bytes, Home, Hashing>,
 }
 
 impl Model for LibraryHomes {
@@ -27,12 +28,12 @@ impl Model for LibraryHomes {
 }
 
 impl LibraryHomes {
-    /// No homes. Takes no memory.
-    pub(crate) fn empty(alloc: Global) -> LibraryHomes
+    /// No homes, in a map that hashes control numbers by these numbers. Takes no memory.
+    pub(crate) fn empty(alloc: Global, hashing: Hashing) -> LibraryHomes
         ensures { result ≡ [] }
     {
         LibraryHomes {
-            rows: IndexMap::new(alloc),
+            rows: IndexMap::with_hasher(alloc, hashing),
         }
     }
 

@@ -12,6 +12,7 @@ use crate::home::Home;
 use crate::library_homes::LibraryHomes;
 use crate::move_to::MoveTo;
 use crate::place::Place;
+use key_hashing::hashing::Hashing;
 use std::alloc::Global;
 use std::collections::BTreeMap;
 use std::marker::Model;
@@ -23,6 +24,7 @@ use union_base::record_id::RecordId;
 pub struct HomeTable {
     libraries: BTreeMap<LibraryCode, LibraryHomes>,
     count: u64,
+    hashing: Hashing,
 }
 
 /// A drop of its own: the proof of what may drop a table calls it, and does not go through the maps.
@@ -31,6 +33,7 @@ impl Drop for HomeTable {
         let HomeTable {
             libraries: _,
             count: _,
+            hashing: _,
         } = self;
     }
 }
@@ -48,13 +51,14 @@ impl Model for HomeTable {
 }
 
 impl HomeTable {
-    /// No homes. Takes no memory.
-    pub fn new(alloc: Global) -> HomeTable
+    /// No homes, in maps that hash control numbers by these numbers. Takes no memory.
+    pub fn new(alloc: Global, hashing: Hashing) -> HomeTable
         ensures { result.entries ≡ [] }
     {
         HomeTable {
             libraries: BTreeMap::new(alloc),
             count: 0,
+            hashing,
         }
     }
 
@@ -92,7 +96,7 @@ impl HomeTable {
         if self.count == u64::MAX {
             return Err(Memory);
         }
-        put(alloc, &mut self.libraries, id, home)?;
+        put(alloc, self.hashing, &mut self.libraries, id, home)?;
         self.count += 1;
         Ok(())
     }
@@ -126,6 +130,7 @@ impl HomeTable {
 /// Puts a home under the id. Returns `Memory` if allocation fails; each home is as before then.
 fn put(
     alloc: Global,
+    hashing: Hashing,
     libraries: &mut BTreeMap<LibraryCode, LibraryHomes>,
     id: RecordId,
     home: Home,
@@ -140,7 +145,7 @@ fn put(
     match libraries.get_mut(&library) {
         Some(homes) => homes.put(control, home),
         None => {
-            let mut homes = LibraryHomes::empty(alloc);
+            let mut homes = LibraryHomes::empty(alloc, hashing);
             homes.put(control, home)?;
             libraries.insert(library, homes)?;
             Ok(())

@@ -7,6 +7,7 @@ ghost use Rattle.std.specs.Prelude.{◌≡◌, ◌↔◌, ◌<◌, ◌++◌, ℕ
 ghost use Rattle.swoosh_halves.specs.Groups.{JoinsByKeys, Follows, AreLinks, AreSized, AreCutApart, AreJoined, together};
 
 use crate::labels::labels_by_keys;
+use key_hashing::hashing::Hashing;
 use merge_laws::resolvable::Resolvable;
 use std::alloc::Global;
 use union_base::memory::Memory;
@@ -96,7 +97,10 @@ fn grouped<R: Resolvable>(
 
 /// The values of the list in groups, where those that share a key, directly or through others, are in one. A value that is alone in its
 /// group is a stranger instead. Returns `Memory` if allocation fails.
-pub(crate) fn grouped_by_keys<R: Resolvable>(list: Vec<R>) -> Result<(Vec<R>, Vec<Vec<R>>), Memory>
+pub(crate) fn grouped_by_keys<R: Resolvable>(
+    hashing: Hashing,
+    list: Vec<R>,
+) -> Result<(Vec<R>, Vec<Vec<R>>), Memory>
     ensures apart { IfOk result (λ cut. AreCutApart R.has_key cut.0.items
         (map (λ group. group.items) cut.1.items)) }
     ensures joined { IfOk result (λ cut. AreJoined R.has_key list.items
@@ -105,7 +109,7 @@ pub(crate) fn grouped_by_keys<R: Resolvable>(list: Vec<R>) -> Result<(Vec<R>, Ve
         ↔ Contains (cut.0.items ++ together (map (λ group. group.items) cut.1.items)) x) }
 {
     let alloc = *list.allocator();
-    let labels = labels_by_keys(alloc, list.as_slice())?;
+    let labels = labels_by_keys(alloc, hashing, list.as_slice())?;
     let sizes = sizes_of(alloc, labels.as_slice())?;
     grouped(alloc, list, labels.as_slice(), sizes.as_slice())
 }

@@ -8,6 +8,7 @@
 ghost use Rattle.std.specs.Prelude.{◌≡◌, ◌<◌, [], IfOk};
 ghost use Rattle.merge_laws.specs.Resolution.{IsResolution};
 
+use key_hashing::hashing::Hashing;
 use merge_laws::laws::resolution_goes_on;
 use merge_laws::resolvable::Resolvable;
 use merge_laws::steps::Steps;
@@ -22,7 +23,10 @@ const FEW: usize = 64;
 
 /// The resolution of the list, in an order that is not fixed: of each half by itself, and then of the blocks of both by an index.
 /// Returns `Memory` if allocation fails.
-pub(crate) fn resolve_by_halves<R: Resolvable>(list: Vec<R>) -> Result<Vec<R>, Memory>
+pub(crate) fn resolve_by_halves<R: Resolvable>(
+    hashing: Hashing,
+    list: Vec<R>,
+) -> Result<Vec<R>, Memory>
     ensures { IfOk result (λ done. IsResolution R.meets R.join list.items done.items) }
 {
     if list.len() <= FEW {
@@ -31,28 +35,32 @@ pub(crate) fn resolve_by_halves<R: Resolvable>(list: Vec<R>) -> Result<Vec<R>, M
     resolution_goes_on::<R>();
     let mut front = list;
     let back = front.split_off(front.len() / 2)?;
-    let mut blocks = resolve_by_halves(front)?;
-    let mut others = resolve_by_halves(back)?;
+    let mut blocks = resolve_by_halves(hashing, front)?;
+    let mut others = resolve_by_halves(hashing, back)?;
     blocks.append(&mut others)?;
-    resolve_indexed(blocks)
+    resolve_indexed(hashing, blocks)
 }
 
 /// The resolution of the list by an index, in an order that is not fixed. Returns `Memory` if allocation fails.
-fn resolve_indexed<R: Resolvable>(list: Vec<R>) -> Result<Vec<R>, Memory>
+fn resolve_indexed<R: Resolvable>(hashing: Hashing, list: Vec<R>) -> Result<Vec<R>, Memory>
     ensures { IfOk result (λ done. IsResolution R.meets R.join list.items done.items) }
 {
-    resolve_by::<R, Brand>(list, Blank::new(1))
+    resolve_by::<R, Brand>(hashing, list, Blank::new(1))
 }
 
 /// The resolution of the list, with its match tests counted from none.
-fn resolve_by<R: Resolvable, L: Ledger>(list: Vec<R>, blank: Blank) -> Result<Vec<R>, Memory>
+fn resolve_by<R: Resolvable, L: Ledger>(
+    hashing: Hashing,
+    list: Vec<R>,
+    blank: Blank,
+) -> Result<Vec<R>, Memory>
     requires name { blank.name ≡ L.name }
     requires parts { blank.parts ≡ L.parts }
     requires some { 0 < L.parts }
     ensures { IfOk result (λ done. IsResolution R.meets R.join list.items done.items) }
 {
     let mut steps: Steps<L> = Steps::open(blank);
-    let none = Blocks::empty(*list.allocator());
+    let none = Blocks::empty(*list.allocator(), hashing);
     inserted(&none, list, &mut steps)
 }
 

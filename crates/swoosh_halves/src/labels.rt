@@ -8,6 +8,7 @@ ghost use Rattle.indexmap.specs.IndexMap.{get};
 ghost use Rattle.swoosh_halves.specs.Groups.{ArePlaces, AreLinks, AddsPlace, Follows, IsNoted, JoinsByKeys, LinksPlace};
 
 use indexmap::IndexMap;
+use key_hashing::hashing::Hashing;
 use merge_laws::resolvable::Resolvable;
 use std::alloc::Global;
 use std::hash::Hash;
@@ -55,7 +56,7 @@ fn link(links: &mut [usize], one: usize, other: usize)
 
 /// The place that stands under the key. Where none did before, that is the given one. Returns `Memory` if allocation fails.
 fn first_place<K: Eq + Hash + Drop>(
-    firsts: &mut IndexMap<K, usize>,
+    firsts: &mut IndexMap<K, usize, Hashing>,
     key: K,
     place: usize,
 ) -> Result<usize, Memory>
@@ -74,7 +75,7 @@ fn first_place<K: Eq + Hash + Drop>(
 /// Notes that the value at the place has the key: where another had it first, the two are linked. Returns `Memory` if allocation
 /// fails.
 fn note<K: Eq + Hash + Drop>(
-    firsts: &mut IndexMap<K, usize>,
+    firsts: &mut IndexMap<K, usize, Hashing>,
     links: &mut [usize],
     key: K,
     place: usize,
@@ -102,7 +103,7 @@ fn note<K: Eq + Hash + Drop>(
 
 /// Notes that the value at the place has the keys. Returns `Memory` if allocation fails.
 fn note_all<K: Eq + Hash + Drop>(
-    firsts: &mut IndexMap<K, usize>,
+    firsts: &mut IndexMap<K, usize, Hashing>,
     links: &mut [usize],
     keys: Vec<K>,
     place: usize,
@@ -142,13 +143,17 @@ fn unlinked(alloc: Global, count: usize) -> Result<Vec<usize>, Memory>
 }
 
 /// Links that join the places of values which have a key in common, and no others. Returns `Memory` if allocation fails.
-fn links_by_keys<R: Resolvable>(alloc: Global, list: &[R]) -> Result<Vec<usize>, Memory>
+fn links_by_keys<R: Resolvable>(
+    alloc: Global,
+    hashing: Hashing,
+    list: &[R],
+) -> Result<Vec<usize>, Memory>
     ensures length { IfOk result (λ links. length links.items ≡ length list.now) }
     ensures links { IfOk result (λ links. AreLinks links.items) }
     ensures joined { IfOk result (λ links. (label : ℕ → ℕ) → Follows links.items label
         ↔ JoinsByKeys R.has_key list.now label) }
 {
-    let mut firsts = IndexMap::with_capacity(alloc, list.len())?;
+    let mut firsts = IndexMap::with_capacity_and_hasher(alloc, list.len(), hashing)?;
     let mut links = unlinked(alloc, list.len())?;
     for (place, value) in list.iter().enumerate() {
         note_all(
@@ -181,7 +186,11 @@ fn firsts_of_groups(alloc: Global, links: &[usize]) -> Result<Vec<usize>, Memory
 
 /// A label for each value of the list, the first place of its group: values that have a key in common have one label, and so have
 /// those that are joined through others, and no more. Returns `Memory` if allocation fails.
-pub(crate) fn labels_by_keys<R: Resolvable>(alloc: Global, list: &[R]) -> Result<Vec<usize>, Memory>
+pub(crate) fn labels_by_keys<R: Resolvable>(
+    alloc: Global,
+    hashing: Hashing,
+    list: &[R],
+) -> Result<Vec<usize>, Memory>
     ensures length { IfOk result (λ labels. length labels.items ≡ length list.now) }
     ensures links { IfOk result (λ labels. AreLinks labels.items) }
     ensures joined { IfOk result (λ labels. JoinsByKeys R.has_key list.now
@@ -189,6 +198,6 @@ pub(crate) fn labels_by_keys<R: Resolvable>(alloc: Global, list: &[R]) -> Result
     ensures only { IfOk result (λ labels. (label : ℕ → ℕ) → JoinsByKeys R.has_key list.now label
         → Follows labels.items label) }
 {
-    let links = links_by_keys(alloc, list)?;
+    let links = links_by_keys(alloc, hashing, list)?;
     firsts_of_groups(alloc, links.as_slice())
 }

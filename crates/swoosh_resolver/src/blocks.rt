@@ -8,6 +8,7 @@ use crate::change::Change;
 use crate::keyed::Keyed;
 use crate::opened::Opened;
 use feature_index::postings::Postings;
+use key_hashing::hashing::Hashing;
 use merge_laws::resolvable::Resolvable;
 use std::alloc::Global;
 use std::marker::Model;
@@ -34,13 +35,13 @@ impl<R: Resolvable> Model for Blocks<R> {
 }
 
 impl<R: Resolvable> Blocks<R> {
-    /// No blocks. Takes no memory.
-    pub fn empty(alloc: Global) -> Blocks<R>
+    /// No blocks, whose index hashes keys by these numbers. Takes no memory.
+    pub fn empty(alloc: Global, hashing: Hashing) -> Blocks<R>
         ensures { result.blocks ≡ [] }
     {
         Blocks {
             blocks: Vec::new(alloc),
-            postings: Postings::empty(alloc),
+            postings: Postings::empty(alloc, hashing),
             count: 0,
         }
     }
@@ -54,7 +55,7 @@ impl<R: Resolvable> Blocks<R> {
         let alloc = *self.blocks.allocator();
         Change {
             closed: Vec::new(alloc),
-            opened: Opened::empty(alloc),
+            opened: Opened::empty(alloc, self.postings.hashing()),
         }
     }
 

@@ -7,6 +7,7 @@ ghost use Rattle.swoosh_resolver.specs.Insertions.{passes};
 use crate::keyed::{Keyed, Seeker};
 use crate::posting::{candidates, post_copies, repost, unpost};
 use feature_index::postings::Postings;
+use key_hashing::hashing::Hashing;
 use merge_laws::resolvable::Resolvable;
 use merge_laws::steps::Steps;
 use std::alloc::Global;
@@ -46,13 +47,13 @@ fn unlist<R: Resolvable>(places: &mut Postings<R::Key>, values: &[Keyed<R>], pla
 }
 
 impl<R: Resolvable> Opened<R> {
-    /// No values. Takes no memory.
-    pub(crate) fn empty(alloc: Global) -> Opened<R>
+    /// No values, whose index hashes keys by these numbers. Takes no memory.
+    pub(crate) fn empty(alloc: Global, hashing: Hashing) -> Opened<R>
         ensures { result.items ≡ [] }
     {
         Opened {
             values: Vec::new(alloc),
-            places: Postings::empty(alloc),
+            places: Postings::empty(alloc, hashing),
         }
     }
 

@@ -8,8 +8,8 @@ use Rattle.authority_names.proofs.TextLaws.{places-none, texts-none}
 use Rattle.authority_names.proofs.name_table.NameTable.empty.Goals as goal
 
 pub returns-clause-means : goal.returns-clause-means
-returns-clause-means c = λ x. ap (λ es. get (table_of es) x) c.new.ensures.empty ∙ get-empty (slice_cmp nat_cmp) x
+returns-clause-means c = λ x. ap (λ es. get (table_of es) x) c.with_hasher.ensures.empty ∙ get-empty (slice_cmp nat_cmp) x
 
 pub invariant_of-result : goal.invariant_of-result
 invariant_of-result c =
-    (subst HasPlaces (sym c.new.ensures.empty) places-none, texts-none (table_of c.new.result.entries) (λ x. ap (λ es. get (table_of es) x) c.new.ensures.empty ∙ get-empty (slice_cmp nat_cmp) x))
+    (subst HasPlaces (sym c.with_hasher.ensures.empty) places-none, texts-none (table_of c.with_hasher.result.entries) (λ x. ap (λ es. get (table_of es) x) c.with_hasher.ensures.empty ∙ get-empty (slice_cmp nat_cmp) x))
