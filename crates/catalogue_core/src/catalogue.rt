@@ -43,6 +43,7 @@ use catalogue_editions::prepared::Prepared;
 use catalogue_editions::work_key::work_key_of;
 use edition_blocks::delta::Delta;
 use edition_blocks::telling::delta_of;
+use key_hashing::hashing::Hashing;
 use match_features::keys::FeatureKey;
 use merge_laws::steps::Steps;
 use record_homes::table::HomeTable;
@@ -90,23 +91,27 @@ impl Model for Catalogue {
 }
 
 impl Catalogue {
-    /// A catalogue without history and without names, which keeps no works yet. Returns `Memory` if allocation fails.
-    pub fn empty(alloc: Global) -> Result<Catalogue, Memory>
+    /// A catalogue without history and without names, whose maps hash keys by these numbers. It keeps no works yet.
+    ///
+    /// Returns `Memory` if allocation fails.
+    pub fn empty(alloc: Global, hashing: Hashing) -> Result<Catalogue, Memory>
         ensures { IfOk result (λ catalogue. catalogue ≡ empty_catalogue) }
     {
-        Catalogue::with_names(alloc, NameTable::empty(alloc))
+        Catalogue::with_names(alloc, NameTable::empty(alloc, hashing))
     }
 
-    /// A catalogue without history, whose work keys are by the names of the table. It keeps no works yet.
+    /// A catalogue without history, whose work keys are by the names of the table, and whose maps hash keys by the numbers of the
+    /// table. It keeps no works yet.
     ///
     /// Returns `Memory` if allocation fails.
     pub fn with_names(alloc: Global, names: NameTable) -> Result<Catalogue, Memory>
         ensures { IfOk result (λ catalogue. catalogue ≡ by_names names) }
     {
+        let hashing = names.hashing();
         Ok(Catalogue {
             history: Vec::new(alloc),
-            homes: HomeTable::new(alloc),
-            blocks: Blocks::empty(alloc),
+            homes: HomeTable::new(alloc, hashing),
+            blocks: Blocks::empty(alloc, hashing),
             works: NamedWorks { names, works: None },
         })
     }
