@@ -14,6 +14,7 @@
 
 pub mod asker;
 pub mod asking;
+pub mod crew;
 pub mod end;
 pub mod preparing;
 pub mod questions;

@@ -1,6 +1,7 @@
 //! The resolving of a batch's records among themselves, before its turn.
 ghost use Rattle.std.specs.Prelude.{◌≡◌, ◌≤◌, IfOk};
 
+use crate::crew::Crew;
 use catalogue_core::batch::Batch;
 use catalogue_core::laws::sorted_resolution_is_ordered;
 use catalogue_core::net::net;
@@ -11,23 +12,23 @@ use std::thread::Threads;
 use swoosh_halves::halves::resolve_halves;
 use union_base::memory::Memory;
 
-/// The batch, with the records that it leaves of its loads resolved among themselves by 1 to 64 workers, each in a thread of its
-/// own where one can be made. One worker makes no thread.
+/// The batch, with the records that it leaves of its loads resolved among themselves by a crew of 1 to 64 workers, each in a thread
+/// of its own where one can be made. One worker makes no thread.
 ///
 /// Returns `Memory` if allocation fails.
 pub fn prepare<R: Threads + Sync>(
     rt: &R,
     alloc: Global,
     batch: Batch,
-    workers: u32,
+    crew: Crew,
 ) -> Result<Prepared, Memory>
-    requires some { 1 ≤ workers }
-    requires most { workers ≤ 64 }
+    requires some { 1 ≤ crew.workers }
+    requires most { crew.workers ≤ 64 }
     ensures { IfOk result (λ prepared. prepared ≡ batch) }
 {
     sorted_resolution_is_ordered();
     let editions = net(alloc, &batch)?;
-    let resolved = resolve_halves(rt, editions, workers)?;
+    let resolved = resolve_halves(rt, crew.hashing, editions, crew.workers)?;
     let parts = sorted_by_least(resolved)?;
     Ok(Prepared::of(batch, parts))
 }

@@ -7,6 +7,7 @@ ghost use Rattle.load_sessions.specs.Turning.{Ends};
 
 use crate::asker::Asker;
 use crate::asking::ask_all;
+use crate::crew::Crew;
 use crate::end::End;
 use crate::report::Report;
 use crate::served::Served;
@@ -60,10 +61,10 @@ fn run_reader<R: Threads + Wait + Sync, S: Source, G: Gate>(
     gate: &G,
     mut reader: BatchReader,
     session: &mut Session<S>,
-    workers: u32,
+    crew: Crew,
 )
-    requires some { 1 ≤ workers }
-    requires most { workers ≤ 64 }
+    requires some { 1 ≤ crew.workers }
+    requires most { crew.workers ≤ 64 }
     requires ready { IsReady desk.now.board.shared.table_id session.old }
     requires reader { reader ≡ begun session.old.prefer session.old.library session.old.limit }
     ensures { Runs S.name S.left S.faults desk.now.board.shared.table_id session.old session.new }
@@ -77,73 +78,77 @@ fn run_reader<R: Threads + Wait + Sync, S: Source, G: Gate>(
         &mut reader,
         &mut counts,
         session,
-        workers,
+        crew,
     );
     session.report = report_of(reader, counts);
     session.end = end_of(turned);
 }
 
-/// Runs a session: reads its source, and makes a turn for each of its batches, which `workers` workers prepare.
+/// Runs a session: reads its source, and makes a turn for each of its batches, which the crew prepares.
 pub(crate) fn run_session<R: Threads + Wait + Sync, S: Source, G: Gate>(
     rt: &R,
     alloc: Global,
     desk: &Desk<Served>,
     gate: &G,
     session: &mut Session<S>,
-    workers: u32,
+    crew: Crew,
 )
-    requires some { 1 ≤ workers }
-    requires most { workers ≤ 64 }
+    requires some { 1 ≤ crew.workers }
+    requires most { crew.workers ≤ 64 }
     requires ready { IsReady desk.now.board.shared.table_id session.old }
     ensures { Runs S.name S.left S.faults desk.now.board.shared.table_id session.old session.new }
 {
     match BatchReader::open(alloc, &session.prefer, &session.library, session.limit) {
-        Ok(reader) => run_reader(rt, alloc, desk, gate, reader, session, workers),
+        Ok(reader) => run_reader(rt, alloc, desk, gate, reader, session, crew),
         Err(Memory) => session.end = End::Memory,
     }
 }
 
-/// How many workers prepare the batches of each session: all of them where there is one session. Else there is one for each,
-/// since the sessions themselves are in threads of their own, and while one waits for its turn the others prepare.
-fn preparers(workers: u32, sessions: usize) -> u32
-    requires some { 1 ≤ workers }
-    requires most { workers ≤ 64 }
-    ensures some { 1 ≤ result }
-    ensures most { result ≤ 64 }
+/// Who prepares the batches of each session: all workers where there is one session. Else there is one for each, since the sessions
+/// themselves are in threads of their own, and while one waits for its turn the others prepare.
+fn preparers(crew: Crew, sessions: usize) -> Crew
+    requires some { 1 ≤ crew.workers }
+    requires most { crew.workers ≤ 64 }
+    ensures some { 1 ≤ result.workers }
+    ensures most { result.workers ≤ 64 }
 {
-    if sessions == 1 { workers } else { 1 }
+    let workers = if sessions == 1 { crew.workers } else { 1 };
+    Crew {
+        workers,
+        hashing: crew.hashing,
+    }
 }
 
-/// Runs the sessions on at most `workers` threads, each of which runs neighbouring sessions in their order.
+/// Runs the sessions on at most as many threads as the crew has workers; each runs neighbouring sessions in their order.
 fn run_each<R: Threads + Wait + Sync, S: Source + Send, G: Gate>(
     rt: &R,
     alloc: Global,
     desk: &Desk<Served>,
     gate: &G,
     sessions: &mut [Session<S>],
-    workers: u32,
+    crew: Crew,
 )
-    requires some { 1 ≤ workers }
-    requires most { workers ≤ 64 }
+    requires some { 1 ≤ crew.workers }
+    requires most { crew.workers ≤ 64 }
     requires ready { All (IsReady desk.now.board.shared.table_id) sessions.old }
     ensures { RunsEach S.name S.left S.faults desk.now.board.shared.table_id sessions.old
         sessions.new }
 {
-    let preparers = preparers(workers, sessions.len());
+    let preparers = preparers(crew, sessions.len());
     let each = |_place: usize, session: &mut Session<S>|
-        requires { (1 ≤ preparers) × (preparers ≤ 64)
+        requires { (1 ≤ preparers.workers) × (preparers.workers ≤ 64)
             × IsReady desk.now.board.shared.table_id session.now }
         ensures { Runs S.name S.left S.faults desk.entry.now.board.shared.table_id session.entry.now
             session.exit.now }
     { run_session(rt, alloc, desk, gate, session, preparers) };
-    thread::for_each_mut(rt, sessions, workers as usize, &each);
+    thread::for_each_mut(rt, sessions, crew.workers as usize, &each);
 }
 
 /// Runs sessions at the desk, and an asker beside them, and answers when each has ended; it waits. No end is NotRun then.
 ///
 /// Each session reads its source, cuts and checks its frames, and makes a turn with its pass for each batch of accepted
 /// operations; `gate` is told before and after each turn. With one worker the sessions run in their order and the asker runs
-/// last. With more they run on `workers` threads, each of which has neighbouring sessions, and the asker runs beside them.
+/// last. With more they run on as many threads, each of which has neighbouring sessions, and the asker runs beside them.
 ///
 /// A session ends with `ReadFault` only where a read of its source failed, with `TooLong` where its source gave `limit` bytes
 /// and at least one more, with `Memory` where allocation failed, and else with `Done`. The batches that a session turned are the
@@ -154,30 +159,30 @@ pub fn run_sessions<R: Threads + Wait + Sync, S: Source + Send, G: Gate>(
     desk: &Desk<Served>,
     sessions: &mut [Session<S>],
     asker: &mut Asker,
-    workers: u32,
+    crew: Crew,
     gate: &G,
 )
-    requires least { 1 ≤ workers }
-    requires most { workers ≤ 64 }
+    requires least { 1 ≤ crew.workers }
+    requires most { crew.workers ≤ 64 }
     requires ready { All (IsReady desk.now.board.shared.table_id) sessions.old }
     requires asker { IsAsker desk.now.board.shared.table_id asker.old }
     ensures sessions { RunsEach S.name S.left S.faults desk.now.board.shared.table_id sessions.old
         sessions.new }
     ensures asker { Asks desk.now.board.shared.table_id asker.old asker.new }
 {
-    if workers == 1 {
-        run_each(rt, alloc, desk, gate, sessions, workers);
+    if crew.workers == 1 {
+        run_each(rt, alloc, desk, gate, sessions, crew);
         ask_all(rt, alloc, desk, asker);
         return;
     }
     join_mut(
         rt,
         &mut || -> ()
-            requires { (1 ≤ workers) × (workers ≤ 64)
+            requires { (1 ≤ crew.workers) × (crew.workers ≤ 64)
                 × All (IsReady desk.now.board.shared.table_id) sessions.now }
             ensures { RunsEach S.name S.left S.faults desk.entry.now.board.shared.table_id
                 sessions.entry.now sessions.exit.now }
-        { run_each(rt, alloc, desk, gate, sessions, workers) },
+        { run_each(rt, alloc, desk, gate, sessions, crew) },
         &mut || ask_all(rt, alloc, desk, asker),
     );
 }

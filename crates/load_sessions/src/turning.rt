@@ -7,6 +7,7 @@ ghost use Rattle.library_batches.specs.Reading.{begun, most_bytes};
 ghost use Rattle.load_sessions.specs.Tallies.{found};
 ghost use Rattle.load_sessions.specs.Turning.{Turns};
 
+use crate::crew::Crew;
 use crate::preparing::prepare;
 use crate::served::Served;
 use crate::session::Session;
@@ -24,7 +25,7 @@ use union_base::memory::Memory;
 use union_io::gate::Gate;
 use union_io::source::Source;
 
-/// One turn of the pass, with a batch that `workers` workers prepare before the turn is asked for, between two calls of the gate.
+/// One turn of the pass, with a batch that the crew prepares before the turn is asked for, between two calls of the gate.
 /// Answers what came of the batch's operations.
 fn turn_batch<R: Threads + Wait + Sync, G: Gate>(
     rt: &R,
@@ -34,11 +35,11 @@ fn turn_batch<R: Threads + Wait + Sync, G: Gate>(
     pass: &mut Pass<Served>,
     turn: u64,
     batch: Batch,
-    workers: u32,
+    crew: Crew,
 ) -> Result<Vec<Outcome>, Memory>
     requires desk { IsPassOf pass.old desk.now }
-    requires some { 1 ≤ workers }
-    requires most { workers ≤ 64 }
+    requires some { 1 ≤ crew.workers }
+    requires most { crew.workers ≤ 64 }
     ensures desk { IsPassOf pass.new desk.now }
     ensures same { IsSamePass pass.old pass.new }
     ensures own { OnOk result ((view pass.new).own ≡ (view pass.old).own ++ batch ∷ []) }
@@ -47,7 +48,7 @@ fn turn_batch<R: Threads + Wait + Sync, G: Gate>(
     ensures few { IfOk result (λ outcomes. length outcomes.items ≤ block_size) }
     ensures memory { OnErr result ((view pass.new).own ≡ (view pass.old).own) }
 {
-    let prepared = prepare(rt, alloc, batch, workers)?;
+    let prepared = prepare(rt, alloc, batch, crew)?;
     gate.before_turn(pass.number(), turn);
     let turned = desk.turn(alloc, rt, pass, prepared);
     gate.after_turn(pass.number(), turn);
@@ -55,8 +56,8 @@ fn turn_batch<R: Threads + Wait + Sync, G: Gate>(
     Ok(outcome)
 }
 
-/// A turn for each batch of the session's source, as the reader hands them out and `workers` workers prepare them, and the counts
-/// of what came of them.
+/// A turn for each batch of the session's source, as the reader hands them out and the crew prepares them, and the counts of what
+/// came of them.
 pub(crate) fn turn_batches<R: Threads + Wait + Sync, S: Source, G: Gate>(
     rt: &R,
     alloc: Global,
@@ -65,10 +66,10 @@ pub(crate) fn turn_batches<R: Threads + Wait + Sync, S: Source, G: Gate>(
     reader: &mut BatchReader,
     counts: &mut OutcomeCounts,
     session: &mut Session<S>,
-    workers: u32,
+    crew: Crew,
 ) -> Result<(), Stop>
-    requires some { 1 ≤ workers }
-    requires most { workers ≤ 64 }
+    requires some { 1 ≤ crew.workers }
+    requires most { crew.workers ≤ 64 }
     requires desk { IsPassOf session.old.pass desk.now }
     requires own { (view session.old.pass).own ≡ [] }
     requires limit { session.old.limit ≤ most_bytes }
@@ -89,7 +90,7 @@ pub(crate) fn turn_batches<R: Threads + Wait + Sync, S: Source, G: Gate>(
                     &mut session.pass,
                     turn,
                     batch,
-                    workers,
+                    crew,
                 )?;
                 counts.count(outcomes.as_slice());
                 turn += 1;

@@ -12,6 +12,7 @@ use crate::taking::take_frame;
 use crate::tally::Tally;
 use authority_names::name_table::NameTable;
 use iso2709_frame::cut::Cut;
+use key_hashing::hashing::Hashing;
 use library_batches::stop::Stop;
 use library_stream::answer::Next;
 use library_stream::frame_reader::{FrameReader, LARGEST_SOURCE};
@@ -28,12 +29,12 @@ struct Reading {
 
 impl Reading {
     /// Nothing was read yet.
-    fn new(alloc: Global) -> Reading
+    fn new(alloc: Global, hashing: Hashing) -> Reading
         ensures read { IsReading [] result.table result.tally }
         ensures frames { result.tally.frames ≡ 0 }
     {
         Reading {
-            table: NameTable::empty(alloc),
+            table: NameTable::empty(alloc, hashing),
             tally: Tally::new(alloc),
         }
     }
@@ -76,13 +77,17 @@ impl Reading {
     }
 }
 
-/// Reads a file of names to its end. A frame is refused for the first rule that fails: those on how it is cut, then those on length,
+/// Reads a file of names to its end, into a table that hashes headings by these numbers. A frame is refused for the first rule that fails: those on how it is cut, then those on length,
 /// leader, directory, ranges and shape of fields, and then the reasons of the table (`NameTable::add`). The others are taken into
 /// the table; one of status `d` gives nothing.
 ///
 /// Returns `TooLong` where the source gave 2^40 bytes and at least one more, `Failed` where a read failed, and `Memory` if allocation
 /// fails.
-pub fn read_names<S: Source>(alloc: Global, source: &mut S) -> Result<NamesRead, Stop>
+pub fn read_names<S: Source>(
+    alloc: Global,
+    hashing: Hashing,
+    source: &mut S,
+) -> Result<NamesRead, Stop>
     ensures name { S.name source.new ≡ S.name source.old }
     ensures reads { Reads LARGEST_SOURCE result
         (record {
@@ -93,7 +98,7 @@ pub fn read_names<S: Source>(alloc: Global, source: &mut S) -> Result<NamesRead,
         })
         (λ found bytes. IsNamesFile (frames bytes) found) }
 {
-    match read_frames(alloc, source) {
+    match read_frames(alloc, hashing, source) {
         Ok(reading) => match reading.finish() {
             Ok(found) => Ok(found),
             Err(AllocError) => Err(Stop::Memory),
@@ -103,7 +108,7 @@ pub fn read_names<S: Source>(alloc: Global, source: &mut S) -> Result<NamesRead,
 }
 
 /// Reads the frames of a source to its end.
-fn read_frames<S: Source>(alloc: Global, source: &mut S) -> Result<Reading, Stop>
+fn read_frames<S: Source>(alloc: Global, hashing: Hashing, source: &mut S) -> Result<Reading, Stop>
     ensures name { S.name source.new ≡ S.name source.old }
     ensures reads { Reads LARGEST_SOURCE result
         (record {
@@ -115,7 +120,7 @@ fn read_frames<S: Source>(alloc: Global, source: &mut S) -> Result<Reading, Stop
         (λ reading bytes. AreRead (frames bytes) reading.table reading.tally) }
 {
     let mut reader = FrameReader::open(alloc, LARGEST_SOURCE)?;
-    let mut reading = Reading::new(alloc);
+    let mut reading = Reading::new(alloc, hashing);
     loop {
         match reader.next(source) {
             Next::Frame(cut) => reading.take(alloc, cut, reader.frame())?,

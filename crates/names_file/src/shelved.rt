@@ -9,6 +9,7 @@ ghost use Rattle.names_file.specs.NamesFiles.{IsNamesFile};
 use crate::names_read::NamesRead;
 use crate::reading::read_names;
 use authority_names::name_table::NameTable;
+use key_hashing::hashing::Hashing;
 use std::alloc::Global;
 use union_base::bytes::Bytes;
 use union_base::memory::Memory;
@@ -23,6 +24,7 @@ use union_words::status::Status;
 /// exactly where it has more than 2^40 bytes and nothing failed, and `Memory` if allocation fails.
 fn read_names_file<F: Shelf>(
     alloc: Global,
+    hashing: Hashing,
     path: &Bytes,
     shelf: &mut F,
 ) -> Result<NamesRead, Status>
@@ -37,7 +39,7 @@ fn read_names_file<F: Shelf>(
 {
     match shelf.open(alloc, path) {
         Ok(mut source) => {
-            let read = read_names(alloc, &mut source);
+            let read = read_names(alloc, hashing, &mut source);
             shelf.give_back(source);
             match read {
                 Ok(found) => Ok(found),
@@ -49,13 +51,15 @@ fn read_names_file<F: Shelf>(
     }
 }
 
-/// The names of a run: those of its file of names, or none where there is no path. Takes no memory where there is none.
+/// The names of a run: those of its file of names, or none where there is no path, in a table that hashes headings by these numbers.
+/// Takes no memory where there is no path.
 ///
 /// # Errors
 ///
 /// As those of a file that is opened and read: `OpenFault`, `ReadFault` and `TooLong` of the names, and `Memory`.
 pub fn names_of<F: Shelf>(
     alloc: Global,
+    hashing: Hashing,
     path: Option<&[u8]>,
     shelf: &mut F,
 ) -> Result<NamesRead, Status>
@@ -69,11 +73,11 @@ pub fn names_of<F: Shelf>(
 {
     match path {
         Some(path) => match Bytes::of(alloc, path) {
-            Ok(path) => read_names_file(alloc, &path, shelf),
+            Ok(path) => read_names_file(alloc, hashing, &path, shelf),
             Err(Memory) => Err(Status::Memory),
         },
         None => Ok(NamesRead {
-            table: NameTable::empty(alloc),
+            table: NameTable::empty(alloc, hashing),
             report: Vec::new(alloc),
             refused: false,
         }),

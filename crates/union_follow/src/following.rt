@@ -21,6 +21,7 @@ use crate::turning::Load;
 use catalogue_core::catalogue::Catalogue;
 use catalogue_query::answer::Answer;
 use catalogue_query::query::Query;
+use key_hashing::hashing::Hashing;
 use load_sessions::questions::Questions;
 use snapshot_desk::opening::open;
 use snapshot_desk::viewer::Viewer;
@@ -250,6 +251,7 @@ fn abandon<R: Wait>(rt: &R, load: Load, asking: Asking)
 pub fn follow_and_ask<R: Threads + Wait + Sync, F: Shelf>(
     rt: &R,
     alloc: Global,
+    hashing: Hashing,
     libraries: &Libraries<'_>,
     questions: Questions,
     shelf: &mut F,
@@ -266,11 +268,11 @@ pub fn follow_and_ask<R: Threads + Wait + Sync, F: Shelf>(
         (length watched.loaded.catalogue.history) questions.late.items watched.late.items) }
 {
     let Questions { beside, late } = questions;
-    let Ok(catalogue) = Catalogue::empty(alloc) else {
+    let Ok(catalogue) = Catalogue::empty(alloc, hashing) else {
         return Err(Status::Memory);
     };
     let opened = open_rest(alloc, libraries, 0, shelf)?;
-    let Ok((publisher, viewer)) = open(alloc) else {
+    let Ok((publisher, viewer)) = open(alloc, hashing) else {
         let mut opened = opened;
         give_back_all(&mut opened, shelf);
         return Err(Status::Memory);

@@ -27,6 +27,7 @@ use catalogue_lock::desk::Desk;
 use catalogue_lock::root::Root;
 use catalogue_query::query::Query;
 use load_sessions::asker::Asker;
+use load_sessions::crew::Crew;
 use load_sessions::end::End;
 use load_sessions::questions::Questions;
 use load_sessions::running::run_sessions;
@@ -167,6 +168,10 @@ pub fn load_and_ask<R: Threads + Wait + Sync, F: Shelf, G: Gate>(
         (length watched.loaded.catalogue.history) start.questions.late.items watched.late.items) }
 {
     let Start { names, questions } = start;
+    let crew = Crew {
+        workers: loading.workers.number(),
+        hashing: names.hashing(),
+    };
     let Ok((desk, mut root)) = open_desk(alloc, names, are_some(&questions)) else {
         return Err(Status::Memory);
     };
@@ -179,7 +184,7 @@ pub fn load_and_ask<R: Threads + Wait + Sync, F: Shelf, G: Gate>(
         &desk,
         sessions.as_mut_slice(),
         &mut asker,
-        loading.workers.number(),
+        crew,
         gate,
     );
     let mut reports = Reports::none(alloc);

@@ -1,6 +1,7 @@
 //! The program: the real files and streams, handed to the one call that does all the work.
 #![tactic(auto)]
 
+use key_hashing::hashing::Hashing;
 use std::alloc::Global;
 use std::env;
 use std::io::ErrorKind;
@@ -10,6 +11,7 @@ use union_base::memory::Memory;
 use union_io::file_shelf::FileShelf;
 use union_io::gate::OpenGate;
 use union_io::writer_sink::{ErrSink, OutSink};
+use union_program::host::Host;
 use union_program::run::union_run;
 use union_words::status::Status;
 
@@ -27,15 +29,13 @@ fn main(rt: HostRuntime) -> ExitCode {
     let mut shelf = FileShelf::new(alloc, files);
     let mut out = OutSink::of(rt.stdout());
     let mut notes = ErrSink::of(rt.stderr());
-    let status = union_run(
-        &rt,
+    let host = Host {
+        rt: &rt,
         alloc,
-        words.as_slice(),
-        &mut shelf,
-        &mut out,
-        &mut notes,
-        &OpenGate,
-    );
+        hashing: Hashing::drawn(&rt),
+        gate: &OpenGate,
+    };
+    let status = union_run(&host, words.as_slice(), &mut shelf, &mut out, &mut notes);
     ExitCode::from(status.exit_number())
 }
 

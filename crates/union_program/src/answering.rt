@@ -210,7 +210,14 @@ pub fn follow_and_answer<'a, R: Threads + Wait + Sync, F: Shelf, G>(
         questions,
         refused,
     } = asked;
-    match follow_and_ask(host.rt, host.alloc, libraries, questions, shelf) {
+    match follow_and_ask(
+        host.rt,
+        host.alloc,
+        host.hashing,
+        libraries,
+        questions,
+        shelf,
+    ) {
         Ok(watched) => Ok(answered(watched, lines, refused)),
         Err(status) => Err(status),
     }

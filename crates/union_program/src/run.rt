@@ -21,6 +21,7 @@ ghost use Rattle.union_json.specs.Runs.{IsToJsonRun, IsFromJsonRun};
 use crate::answering::{follow_and_answer, load_and_answer, load_by_names};
 use crate::host::Host;
 use crate::json::{from_json_file, to_json_file};
+use load_sessions::crew::Crew;
 use load_sessions::questions::Questions;
 use names_file::shelved::names_of;
 use std::alloc::Global;
@@ -151,22 +152,26 @@ fn run_from_json<F: Shelf, O: Sink, N: Sink>(
 }
 
 /// Runs the script of that name.
-fn run_script<F: Shelf, O: Sink>(alloc: Global, path: &[u8], shelf: &mut F, out: &mut O) -> Status
+fn run_script<R, F: Shelf, O: Sink, G>(
+    host: &Host<'_, R, G>,
+    path: &[u8],
+    shelf: &mut F,
+    out: &mut O,
+) -> Status
     ensures { IsScript path.now
         (shelf_flow F.files F.faults shelf.old shelf.new)
         (outflow O.written O.faults out.old out.new)
         result }
 {
-    match Bytes::of(alloc, path) {
-        Ok(path) => script_run(alloc, &path, shelf, out),
+    match Bytes::of(host.alloc, path) {
+        Ok(path) => script_run(host.alloc, host.hashing, &path, shelf, out),
         Err(Memory) => Status::Memory,
     }
 }
 
 /// Runs a trial.
-fn run_trial<R: Threads + Sync, O: Sink>(
-    rt: &R,
-    alloc: Global,
+fn run_trial<R: Threads + Sync, O: Sink, G>(
+    host: &Host<'_, R, G>,
     trial: &Trial,
     out: &mut O,
 ) -> Status
@@ -175,8 +180,11 @@ fn run_trial<R: Threads + Sync, O: Sink>(
         result }
     ensures other { result ≢ Status.Usage }
 {
-    let workers = trial.workers().number();
-    trial_run(rt, alloc, trial.seed(), trial.count(), workers, out)
+    let crew = Crew {
+        workers: trial.workers().number(),
+        hashing: host.hashing,
+    };
+    trial_run(host.rt, host.alloc, trial.seed(), trial.count(), crew, out)
 }
 
 /// Fills a catalogue with the files of libraries, by the names of the file of names, and shows it.
@@ -195,7 +203,7 @@ fn run_union<R: Threads + Wait + Sync, F: Shelf, O: Sink, N: Sink, G: Gate>(
     ensures noted { IsTrue (is_early result)
         → IsNoted (outflow N.written N.faults notes.old notes.new) (early_text result) }
 {
-    match names_of(host.alloc, loading.names, shelf) {
+    match names_of(host.alloc, host.hashing, loading.names, shelf) {
         Ok(names) => {
             let none = Questions::none(host.alloc);
             match load_by_names(host, loading, names, none, shelf) {
@@ -228,7 +236,7 @@ fn run_watch<R: Threads + Wait + Sync, F: Shelf, O: Sink, N: Sink, G: Gate>(
         → IsNoted (outflow N.written N.faults notes.old notes.new) (early_text result) }
 {
     match read_asks(host.alloc, asks, shelf) {
-        Ok(text) => match names_of(host.alloc, loading.names, shelf) {
+        Ok(text) => match names_of(host.alloc, host.hashing, loading.names, shelf) {
             Ok(names) => match load_and_answer(host, text.as_slice(), loading, names, shelf) {
                 Ok(answered) => write_answered(host.alloc, answered, out, notes),
                 Err(status) => end(notes, status),
@@ -283,15 +291,14 @@ fn run_follow<R: Threads + Wait + Sync, F: Shelf, O: Sink, N: Sink, G>(
 /// and the file of questions of `watch` the option `--workers=N` says how many workers load the libraries, each by a session of
 /// its own, and make the records of an export, `--prefer=LIB,..` which libraries' records are preferred, and `--names=PATH` by which
 /// names works are made: that file is read before any library's file is opened, and what is told of it stands on `notes` before the
-/// reports. `gate` is told before and after each turn of a session. Waits for the workers.
+/// reports. The gate of the host is told before and after each turn of a session. All of this is so whatever the numbers are by which
+/// the host hashes keys. Waits for the workers.
 pub fn union_run<R: Threads + Wait + Sync, F: Shelf, O: Sink, N: Sink, G: Gate>(
-    rt: &R,
-    alloc: Global,
+    host: &Host<'_, R, G>,
     words: &[Bytes],
     shelf: &mut F,
     out: &mut O,
     notes: &mut N,
-    gate: &G,
 ) -> Status
     ensures usage { (result ≡ Status.Usage) ↔ (Words.job_of words.now ≡ None) }
 
@@ -373,29 +380,28 @@ pub fn union_run<R: Threads + Wait + Sync, F: Shelf, O: Sink, N: Sink, G: Gate>(
         → Words.job_of words.now ≡ Some (Words.FromJson file)
         → SameElsewhere (F.faults shelf.old) (F.faults shelf.new) file.path }
 {
-    let host = Host { rt, alloc, gate };
     match Job::read(words) {
         None => end(notes, Status::Usage),
         Some(Job::Check(file)) => {
-            let status = run_check(alloc, &file, shelf, out);
+            let status = run_check(host.alloc, &file, shelf, out);
             end(notes, status)
         }
-        Some(Job::ToJson(file)) => run_to_json(alloc, &file, shelf, out, notes),
-        Some(Job::FromJson(file)) => run_from_json(alloc, &file, shelf, out, notes),
+        Some(Job::ToJson(file)) => run_to_json(host.alloc, &file, shelf, out, notes),
+        Some(Job::FromJson(file)) => run_from_json(host.alloc, &file, shelf, out, notes),
         Some(Job::Export(form, loading)) => {
-            run_union(&host, Shown::Export(form), &loading, shelf, out, notes)
+            run_union(host, Shown::Export(form), &loading, shelf, out, notes)
         }
-        Some(Job::Works(loading)) => run_union(&host, Shown::Works, &loading, shelf, out, notes),
-        Some(Job::Watch(asks, loading)) => run_watch(&host, asks, &loading, shelf, out, notes),
+        Some(Job::Works(loading)) => run_union(host, Shown::Works, &loading, shelf, out, notes),
+        Some(Job::Watch(asks, loading)) => run_watch(host, asks, &loading, shelf, out, notes),
         Some(Job::Follow(asks, libraries)) => {
-            run_follow(&host, asks, &libraries, shelf, out, notes)
+            run_follow(host, asks, &libraries, shelf, out, notes)
         }
         Some(Job::Script(path)) => {
-            let status = run_script(alloc, path, shelf, out);
+            let status = run_script(host, path, shelf, out);
             end(notes, status)
         }
         Some(Job::Trial(trial)) => {
-            let status = run_trial(rt, alloc, &trial, out);
+            let status = run_trial(host, &trial, out);
             end(notes, status)
         }
         Some(Job::Help) => tell(out, help_text()),

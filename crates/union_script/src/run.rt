@@ -10,6 +10,7 @@ ghost use Rattle.union_script.specs.Texts.{script_of};
 use crate::lines::run_lines;
 use crate::union::Union;
 use catalogue_core::catalogue::Catalogue;
+use key_hashing::hashing::Hashing;
 use merge_laws::steps::Steps;
 use std::alloc::Global;
 use std::marker::Brand;
@@ -24,10 +25,10 @@ use union_words::input::Input;
 use union_words::status::Status;
 
 /// A catalogue without history, which keeps its works, since any line may ask for them.
-fn empty_catalogue(alloc: Global) -> Result<Catalogue, Memory>
+fn empty_catalogue(alloc: Global, hashing: Hashing) -> Result<Catalogue, Memory>
     ensures { IfOk result (λ catalogue. catalogue ≡ empty_catalogue) }
 {
-    let mut catalogue = Catalogue::empty(alloc)?;
+    let mut catalogue = Catalogue::empty(alloc, hashing)?;
     catalogue.keep_works(alloc)?;
     Ok(catalogue)
 }
@@ -35,6 +36,7 @@ fn empty_catalogue(alloc: Global) -> Result<Catalogue, Memory>
 /// Runs a script over a new catalogue, with the match tests counted in a ledger of their own.
 fn run_counted<L: Ledger, F: Shelf, O: Sink>(
     alloc: Global,
+    hashing: Hashing,
     script: &[u8],
     shelf: &mut F,
     out: &mut O,
@@ -57,7 +59,7 @@ fn run_counted<L: Ledger, F: Shelf, O: Sink>(
               = O.faults out.new;
         }) }
 {
-    match empty_catalogue(alloc) {
+    match empty_catalogue(alloc, hashing) {
         Ok(catalogue) => {
             let steps: Steps<L> = Steps::open(blank);
             let mut union = Union {
@@ -81,6 +83,7 @@ fn run_counted<L: Ledger, F: Shelf, O: Sink>(
 /// Runs a script over a new catalogue.
 fn run_text<F: Shelf, O: Sink>(
     alloc: Global,
+    hashing: Hashing,
     script: &[u8],
     shelf: &mut F,
     out: &mut O,
@@ -99,7 +102,7 @@ fn run_text<F: Shelf, O: Sink>(
               = O.faults out.new;
         }) }
 {
-    run_counted::<Brand, F, O>(alloc, script, shelf, out, Blank::new(1))
+    run_counted::<Brand, F, O>(alloc, hashing, script, shelf, out, Blank::new(1))
 }
 
 /// How a run ends that came to its end, by whether something was refused. Takes no memory.
@@ -113,8 +116,8 @@ fn end_by(refused: bool) -> Status
     }
 }
 
-/// Runs the script in the file of that name on one catalogue, which begins empty. The script is read whole before its first
-/// line is run; the text of each line is written before the next line is run.
+/// Runs the script in the file of that name on one catalogue, which begins empty and hashes keys by these numbers. The script is
+/// read whole before its first line is run; the text of each line is written before the next line is run.
 ///
 /// `Done` and `DoneWithRefusals` mean that each line was run and the text of all was written; which of the two says whether a
 /// line, or a frame of a file that was loaded, is refused. `OpenFault` and `ReadFault` come only where an open or a read of the
@@ -126,6 +129,7 @@ fn end_by(refused: bool) -> Status
 /// ends; after any other status all of it is given back.
 pub fn script_run<F: Shelf, O: Sink>(
     alloc: Global,
+    hashing: Hashing,
     path: &Bytes,
     shelf: &mut F,
     out: &mut O,
@@ -146,7 +150,7 @@ pub fn script_run<F: Shelf, O: Sink>(
         result }
 {
     match read_text_file(alloc, path, Input::Script, shelf) {
-        Ok(script) => match run_text(alloc, script.as_slice(), shelf, out) {
+        Ok(script) => match run_text(alloc, hashing, script.as_slice(), shelf, out) {
             Ok(refused) => end_by(refused),
             Err(status) => status,
         },

@@ -10,6 +10,7 @@ use crate::operations::operation;
 use catalogue_core::batch::Batch;
 use catalogue_core::catalogue::Catalogue;
 use catalogue_core::op::{LARGEST_BATCH, Op};
+use load_sessions::crew::Crew;
 use load_sessions::preparing::prepare;
 use merge_laws::steps::Steps;
 use std::alloc::Global;
@@ -53,7 +54,7 @@ fn read_block(
 }
 
 /// Loads the stream of the library at that place, whose draws are still to come: applies its batches one after the other, each of
-/// which `workers` workers prepare. Counts the match tests of the turns.
+/// which the crew prepares. Counts the match tests of the turns.
 ///
 /// Returns `Memory` if allocation fails. Some of the batches may be applied then.
 fn load_library<R: Threads + Sync, L: Ledger>(
@@ -62,15 +63,15 @@ fn load_library<R: Threads + Sync, L: Ledger>(
     seed: u64,
     count: u32,
     place: u32,
-    workers: u32,
+    crew: Crew,
     catalogue: &mut Catalogue,
     steps: &mut Steps<L>,
 ) -> Result<(), Memory>
     requires some { 0 < count }
     requires most { count ≤ MOST_FRAMES }
     requires place { place < 3 }
-    requires some_worker { 1 ≤ workers }
-    requires most_workers { workers ≤ 64 }
+    requires some_worker { 1 ≤ crew.workers }
+    requires most_workers { crew.workers ≤ 64 }
     ensures names { catalogue.new.names ≡ catalogue.old.names }
     ensures loads { OnOk result (Loads seed count place catalogue.old.history
         catalogue.new.history) }
@@ -83,13 +84,13 @@ fn load_library<R: Threads + Sync, L: Ledger>(
         if ops.is_empty() {
             return Ok(());
         }
-        let prepared = prepare(rt, alloc, Batch::of(library, ops), workers)?;
+        let prepared = prepare(rt, alloc, Batch::of(library, ops), crew)?;
         catalogue.apply_prepared(alloc, place, prepared, steps)?;
     }
 }
 
-/// Loads the streams of the three libraries, one after the other, into a catalogue without history; `workers` workers prepare
-/// each batch. Counts the match tests of the turns.
+/// Loads the streams of the three libraries, one after the other, into a catalogue without history; the crew prepares each batch.
+/// Counts the match tests of the turns.
 ///
 /// Returns `Memory` if allocation fails.
 pub fn load_all<R: Threads + Sync, L: Ledger>(
@@ -97,20 +98,20 @@ pub fn load_all<R: Threads + Sync, L: Ledger>(
     alloc: Global,
     seed: u64,
     count: u32,
-    workers: u32,
+    crew: Crew,
     catalogue: &mut Catalogue,
     steps: &mut Steps<L>,
 ) -> Result<(), Memory>
     requires some { 0 < count }
     requires most { count ≤ MOST_FRAMES }
-    requires some_worker { 1 ≤ workers }
-    requires most_workers { workers ≤ 64 }
+    requires some_worker { 1 ≤ crew.workers }
+    requires most_workers { crew.workers ≤ 64 }
     requires new { catalogue.old.history ≡ [] }
     ensures names { catalogue.new.names ≡ catalogue.old.names }
     ensures loaded { OnOk result (AreLoaded seed count 3 catalogue.new.history) }
 {
     for place in 0..LIBRARIES {
-        load_library(rt, alloc, seed, count, place, workers, catalogue, steps)?;
+        load_library(rt, alloc, seed, count, place, crew, catalogue, steps)?;
     }
     Ok(())
 }

@@ -9,6 +9,7 @@ use crate::measures::Measures;
 use crate::measuring::measured;
 use catalogue_core::catalogue::Catalogue;
 use itoa::Buffer;
+use load_sessions::crew::Crew;
 use merge_laws::steps::Steps;
 use std::alloc::{AllocError, Global};
 use std::marker::Brand;
@@ -52,7 +53,7 @@ fn text_by<R: Threads + Sync, L: Ledger>(
     alloc: Global,
     seed: u64,
     count: u32,
-    workers: u32,
+    crew: Crew,
     blank: Blank,
 ) -> Result<(Vec<u8>, Catalogue), Memory>
     requires name { blank.name ≡ L.name }
@@ -60,13 +61,13 @@ fn text_by<R: Threads + Sync, L: Ledger>(
     requires some { 0 < L.parts }
     requires count_some { 0 < count }
     requires count_most { count ≤ MOST_FRAMES }
-    requires some_worker { 1 ≤ workers }
-    requires most_workers { workers ≤ 64 }
+    requires some_worker { 1 ≤ crew.workers }
+    requires most_workers { crew.workers ≤ 64 }
     ensures { IfOk result (λ told. IsTrialText seed count told.0.items) }
 {
-    let mut catalogue = Catalogue::empty(alloc)?;
+    let mut catalogue = Catalogue::empty(alloc, crew.hashing)?;
     let mut steps: Steps<L> = Steps::open(blank);
-    load_all(rt, alloc, seed, count, workers, &mut catalogue, &mut steps)?;
+    load_all(rt, alloc, seed, count, crew, &mut catalogue, &mut steps)?;
     let measures = measured(alloc, &catalogue)?;
     let mut text = Vec::new(alloc);
     add_line(&mut text, count, &measures)?;
@@ -79,19 +80,19 @@ fn trial_text<R: Threads + Sync>(
     alloc: Global,
     seed: u64,
     count: u32,
-    workers: u32,
+    crew: Crew,
 ) -> Result<(Vec<u8>, Catalogue), Memory>
     requires some { 0 < count }
     requires most { count ≤ MOST_FRAMES }
-    requires some_worker { 1 ≤ workers }
-    requires most_workers { workers ≤ 64 }
+    requires some_worker { 1 ≤ crew.workers }
+    requires most_workers { crew.workers ≤ 64 }
     ensures { IfOk result (λ told. IsTrialText seed count told.0.items) }
 {
-    text_by::<R, Brand>(rt, alloc, seed, count, workers, Blank::new(1))
+    text_by::<R, Brand>(rt, alloc, seed, count, crew, Blank::new(1))
 }
 
 /// Generates `count` records from the seed, loads them as those of three libraries, one library after the other, each batch
-/// prepared by `workers` workers, and writes one line of what came of it: the numbers of generated frames, of current records,
+/// prepared by the crew, and writes one line of what came of it: the numbers of generated frames, of current records,
 /// editions, works, and of the export's bytes.
 ///
 /// `Done` means that the line was written. `WriteFault` comes only where a write failed; a prefix of the line was written then.
@@ -104,13 +105,13 @@ pub fn trial_run<R: Threads + Sync, O: Sink>(
     alloc: Global,
     seed: u64,
     count: u32,
-    workers: u32,
+    crew: Crew,
     out: &mut O,
 ) -> Status
     requires some { 1 ≤ count }
     requires most { count ≤ MOST_FRAMES }
-    requires some_worker { 1 ≤ workers }
-    requires most_workers { workers ≤ 64 }
+    requires some_worker { 1 ≤ crew.workers }
+    requires most_workers { crew.workers ≤ 64 }
     ensures { IsTrial seed count (record {
       old = O.written out.old;
       new = O.written out.new;
@@ -119,7 +120,7 @@ pub fn trial_run<R: Threads + Sync, O: Sink>(
       after = O.faults out.new;
     }) result }
 {
-    match trial_text(rt, alloc, seed, count, workers) {
+    match trial_text(rt, alloc, seed, count, crew) {
         Ok((text, catalogue)) => match put_all(out, text.as_slice()) {
             Ok(()) => {
                 // The program ends after this, and the system takes all its memory back at once.
