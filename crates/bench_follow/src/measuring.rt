@@ -5,6 +5,7 @@ ghost use Rattle.union_follow.specs.Turning.{IsShown};
 use crate::asking::{Asking, ask_until};
 use crate::loading::{Loading, load_timed};
 use catalogue_core::catalogue::Catalogue;
+use key_hashing::hashing::Hashing;
 use snapshot_desk::opening::open;
 use std::alloc::Global;
 use std::sync::Wait;
@@ -86,8 +87,8 @@ pub fn measured<R: Threads + Wait + Sync + Clock, F: Shelf>(
     let Ok(opened) = open_rest(alloc, libraries, 0, shelf) else {
         return Err(Memory);
     };
-    let catalogue = Catalogue::empty(alloc)?;
-    let (publisher, viewer) = open(alloc)?;
+    let catalogue = Catalogue::empty(alloc, Hashing::fixed())?;
+    let (publisher, viewer) = open(alloc, Hashing::fixed())?;
     let load = Load {
         catalogue,
         publisher,

@@ -7,6 +7,7 @@ ghost use Rattle.marc_fields.specs.Rules.{IsFrame};
 use authority_names::name_table::NameTable;
 use iso2709_frame::cut::Cut;
 use iso2709_frame::cutter::Cutter;
+use key_hashing::hashing::Hashing;
 use marc_fields::decoding::{decode, is_frame};
 use std::alloc::Global;
 use std::io;
@@ -63,7 +64,7 @@ fn main(rt: HostRuntime) -> io::Result<()> {
         return eprintln!(rt; "no memory");
     };
     let mut reading = Reading {
-        table: NameTable::empty(rt.alloc()),
+        table: NameTable::empty(rt.alloc(), Hashing::fixed()),
         taken: 0,
         refused: 0,
     };

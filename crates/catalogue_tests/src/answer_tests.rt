@@ -5,6 +5,7 @@ use crate::worked::{BLUE, BRIDGE, RED, batch_of_one};
 use catalogue_core::catalogue::Catalogue;
 use catalogue_query::answering::answer;
 use catalogue_query::query::Query;
+use key_hashing::hashing::Hashing;
 use merge_laws::steps::Steps;
 use std::alloc::Global;
 use std::marker::Brand;
@@ -62,7 +63,7 @@ fn catalogue_of<L: Ledger>(
     requires some { 0 < L.parts }
 {
     let mut steps: Steps<L> = Steps::open(blank);
-    let mut catalogue = Catalogue::empty(alloc)?;
+    let mut catalogue = Catalogue::empty(alloc, Hashing::fixed())?;
     for (library, frame) in records {
         let batch = batch_of_one(alloc, library, frame)?;
         let _found = catalogue.apply(alloc, 0, batch, &mut steps)?;

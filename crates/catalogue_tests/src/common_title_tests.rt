@@ -9,6 +9,7 @@ use crate::worked::op_in;
 use catalogue_core::batch::Batch;
 use catalogue_core::catalogue::Catalogue;
 use catalogue_core::op::Op;
+use key_hashing::hashing::Hashing;
 use merge_laws::steps::Steps;
 use std::alloc::Global;
 use std::marker::Brand;
@@ -107,7 +108,7 @@ fn agree<L: Ledger>(
     requires titles { 0 < sizes.titles }
 {
     let mut steps: Steps<L> = Steps::open(blank);
-    let mut catalogue = Catalogue::empty(alloc)?;
+    let mut catalogue = Catalogue::empty(alloc, Hashing::fixed())?;
     catalogue.keep_works(alloc)?;
     let mut plain = PlainCatalogue::empty(alloc);
     let mut draws = Draws { state: seed };

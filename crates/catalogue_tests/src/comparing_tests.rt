@@ -9,6 +9,7 @@ use catalogue_core::catalogue::Catalogue;
 use catalogue_core::edition::Edition;
 use catalogue_core::op::Op;
 use catalogue_core::outcome::Outcome;
+use key_hashing::hashing::Hashing;
 use merge_laws::steps::Steps;
 use std::alloc::Global;
 use std::marker::Brand;
@@ -242,7 +243,7 @@ fn agree<L: Ledger>(
     requires keys { 0 < keys }
 {
     let mut steps: Steps<L> = Steps::open(blank);
-    let mut catalogue = Catalogue::empty(alloc)?;
+    let mut catalogue = Catalogue::empty(alloc, Hashing::fixed())?;
     catalogue.keep_works(alloc)?;
     let mut plain = PlainCatalogue::empty(alloc);
     let mut draws = Draws { state: seed };
@@ -319,7 +320,7 @@ fn chain_goes<L: Ledger>(alloc: Global, blank: Blank) -> Result<bool, Fail>
     requires some { 0 < L.parts }
 {
     let mut steps: Steps<L> = Steps::open(blank);
-    let mut catalogue = Catalogue::empty(alloc)?;
+    let mut catalogue = Catalogue::empty(alloc, Hashing::fixed())?;
     let mut plain = PlainCatalogue::empty(alloc);
     let turns: [(u64, bool, u64); 9] = [
         (0, false, 1),
@@ -376,7 +377,7 @@ fn stranger_comes_and_goes<L: Ledger>(alloc: Global, blank: Blank) -> Result<boo
     requires some { 0 < L.parts }
 {
     let mut steps: Steps<L> = Steps::open(blank);
-    let mut catalogue = Catalogue::empty(alloc)?;
+    let mut catalogue = Catalogue::empty(alloc, Hashing::fixed())?;
     for place in 0..667 {
         let three = [
             stranger(3 * place, false),

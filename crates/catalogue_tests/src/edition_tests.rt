@@ -8,6 +8,7 @@ use catalogue_core::ordering::sorted_by_least;
 use catalogue_core::records::control_of;
 use catalogue_core::work_key::work_key_of;
 use field_merge::content::Content;
+use key_hashing::hashing::Hashing;
 use match_features::keys::FeatureKey;
 use merge_laws::join::Join;
 use merge_laws::resolvable::Resolvable;
@@ -63,7 +64,7 @@ pub fn is_named(edition: &Edition, control: &[u8]) -> bool {
 
 /// Whether the edition has that work key.
 fn has_key(alloc: Global, edition: &Edition, key: &[u8]) -> Result<bool, Fail> {
-    let names = NameTable::empty(alloc);
+    let names = NameTable::empty(alloc, Hashing::fixed());
     Ok(work_key_of(alloc, &names, edition)?.bytes() == key)
 }
 

@@ -3,6 +3,7 @@ use crate::worked::{BLUE, BRIDGE, RED, edition_in};
 use catalogue_core::catalogue::Catalogue;
 use catalogue_export::editions::append_editions;
 use catalogue_export::form::Iso2709;
+use key_hashing::hashing::Hashing;
 use merge_laws::join::Join;
 use std::test::Fail;
 
@@ -27,7 +28,7 @@ fn two_editions_one_behind_the_other(rt: HostRuntime) -> Result<(), Fail> {
     let cat = edition_in(alloc, "LIBA", ONE)?;
     let mut text = Vec::new(alloc);
     let mut left = Vec::new(alloc);
-    let catalogue = Catalogue::empty(alloc)?;
+    let catalogue = Catalogue::empty(alloc, Hashing::fixed())?;
     append_editions::<Iso2709>(alloc, &catalogue, &[&ships, &cat], &mut text, &mut left)?;
     let mut expected = Vec::new(alloc);
     expected.extend_from_slice(SHIPS_EXPORTED)?;

@@ -7,6 +7,7 @@ use catalogue_core::catalogue::Catalogue;
 use catalogue_core::edition::Edition;
 use catalogue_core::op::Op;
 use catalogue_core::outcome::Outcome;
+use key_hashing::hashing::Hashing;
 use merge_laws::steps::Steps;
 use std::alloc::Global;
 use std::marker::Brand;
@@ -71,7 +72,7 @@ fn load_correct_withdraw<L: Ledger>(alloc: Global, blank: Blank) -> Result<bool,
     requires some { 0 < L.parts }
 {
     let mut steps: Steps<L> = Steps::open(blank);
-    let mut catalogue = Catalogue::empty(alloc)?;
+    let mut catalogue = Catalogue::empty(alloc, Hashing::fixed())?;
     let turns: [(&[u8], Outcome, u64); 4] = [
         (ADDED, Outcome::Added, 1),
         (CORRECTED, Outcome::Replaced, 1),
@@ -104,7 +105,7 @@ fn bridge_goes<L: Ledger>(alloc: Global, blank: Blank) -> Result<Catalogue, Fail
     requires some { 0 < L.parts }
 {
     let mut steps: Steps<L> = Steps::open(blank);
-    let mut catalogue = Catalogue::empty(alloc)?;
+    let mut catalogue = Catalogue::empty(alloc, Hashing::fixed())?;
     let turns: [(&[u8], u64, &[&[u8]]); 4] = [
         (RED, 1, &[RED]),
         (BLUE, 1, &[RED, BLUE]),

@@ -3,6 +3,7 @@ use crate::worked::edition_in;
 use authority_names::name_table::NameTable;
 use authority_names::refusal::NameRefusal;
 use catalogue_core::catalogue::Catalogue;
+use key_hashing::hashing::Hashing;
 use marc_fields::decoding::{decode, is_frame};
 use std::alloc::Global;
 use std::str::Split;
@@ -48,7 +49,7 @@ fn next_cell<'a>(cells: &mut Split<'a, char>) -> Result<&'a str, Fail> {
 
 /// The table of the records in these frames, without those that it refuses.
 fn table_of(alloc: Global, frames: &str) -> Result<NameTable, Fail> {
-    let mut table = NameTable::empty(alloc);
+    let mut table = NameTable::empty(alloc, Hashing::fixed());
     for frame in frames.split(FRAME_END) {
         if !frame.is_empty() {
             add(alloc, &mut table, frame.as_bytes())?;

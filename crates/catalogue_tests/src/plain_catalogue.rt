@@ -24,6 +24,7 @@ use catalogue_core::op::Op;
 use catalogue_core::ordering::sorted_by_least;
 use catalogue_core::outcome::Outcome;
 use catalogue_core::work_key::work_key_of;
+use key_hashing::hashing::Hashing;
 use merge_laws::join::Join;
 use merge_laws::steps::Steps;
 use merge_laws::swoosh::resolve_plain;
@@ -265,7 +266,7 @@ fn clustered(alloc: Global, editions: &[Edition]) -> Result<Works, Memory>
 fn paired(alloc: Global, editions: &[Edition]) -> Result<Vec<(Bytes, RecordId)>, Memory>
     ensures { IfOk result (λ pairs. pairs.items ≡ work_pairs empty editions.now) }
 {
-    let names = NameTable::empty(alloc);
+    let names = NameTable::empty(alloc, Hashing::fixed());
     let mut pairs = Vec::new(alloc);
     for edition in editions {
         let key = work_key_of(alloc, &names, edition)?;

@@ -15,6 +15,7 @@ use catalogue_export::editions::append_edition;
 use field_merge::content::Content;
 use field_merge::preference::Preference;
 use field_merge::slot::Slot;
+use key_hashing::hashing::Hashing;
 use marc_fields::marc_record::Record;
 use marc_parts::parts::has_tag;
 use match_features::features::Features;
@@ -38,7 +39,7 @@ fn less_full_record_of_a_preferred_library(rt: HostRuntime) -> Result<(), Fail> 
     let full = edition_by(alloc, &prefer, "LIBA", FULL)?;
     let later = edition_by(alloc, &prefer, "LIBB", LATER)?;
     let mut text = Vec::new(alloc);
-    let catalogue = Catalogue::empty(alloc)?;
+    let catalogue = Catalogue::empty(alloc, Hashing::fixed())?;
     append_edition(alloc, &catalogue, &full.joined(alloc, &later)?, &mut text)?;
     assert_eq!(rt; text.as_slice(), PREFERRED);
     Ok(())
@@ -126,7 +127,7 @@ fn catalogue_by<L: Ledger>(
     requires some { 0 < L.parts }
 {
     let mut steps: Steps<L> = Steps::open(blank);
-    let mut catalogue = Catalogue::empty(alloc)?;
+    let mut catalogue = Catalogue::empty(alloc, Hashing::fixed())?;
     for place in 0..3 {
         for turn in 0..4 {
             let batch = batch_of(alloc, prefer, place, 3 * turn)?;
@@ -186,7 +187,7 @@ fn agree(alloc: Global, one: &Catalogue, other: &Catalogue) -> Result<bool, Fail
 /// Whether the editions have the same contributors and features, and their records the same holdings and contributors, and the
 /// same work key where both show the same title.
 fn are_alike(alloc: Global, one: &Edition, other: &Edition) -> Result<bool, Fail> {
-    let catalogue = Catalogue::empty(alloc)?;
+    let catalogue = Catalogue::empty(alloc, Hashing::fixed())?;
     let (first, _) = edition_record(alloc, one, &catalogue.key_of(alloc, one)?)?;
     let (second, _) = edition_record(alloc, other, &catalogue.key_of(alloc, other)?)?;
     let parts = one.content().contributors.as_slice() == other.content().contributors.as_slice()

@@ -11,6 +11,7 @@ use catalogue_core::net::net;
 use catalogue_core::ordering::sorted_by_least;
 use catalogue_core::outcome::Outcome;
 use catalogue_core::prepared::Prepared;
+use key_hashing::hashing::Hashing;
 use merge_laws::steps::Steps;
 use merge_laws::swoosh::resolve_plain;
 use std::alloc::Global;
@@ -191,8 +192,8 @@ fn come_true<L: Ledger>(alloc: Global, turns: &[Turn; 2], blank: Blank) -> Resul
     requires some { 0 < L.parts }
 {
     let mut steps: Steps<L> = Steps::open(blank);
-    let mut one = Catalogue::empty(alloc)?;
-    let mut other = Catalogue::empty(alloc)?;
+    let mut one = Catalogue::empty(alloc, Hashing::fixed())?;
+    let mut other = Catalogue::empty(alloc, Hashing::fixed())?;
     one.keep_works(alloc)?;
     for turn in turns {
         if !apply_both(alloc, &mut one, &mut other, turn, &mut steps)? {

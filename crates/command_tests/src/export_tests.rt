@@ -7,6 +7,8 @@ use catalogue_export::export::export;
 use catalogue_export::export_fail::ExportFail;
 use catalogue_export::form::{ExportForm, Iso2709};
 use catalogue_json::json_export::JsonLines;
+use key_hashing::hashing::Hashing;
+use load_sessions::crew::Crew;
 use merge_laws::steps::Steps;
 use std::alloc::Global;
 use std::marker::Brand;
@@ -33,9 +35,13 @@ fn filled<R: Threads + Sync, L: Ledger>(
     requires parts { blank.parts ≡ L.parts }
     requires some { 0 < L.parts }
 {
-    let mut catalogue = Catalogue::empty(alloc)?;
+    let crew = Crew {
+        workers: 1,
+        hashing: Hashing::fixed(),
+    };
+    let mut catalogue = Catalogue::empty(alloc, crew.hashing)?;
     let mut steps: Steps<L> = Steps::open(blank);
-    load_all(rt, alloc, 7, RECORDS, 1, &mut catalogue, &mut steps)?;
+    load_all(rt, alloc, 7, RECORDS, crew, &mut catalogue, &mut steps)?;
     Ok(catalogue)
 }
 

@@ -4,6 +4,7 @@ use crate::records::{ONE, OTHER};
 use crate::runs::{Files, calm, run, shelf_of};
 use crate::texts::words_between;
 use authority_names::name_table::NameTable;
+use key_hashing::hashing::Hashing;
 use load_sessions::questions::Questions;
 use std::alloc::Global;
 use std::hint::spin_loop;
@@ -194,7 +195,7 @@ fn sessions_of_turns<R: Threads + Wait + Sync, G: Gate>(
         return Ok(sessions);
     };
     let start = Start {
-        names: NameTable::empty(alloc),
+        names: NameTable::empty(alloc, Hashing::fixed()),
         questions: Questions::none(alloc),
     };
     if let Ok(watched) = load_and_ask(rt, alloc, &loading, start, &mut shelf, gate) {

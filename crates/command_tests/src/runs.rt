@@ -1,5 +1,6 @@
 //! Runs of the program over three files in memory, and the faults that such a run may meet.
 use crate::texts::words_between;
+use key_hashing::hashing::Hashing;
 use std::alloc::Global;
 use std::sync::Wait;
 use std::test::Fail;
@@ -10,6 +11,7 @@ use union_base::memory::Memory;
 use union_io::gate::{Gate, OpenGate};
 use union_io::mem_shelf::MemShelf;
 use union_io::mem_sink::MemSink;
+use union_program::host::Host;
 use union_program::run::union_run;
 use union_words::input::Input;
 use union_words::status::Status;
@@ -95,15 +97,13 @@ pub fn run<R: Threads + Wait + Sync, G: Gate>(
     let mut shelf = shelf_of(alloc, files)?;
     let mut out = sink(alloc, &[], files.limit)?;
     let mut notes = sink(alloc, files.notes, 4096)?;
-    let status = union_run(
+    let host = Host {
         rt,
         alloc,
-        words.as_slice(),
-        &mut shelf,
-        &mut out,
-        &mut notes,
+        hashing: Hashing::fixed(),
         gate,
-    );
+    };
+    let status = union_run(&host, words.as_slice(), &mut shelf, &mut out, &mut notes);
     Ok((status, out, notes))
 }
 

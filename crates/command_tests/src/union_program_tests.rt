@@ -2,6 +2,7 @@
 use crate::records::{EXPORT, ONE, OTHER, OTHER_EXPORT, WITHDRAWAL};
 use crate::runs::{Files, calm, ends, library};
 use crate::texts::{joined, words_between};
+use key_hashing::hashing::Hashing;
 use std::test::Fail;
 use union_base::bytes::Bytes;
 use union_base::library_code::LibraryCode;
@@ -10,6 +11,7 @@ use union_io::gate::OpenGate;
 use union_io::sure_shelf::SureShelf;
 use union_io::sure_sink::SureSink;
 use union_io::sure_source::SureSource;
+use union_program::host::Host;
 use union_program::run::union_run;
 use union_words::status::Status;
 
@@ -342,14 +344,18 @@ fn sure_files_end_done(rt: HostRuntime) -> Result<(), Fail> {
         let mut shelf = SureShelf::new(alloc);
         shelf.put(Bytes::of(alloc, b"a")?, Bytes::of(alloc, ONE)?, 10)?;
         let words = words_between(alloc, line, b' ')?;
-        let ended = union_run(
-            &rt,
+        let host = Host {
+            rt: &rt,
             alloc,
+            hashing: Hashing::fixed(),
+            gate: &OpenGate,
+        };
+        let ended = union_run(
+            &host,
             words.as_slice(),
             &mut shelf,
             &mut SureSink::new(),
             &mut SureSink::new(),
-            &OpenGate,
         );
         assert!(rt; ended == Status::Done);
     }

@@ -3,6 +3,7 @@
 use crate::records::{BRIDGE, WITHDRAWAL};
 use crate::runs::{library, put};
 use crate::texts::joined;
+use key_hashing::hashing::Hashing;
 use std::alloc::Global;
 use std::test::Fail;
 use union_base::bytes::Bytes;
@@ -58,7 +59,7 @@ fn ends(
         faults.limit,
     );
     let path = Bytes::of(alloc, name)?;
-    let ended = script_run(alloc, &path, &mut shelf, &mut out);
+    let ended = script_run(alloc, Hashing::fixed(), &path, &mut shelf, &mut out);
     Ok(ended == status && out.content() == text)
 }
 

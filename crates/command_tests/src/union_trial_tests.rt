@@ -2,6 +2,8 @@
 ghost use Rattle.std.specs.Prelude.{◌≤◌};
 ghost use Rattle.union_trial.specs.declared.generator.TheConstants.{MOST_FRAMES};
 
+use key_hashing::hashing::Hashing;
+use load_sessions::crew::Crew;
 use std::alloc::{AllocError, Global};
 use std::test::Fail;
 use std::thread::Threads;
@@ -67,7 +69,11 @@ fn trial<R: Threads + Sync>(
 {
     let room = Vec::with_capacity(alloc, 256)?;
     let mut out = MemSink::new(Vec::new(alloc), room, limit);
-    let status = trial_run(rt, alloc, seed, count, workers, &mut out);
+    let crew = Crew {
+        workers,
+        hashing: Hashing::fixed(),
+    };
+    let status = trial_run(rt, alloc, seed, count, crew, &mut out);
     Ok((status, out))
 }
 

@@ -6,7 +6,9 @@ use catalogue_lock::machine::Machine;
 use catalogue_query::answer::Answer;
 use catalogue_query::query::Query;
 use field_merge::preference::Preference;
+use key_hashing::hashing::Hashing;
 use library_batches::batch_reader::BatchReader;
+use load_sessions::crew::Crew;
 use load_sessions::preparing::prepare;
 use load_sessions::served::Served;
 use std::alloc::Global;
@@ -42,7 +44,11 @@ fn load<R: Threads + Sync>(
     let mut source = SureSource::of(Bytes::of(alloc, stream)?, 100);
     let mut reader = BatchReader::open(alloc, &Preference::none(), &library, 1_000)?;
     if let Some(batch) = reader.next(alloc, &mut source)? {
-        let prepared = prepare(rt, alloc, batch, 1)?;
+        let crew = Crew {
+            workers: 1,
+            hashing: Hashing::fixed(),
+        };
+        let prepared = prepare(rt, alloc, batch, crew)?;
         served.apply(alloc, number, prepared)?;
     }
     Ok(())
@@ -70,7 +76,7 @@ fn sink(alloc: Global, limit: usize) -> Result<MemSink, Memory> {
 #[test]
 fn lines_of_all_kinds_are_told(rt: HostRuntime) -> Result<(), Fail> {
     let alloc = rt.alloc();
-    let mut served = Served::open(alloc, NameTable::empty(alloc))?;
+    let mut served = Served::open(alloc, NameTable::empty(alloc, Hashing::fixed()))?;
     let bridge = joined(alloc, &BRIDGE)?;
     load(&rt, alloc, &mut served, 0, b"LIBA", bridge.as_slice())?;
     load(&rt, alloc, &mut served, 1, b"LIBB", ONE)?;
@@ -94,7 +100,7 @@ fn lines_of_all_kinds_are_told(rt: HostRuntime) -> Result<(), Fail> {
 #[test]
 fn replies_beside_stand_before_late_ones(rt: HostRuntime) -> Result<(), Fail> {
     let alloc = rt.alloc();
-    let mut served = Served::open(alloc, NameTable::empty(alloc))?;
+    let mut served = Served::open(alloc, NameTable::empty(alloc, Hashing::fixed()))?;
     let file = AskFile::read(alloc, b"count\ncount")?;
     assert!(rt; !file.has_refusals());
     let questions = divide(alloc, 2, file.questions)?;

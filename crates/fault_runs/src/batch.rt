@@ -6,7 +6,9 @@ use catalogue_export::export::export;
 use catalogue_export::works_text::works_text;
 use catalogue_lock::machine::Machine;
 use field_merge::preference::Preference;
+use key_hashing::hashing::Hashing;
 use library_batches::batch_reader::BatchReader;
+use load_sessions::crew::Crew;
 use load_sessions::preparing::prepare;
 use load_sessions::served::Served;
 use std::alloc::Global;
@@ -42,7 +44,11 @@ fn load<R: Threads + Sync>(
     let mut reader = BatchReader::open(alloc, &Preference::none(), &library, 1_000_000)?;
     match reader.next(alloc, &mut source) {
         Ok(Some(batch)) => {
-            let prepared = prepare(rt, alloc, batch, 1)?;
+            let crew = Crew {
+                workers: 1,
+                hashing: Hashing::fixed(),
+            };
+            let prepared = prepare(rt, alloc, batch, crew)?;
             Ok(served.apply(alloc, 0, prepared).is_ok())
         }
         Ok(None) => Ok(false),
@@ -65,7 +71,7 @@ fn shown(alloc: Global, served: &Served) -> Result<Vec<u8>, Memory> {
 
 /// What a catalogue shows that loads all the records.
 fn shown_of_all<R: Threads + Sync>(rt: &R, alloc: Global) -> Result<Vec<u8>, Memory> {
-    let mut served = Served::open(alloc, NameTable::empty(alloc))?;
+    let mut served = Served::open(alloc, NameTable::empty(alloc, Hashing::fixed()))?;
     if !load(rt, alloc, &mut served, &FOUR)? || !load(rt, alloc, &mut served, &MORE)? {
         return Err(Memory);
     }
@@ -75,7 +81,7 @@ fn shown_of_all<R: Threads + Sync>(rt: &R, alloc: Global) -> Result<Vec<u8>, Mem
 /// Loads the four records and then a batch, on a catalogue that keeps its works. A batch that is refused for memory is
 /// loaded again.
 pub fn apply_batch<R: Threads + Sync>(rt: &R, alloc: Global) -> Result<Applied, Memory> {
-    let mut served = Served::keeping_works(alloc, NameTable::empty(alloc))?;
+    let mut served = Served::keeping_works(alloc, NameTable::empty(alloc, Hashing::fixed()))?;
     if !load(rt, alloc, &mut served, &FOUR)? {
         return Err(Memory);
     }

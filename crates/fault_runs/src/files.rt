@@ -1,5 +1,6 @@
 //! Files in memory, the calls on them that fail, and runs of the program over them.
 use crate::records::{ONE, OTHER};
+use key_hashing::hashing::Hashing;
 use std::alloc::Global;
 use std::sync::Wait;
 use std::thread::Threads;
@@ -8,6 +9,7 @@ use union_base::memory::Memory;
 use union_io::gate::Gate;
 use union_io::mem_shelf::MemShelf;
 use union_io::mem_sink::MemSink;
+use union_program::host::Host;
 use union_program::run::union_run;
 use union_words::status::Status;
 
@@ -117,14 +119,12 @@ pub fn run<R: Threads + Wait + Sync, G: Gate>(
     let mut shelf = shelf_of(alloc, files)?;
     let mut out = sink(alloc, files.out)?;
     let mut notes = sink(alloc, files.notes)?;
-    let status = union_run(
+    let host = Host {
         rt,
         alloc,
-        words.as_slice(),
-        &mut shelf,
-        &mut out,
-        &mut notes,
+        hashing: Hashing::fixed(),
         gate,
-    );
+    };
+    let status = union_run(&host, words.as_slice(), &mut shelf, &mut out, &mut notes);
     Ended::of(alloc, status, &out, &notes)
 }

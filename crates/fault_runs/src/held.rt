@@ -8,6 +8,7 @@ use catalogue_core::catalogue::Catalogue;
 use catalogue_export::export::export;
 use catalogue_export::export_fail::ExportFail;
 use field_merge::preference::Preference;
+use key_hashing::hashing::Hashing;
 use load_sessions::questions::Questions;
 use std::alloc::Global;
 use std::sync::Wait;
@@ -19,6 +20,7 @@ use union_io::shelf::Shelf;
 use union_io::sink::{Sink, put_all};
 use union_load::sessions::load_and_ask;
 use union_load::start::Start;
+use union_program::host::Host;
 use union_program::run::union_run;
 use union_words::libraries::Libraries;
 use union_words::loading::Loading;
@@ -104,7 +106,7 @@ fn load_and_write<R: Threads + Wait + Sync, F: Shelf, O: Sink, N: Sink, G: Gate>
         libraries,
     };
     let start = Start {
-        names: NameTable::empty(alloc),
+        names: NameTable::empty(alloc, Hashing::fixed()),
         questions: Questions::none(alloc),
     };
     match load_and_ask(rt, alloc, &loading, start, shelf, gate) {
@@ -127,8 +129,14 @@ fn run_line<R: Threads + Wait + Sync, F: Shelf, O: Sink, N: Sink, G: Gate>(
     notes: &mut N,
     gate: &G,
 ) -> Status {
+    let host = Host {
+        rt,
+        alloc,
+        hashing: Hashing::fixed(),
+        gate,
+    };
     match words_of(alloc, line) {
-        Ok(words) => union_run(rt, alloc, words.as_slice(), shelf, out, notes, gate),
+        Ok(words) => union_run(&host, words.as_slice(), shelf, out, notes),
         Err(Memory) => Status::Memory,
     }
 }

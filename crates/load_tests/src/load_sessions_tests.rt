@@ -1,5 +1,5 @@
 //! Two libraries at one desk, on one worker and on two, beside an asker; and the limit of a source.
-ghost use Rattle.std.specs.Prelude.{◌≤◌, ◌+◌, IfOk};
+ghost use Rattle.std.specs.Prelude.{◌≡◌, ◌≤◌, ◌+◌, IfOk};
 ghost use Rattle.catalogue_lock.specs.Tokens.{IsRootOf, root_of};
 ghost use Rattle.load_sessions.specs.Askers.{IsAsker};
 ghost use Rattle.load_sessions.specs.Sessions.{IsReady};
@@ -9,7 +9,9 @@ use catalogue_lock::desk::Desk;
 use catalogue_lock::root::Root;
 use catalogue_query::query::Query;
 use field_merge::preference::Preference;
+use key_hashing::hashing::Hashing;
 use load_sessions::asker::Asker;
+use load_sessions::crew::Crew;
 use load_sessions::end::End;
 use load_sessions::running::run_sessions;
 use load_sessions::served::Served;
@@ -56,6 +58,16 @@ fn session_at(
     Ok(Session::new(alloc, library, source, limit, &prefer, pass))
 }
 
+/// As many workers.
+fn crew_of(workers: u32) -> Crew
+    ensures { result.workers ≡ workers }
+{
+    Crew {
+        workers,
+        hashing: Hashing::fixed(),
+    }
+}
+
 /// An asker who has no question.
 fn silent_asker(alloc: Global, desk: &Desk<Served>, root: &mut Root<Served>) -> Asker
     requires desk { IsRootOf root.old desk.now }
@@ -76,17 +88,18 @@ fn is_done(session: &Session<SureSource>) -> bool {
         && counts == (1, 0, 0, 1)
 }
 
-/// Whether two libraries are loaded by `workers` workers, beside an asker with one question.
+/// Whether two libraries are loaded by the crew, beside an asker with one question.
 fn are_loaded<R: Threads + Wait + Sync>(
     rt: &R,
     alloc: Global,
     libraries: (LibraryCode, LibraryCode),
-    workers: u32,
+    crew: Crew,
 ) -> Result<bool, Memory>
-    requires least { 1 ≤ workers }
-    requires most { workers ≤ 64 }
+    requires least { 1 ≤ crew.workers }
+    requires most { crew.workers ≤ 64 }
 {
-    let (desk, mut root) = Desk::open(alloc, Served::open(alloc, NameTable::empty(alloc))?)?;
+    let names = NameTable::empty(alloc, Hashing::fixed());
+    let (desk, mut root) = Desk::open(alloc, Served::open(alloc, names)?)?;
     let first = session_at(alloc, &desk, &mut root, libraries.0, STREAM, 1_000)?;
     let second = session_at(alloc, &desk, &mut root, libraries.1, STREAM, 1_000)?;
     let pass = desk.make_pass(&mut root);
@@ -94,18 +107,10 @@ fn are_loaded<R: Threads + Wait + Sync>(
     questions.push(Query::Count)?;
     let mut asker = Asker::new(alloc, pass, questions);
     let mut sessions = [first, second];
-    run_sessions(
-        rt,
-        alloc,
-        &desk,
-        &mut sessions,
-        &mut asker,
-        workers,
-        &OpenGate,
-    );
+    run_sessions(rt, alloc, &desk, &mut sessions, &mut asker, crew, &OpenGate);
     // One worker asks last, so after the one turn of each session.
     let over = asker.replies.first().map(|reply| reply.0);
-    let asked = asker.end == End::Done && (workers > 1 || over == Some(2));
+    let asked = asker.end == End::Done && (crew.workers > 1 || over == Some(2));
     Ok(asked && sessions.iter().all(is_done))
 }
 
@@ -114,9 +119,9 @@ fn two_libraries_are_loaded(rt: HostRuntime) -> Result<(), Fail> {
     let alloc = rt.alloc();
     let one = LibraryCode::read(b"LIBA").ok_or("a library code")?;
     let other = LibraryCode::read(b"LIBB").ok_or("a library code")?;
-    let loaded = are_loaded(&rt, alloc, (one, other), 1)?;
+    let loaded = are_loaded(&rt, alloc, (one, other), crew_of(1))?;
     assert!(rt; loaded, "one worker");
-    let loaded = are_loaded(&rt, alloc, (one, other), 2)?;
+    let loaded = are_loaded(&rt, alloc, (one, other), crew_of(2))?;
     assert!(rt; loaded, "two workers");
     Ok(())
 }
@@ -132,11 +137,20 @@ fn limited<R: Threads + Wait + Sync>(
     for _ in 0..copies {
         content.extend_from_slice(ONE)?;
     }
-    let (desk, mut root) = Desk::open(alloc, Served::open(alloc, NameTable::empty(alloc))?)?;
+    let names = NameTable::empty(alloc, Hashing::fixed());
+    let (desk, mut root) = Desk::open(alloc, Served::open(alloc, names)?)?;
     let session = session_at(alloc, &desk, &mut root, library, content.as_slice(), 228)?;
     let mut asker = silent_asker(alloc, &desk, &mut root);
     let mut sessions = [session];
-    run_sessions(rt, alloc, &desk, &mut sessions, &mut asker, 4, &OpenGate);
+    run_sessions(
+        rt,
+        alloc,
+        &desk,
+        &mut sessions,
+        &mut asker,
+        crew_of(4),
+        &OpenGate,
+    );
     let [session] = sessions;
     Ok(session)
 }
@@ -183,7 +197,8 @@ fn told<R: Threads + Wait + Sync>(
     for _ in 0..513 {
         content.extend_from_slice(ONE)?;
     }
-    let (desk, mut root) = Desk::open(alloc, Served::open(alloc, NameTable::empty(alloc))?)?;
+    let names = NameTable::empty(alloc, Hashing::fixed());
+    let (desk, mut root) = Desk::open(alloc, Served::open(alloc, names)?)?;
     let session = session_at(
         alloc,
         &desk,
@@ -198,7 +213,15 @@ fn told<R: Threads + Wait + Sync>(
         after: AtomicU64::new(0),
     };
     let mut asker = silent_asker(alloc, &desk, &mut root);
-    run_sessions(rt, alloc, &desk, &mut sessions, &mut asker, 1, &gate);
+    run_sessions(
+        rt,
+        alloc,
+        &desk,
+        &mut sessions,
+        &mut asker,
+        crew_of(1),
+        &gate,
+    );
     let before = gate.before.load(Ordering::SeqCst);
     let after = gate.after.load(Ordering::SeqCst);
     Ok((before, after))

@@ -1,5 +1,6 @@
 //! Postings of a few keys.
 use feature_index::postings::Postings;
+use key_hashing::hashing::Hashing;
 use std::alloc::Global;
 use std::test::Fail;
 use union_base::memory::Memory;
@@ -23,7 +24,7 @@ fn take(postings: &mut Postings<u32>, key: u32, number: u64) {
 #[test]
 fn numbers_come_and_go(rt: HostRuntime) -> Result<(), Fail> {
     let alloc = rt.alloc();
-    let mut postings: Postings<u32> = Postings::empty(alloc);
+    let mut postings: Postings<u32> = Postings::empty(alloc, Hashing::fixed());
     assert!(rt; postings.of(&7).is_empty());
 
     postings.make_room(alloc, vec![in alloc; 7, 8, 7, 7]?)?;

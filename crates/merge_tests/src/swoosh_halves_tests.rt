@@ -2,6 +2,7 @@
 ghost use Rattle.std.specs.Prelude.{◌≡◌, ◌<◌, ◌≤◌};
 
 use crate::small_sets::SmallSet;
+use key_hashing::hashing::Hashing;
 use merge_laws::steps::Steps;
 use merge_laws::swoosh::resolve_plain;
 use std::alloc::Global;
@@ -44,7 +45,10 @@ fn resolved<R: Threads + Sync>(
     requires most { workers ≤ 64 }
 {
     let sets = sets_of(alloc, masks)?;
-    masks_of(alloc, resolve_halves(rt, sets, workers)?.as_slice())
+    masks_of(
+        alloc,
+        resolve_halves(rt, Hashing::fixed(), sets, workers)?.as_slice(),
+    )
 }
 
 /// The masks that the masks resolve to by the plain resolver, in ascending order.

@@ -2,6 +2,7 @@
 ghost use Rattle.std.specs.Prelude.{◌≡◌, ◌<◌};
 
 use crate::small_sets::SmallSet;
+use key_hashing::hashing::Hashing;
 use merge_laws::laws::resolution_is_apart;
 use merge_laws::steps::Steps;
 use merge_laws::swoosh::resolve_plain;
@@ -82,7 +83,7 @@ fn changed_by<L: Ledger>(
     requires some { 0 < L.parts }
 {
     let mut steps: Steps<L> = Steps::open(blank);
-    let mut blocks = Blocks::empty(alloc);
+    let mut blocks = Blocks::empty(alloc, Hashing::fixed());
     insert(alloc, &mut blocks, first, &mut steps)?;
     if !parts.is_empty() {
         split_alone(alloc, &mut blocks, 0, parts, &mut steps)?;
@@ -146,7 +147,7 @@ fn inserted_together<L: Ledger>(
     requires some { 0 < L.parts }
 {
     let mut steps: Steps<L> = Steps::open(blank);
-    let mut blocks: Blocks<SmallSet> = Blocks::empty(alloc);
+    let mut blocks: Blocks<SmallSet> = Blocks::empty(alloc, Hashing::fixed());
     let mut change = blocks.start();
     for mask in [2, 4, 6] {
         let set = SmallSet::of(mask).ok_or("no set")?;

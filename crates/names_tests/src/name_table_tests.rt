@@ -2,6 +2,7 @@
 use authority_names::laws::{any_order, one_size, seen_once};
 use authority_names::name_table::NameTable;
 use authority_names::refusal::NameRefusal;
+use key_hashing::hashing::Hashing;
 use marc_fields::decoding::{decode, is_frame};
 use marc_fields::marc_record::Record;
 use std::alloc::Global;
@@ -50,7 +51,7 @@ fn laws(_rt: HostRuntime) -> Result<(), Fail> {
 /// Whether the table of a case answers its records as expected, has that many headings, and shows what is expected.
 fn is_right(alloc: Global, case: &str) -> Result<bool, Fail> {
     let mut cells = case.split(CELL_END);
-    let mut table = NameTable::empty(alloc);
+    let mut table = NameTable::empty(alloc, Hashing::fixed());
     if !adds(alloc, &mut table, next_cell(&mut cells)?)? {
         return Ok(false);
     }

@@ -10,6 +10,7 @@ use catalogue_core::edition::Edition;
 use change_notices::follower::Follower;
 use change_notices::notice::notice;
 use edition_blocks::same::is_same;
+use key_hashing::hashing::Hashing;
 use merge_laws::steps::Steps;
 use std::alloc::Global;
 use std::marker::Brand;
@@ -100,7 +101,7 @@ fn follows<L: Ledger>(
     requires keys { 0 < keys }
 {
     let mut steps: Steps<L> = Steps::open(blank);
-    let mut catalogue = Catalogue::empty(alloc)?;
+    let mut catalogue = Catalogue::empty(alloc, Hashing::fixed())?;
     let mut follower = Follower::empty(alloc);
     let mut reader = TextFollower::empty(alloc);
     let mut draws = Draws { state: seed };

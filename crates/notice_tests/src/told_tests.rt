@@ -5,6 +5,7 @@ use crate::worked::{library_of, op_in, text_of, whole_batch};
 use catalogue_core::batch::Batch;
 use catalogue_core::catalogue::Catalogue;
 use change_notices::notice::notice;
+use key_hashing::hashing::Hashing;
 use merge_laws::steps::Steps;
 use std::alloc::Global;
 use std::marker::Brand;
@@ -51,7 +52,7 @@ fn tells<L: Ledger>(alloc: Global, history: &History<'_>, blank: Blank) -> Resul
     requires some { 0 < L.parts }
 {
     let mut steps: Steps<L> = Steps::open(blank);
-    let mut catalogue = Catalogue::empty(alloc)?;
+    let mut catalogue = Catalogue::empty(alloc, Hashing::fixed())?;
     for turn in history.turns.split('¦') {
         if !turn.is_empty() && !tells_turn(alloc, turn, &mut catalogue, &mut steps)? {
             return Ok(false);

@@ -3,6 +3,7 @@ ghost use Rattle.std.specs.Prelude.{◌≡◌};
 
 use crate::records::{Seen, counts, entry_of};
 use catalogue_core::history_entry::HistoryEntry;
+use key_hashing::hashing::Hashing;
 use snapshot_desk::opening::open;
 use snapshot_desk::publisher::Publisher;
 use snapshot_desk::viewer::Viewer;
@@ -36,7 +37,7 @@ fn publish_one<R: Wait>(
 fn an_entry_is_seen_once_it_is_published(rt: HostRuntime) -> Result<(), Fail> {
     let alloc = rt.alloc();
     let entry = entry_of(alloc, b"LIBA")?;
-    let (mut publisher, mut viewer) = open(alloc)?;
+    let (mut publisher, mut viewer) = open(alloc, Hashing::fixed())?;
     let (before, published, after) = publish_one(&rt, alloc, entry, &mut publisher, &mut viewer);
     publisher.close(&rt, viewer);
     assert!(rt; before == Some((0, true)), "before it is published");

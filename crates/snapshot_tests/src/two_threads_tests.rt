@@ -3,6 +3,7 @@ ghost use Rattle.std.specs.Prelude.{◌≡◌};
 
 use crate::records::{Seen, counts, entry_of};
 use catalogue_core::history_entry::HistoryEntry;
+use key_hashing::hashing::Hashing;
 use snapshot_desk::opening::open;
 use snapshot_desk::publisher::Publisher;
 use snapshot_desk::viewer::Viewer;
@@ -136,7 +137,7 @@ fn a_view_during_a_held_publish_is_over_the_old_list(rt: HostRuntime) -> Result<
         answered: Gate::shut(),
         all: Gate::shut(),
     };
-    let (publisher, viewer) = open(alloc)?;
+    let (publisher, viewer) = open(alloc, Hashing::fixed())?;
     let mut publishing = Publishing {
         publisher,
         first: Some(first),
