@@ -4,3 +4,4 @@ mod Runs
 pub mod Apart
 pub mod OwnLaws
 mod RecordsLaws
+mod NetLaws
