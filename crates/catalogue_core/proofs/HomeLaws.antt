@@ -1,12 +1,13 @@
 -- Maps in which a value is changed, a pair goes or a pair comes, and what is found in them then.
-use Rattle.std.proofs.Common.{◌≡◌, ℕ, zero, suc, ◌≤◌, Bool, true, false, cond, ◌||◌, IsTrue, List, [], ◌∷◌, ◌++◌, length, map, Contains, Bor, refl, sym, ap, subst, ◌∙◌, inl, inr, arith}
-use Rattle.std.specs.Prelude.{◌⊎◌, fold, Option, Some, None, is_some, slice_get}
-use Rattle.std.specs.Option.{option_map}
+use Rattle.std.proofs.Common.{◌≡◌, ℕ, zero, suc, ◌≤◌, Bool, true, false, cond, not, ◌||◌, IsTrue, List, [], ◌∷◌, ◌++◌, length, map, append_assoc, append-nil, Contains, Bor, refl, sym, ap, subst, ◌∙◌, inl, inr, arith}
+use Rattle.std.specs.Prelude.{◌⊎◌, fold, Option, Some, None, is_some, unwrap_or, slice_get}
+use Rattle.std.specs.Option.{option_map, option_and_then}
 use Rattle.std.proofs.lemmas.List.{map-append}
 use Rattle.std.specs.declared.cmp.Ordering.{Ordering}
 use Rattle.std.specs.declared.cmp.Ordering.TheVariants.{Less, Equal, Greater}
 use Rattle.std.specs.Ordering.{match_ordering, is_eq, ordering_reverse}
 use Rattle.std.specs.BTreeMap.{is_at, insert_entry}
+use Rattle.std.specs.List.{AllByRecursion}
 use Rattle.std.specs.List.Sorted.{IsStrictlySortedBy}
 use Rattle.std.specs.Map.{remove_entry, keys_of}
 use Rattle.union_base.specs.SortedLists.{has}
@@ -14,12 +15,12 @@ use Rattle.union_base.specs.declared.record_id.RecordId.{RecordId}
 use Rattle.field_merge.specs.Kept.{id_cmp}
 use Rattle.field_merge.specs.KeptLaws.{id_total}
 use Rattle.catalogue_core.specs.Histories.{MapOf, at_id, is_current}
-use Rattle.merge_laws.proofs.Places.{Contains-head, Contains-tail, Contains-cases}
-use Rattle.catalogue_core.specs.Homes.{Block, has_contributor, admitted, taken_back, moved, housed, housed_all}
+use Rattle.merge_laws.proofs.Places.{Contains-cases}
+use Rattle.catalogue_core.specs.Homes.{Block, has_contributor, is_new, new_home, admitted, others, taken_back, moved, housed, housed_all}
 use Rattle.record_homes.specs.Maps.{change_at}
 use Rattle.record_homes.specs.declared.home.Home.{Home}
 use Rattle.record_homes.specs.declared.place.Place.{Place}
-use Rattle.record_homes.proofs.MapLaws.{same, one-id, same-itself, same-sym, at-removed, at-inserted, at-changed, at-past, keys-changed, ordered-removed, ordered-inserted}
+use Rattle.record_homes.proofs.MapLaws.{same, one-id, same-sym, at-removed, at-inserted, at-changed, at-past, at-filtered, keys-changed, ordered-removed, ordered-inserted, ordered-filtered}
 
 -- ---- ids that are let in
 
@@ -81,78 +82,72 @@ pub some-mapped : {A B : Type 0} (f : A → B) (o : Option A) → is_some (optio
 some-mapped f None = refl
 some-mapped f (Some x) = refl
 
--- the first of the ids is let in, and then the rest
-pub admitted-next : (homes then' : MapOf Home) (ids rest : List RecordId) (id key : RecordId) → ids ≡ id ∷ rest → is_current homes id ≡ false → key ≡ id
-    → then' ≡ insert_entry id_cmp homes key (record { place = record { turn = 0; op = 0 }; block = 0 }) → admitted then' rest ≡ admitted homes ids
-admitted-next homes then' ids rest id key first new same inserted =
-    ap (λ all. admitted all rest)
-    (inserted ∙ ap (λ k. insert_entry id_cmp homes k (record { place = record { turn = 0; op = 0 }; block = 0 })) same
-    ∙ sym (ap (λ b. cond b homes (insert_entry id_cmp homes id (record { place = record { turn = 0; op = 0 }; block = 0 }))) new))
-    ∙ sym (ap (admitted homes) first)
-
 -- ---- where a home is found then
 
-module _ (q : RecordId) where
-  -- a home stays where ids are let in
-  pub admitted-keeps : (ids : List RecordId) (homes : MapOf Home) (h : Home) → at_id homes q ≡ Some h → at_id (admitted homes ids) q ≡ Some h
-  admitted-keeps [] homes h at = at
-  admitted-keeps (id ∷ ids) homes h at =
-      elim (is_current homes id) as (λ b. is_current homes id ≡ b → at_id (admitted (cond b homes (insert_entry id_cmp homes id (record { place = record { turn = 0; op = 0 }; block = 0 }))) ids) q ≡ Some h) [
-        | true ↦ λ e. admitted-keeps ids homes h at
-        | false ↦ λ e. admitted-keeps ids (insert_entry id_cmp homes id (record { place = record { turn = 0; op = 0 }; block = 0 })) h
-            (at-inserted homes id (record { place = record { turn = 0; op = 0 }; block = 0 }) q ∙ other (same id q) (λ here.
-            let clash : true ≡ false = sym (ap is_some (ap (at_id homes) (one-id id q here) ∙ at)) ∙ e in cc))
-      ] refl
+-- a walk over what a plan touched, where each step changes what is found under its own id alone
+module _ (step : MapOf Home → RecordId × Option Place → MapOf Home) (found : Option (Option Place) → Option Home → Option Home) (none : (home : Option Home) → found None home ≡ home)
+    (up-one : (homes : MapOf Home) (t : RecordId × Option Place) → IsStrictlySortedBy id_cmp (keys_of homes) → IsStrictlySortedBy id_cmp (keys_of (step homes t)))
+    (at-one : (homes : MapOf Home) (t : RecordId × Option Place) (q : RecordId) → IsStrictlySortedBy id_cmp (keys_of homes) → at_id (step homes t) q ≡ cond (same t.0 q) (found (Some t.1) (at_id homes q)) (at_id homes q)) where
+  ordered-walked : (touched : MapOf (Option Place)) (homes : MapOf Home) → IsStrictlySortedBy id_cmp (keys_of homes) → IsStrictlySortedBy id_cmp (keys_of (fold step homes touched))
+  ordered-walked [] homes up = up
+  ordered-walked (t ∷ touched) homes up = ordered-walked touched (step homes t) (up-one homes t up)
+
+  at-walked : (touched : MapOf (Option Place)) (homes : MapOf Home) (q : RecordId) → IsStrictlySortedBy id_cmp (keys_of touched) → IsStrictlySortedBy id_cmp (keys_of homes)
+      → at_id (fold step homes touched) q ≡ found (at_id touched q) (at_id homes q)
+  unfolding IsStrictlySortedBy
+  at-walked [] homes q up up' = sym (none (at_id homes q))
+  at-walked (t ∷ touched) homes q up up' =
+      at-walked touched (step homes t) q up.1 (up-one homes t up')
+      ∙ ap (found (at_id touched q)) (at-one homes t q up')
+      ∙ here (same q t.0) refl
     where
-      other : (b : Bool) → (b ≡ true → ⊥) → cond b (Some (record { place = record { turn = 0; op = 0 }; block = 0 })) (at_id homes q) ≡ Some h
-      other true never = absurd (never refl)
-      other false never = at
+      here : (b : Bool) → same q t.0 ≡ b → found (at_id touched q) (cond (same t.0 q) (found (Some t.1) (at_id homes q)) (at_id homes q)) ≡ found (cond b (Some t.1) (at_id touched q)) (at_id homes q)
+      here true is =
+          ap (λ o. found o (cond (same t.0 q) (found (Some t.1) (at_id homes q)) (at_id homes q))) (ap (at_id touched) (one-id q t.0 is) ∙ at-past t touched up)
+          ∙ none (cond (same t.0 q) (found (Some t.1) (at_id homes q)) (at_id homes q))
+          ∙ ap (λ b. cond b (found (Some t.1) (at_id homes q)) (at_id homes q)) (same-sym t.0 q ∙ is)
+      here false is = ap (λ b. found (at_id touched q) (cond b (found (Some t.1) (at_id homes q)) (at_id homes q))) (same-sym t.0 q ∙ is)
 
-  -- an id that is let in has a home
-  pub admitted-lets : (ids : List RecordId) (homes : MapOf Home) → Contains ids q → (h : Home) × (at_id (admitted homes ids) q ≡ Some h)
-  admitted-lets [] homes (k, kl, e) = absurd (omega arith)
-  admitted-lets (id ∷ ids) homes c =
-      elim (is_current homes id) as (λ b. is_current homes id ≡ b → (h : Home) × (at_id (admitted (cond b homes (insert_entry id_cmp homes id (record { place = record { turn = 0; op = 0 }; block = 0 }))) ids) q ≡ Some h)) [
-        | true ↦ λ e. elim (Contains-cases id ids q c) [
-          | inl here ↦ (let (h, at) = some-from_test (at_id homes id) e in (h, admitted-keeps ids homes h (ap (at_id homes) (sym here) ∙ at)))
-          | inr later ↦ admitted-lets ids homes later
-        ]
-        | false ↦ λ e. elim (Contains-cases id ids q c) [
-          | inl here ↦ (
-            record { place = record { turn = 0; op = 0 }; block = 0 },
-            admitted-keeps ids (insert_entry id_cmp homes id (record { place = record { turn = 0; op = 0 }; block = 0 })) (record { place = record { turn = 0; op = 0 }; block = 0 })
-                (at-inserted homes id (record { place = record { turn = 0; op = 0 }; block = 0 }) q
-                ∙ ap (λ b. cond b (Some (record { place = record { turn = 0; op = 0 }; block = 0 })) (at_id homes q)) (ap (same id) (sym here) ∙ same-itself id)),
-          )
-          | inr later ↦ admitted-lets ids (insert_entry id_cmp homes id (record { place = record { turn = 0; op = 0 }; block = 0 })) later
-        ]
-      ] refl
+-- what admission makes of a home
+abbrev pub admitted_at : Option (Option Place) → Option Home → Option Home
+admitted_at None home = home
+admitted_at (Some None) home = home
+admitted_at (Some (Some place)) home = Some (unwrap_or home (new_home place))
 
-  -- and no other
-  pub admitted-only : (ids : List RecordId) (homes : MapOf Home) (h : Home) → at_id (admitted homes ids) q ≡ Some h → (at_id homes q ≡ Some h) ⊎ Contains ids q
-  admitted-only [] homes h at = inl at
-  admitted-only (id ∷ ids) homes h at =
-      elim (is_current homes id) as (λ b. at_id (admitted (cond b homes (insert_entry id_cmp homes id (record { place = record { turn = 0; op = 0 }; block = 0 }))) ids) q ≡ Some h → (at_id homes q ≡ Some h) ⊎ Contains (id ∷ ids) q) [
-        | true ↦ λ at. elim (admitted-only ids homes h at) [ inl old ↦ inl old | inr later ↦ inr (Contains-tail id ids q later) ]
-        | false ↦ λ at. elim (admitted-only ids (insert_entry id_cmp homes id (record { place = record { turn = 0; op = 0 }; block = 0 })) h at) [
-          | inl found ↦ came (same id q) refl (sym (at-inserted homes id (record { place = record { turn = 0; op = 0 }; block = 0 }) q) ∙ found)
-          | inr later ↦ inr (Contains-tail id ids q later)
-        ]
-      ] at
-    where
-      came : (b : Bool) → same id q ≡ b → cond b (Some (record { place = record { turn = 0; op = 0 }; block = 0 })) (at_id homes q) ≡ Some h → (at_id homes q ≡ Some h) ⊎ Contains (id ∷ ids) q
-      came true is e = inr (subst (Contains (id ∷ ids)) (one-id id q is) (Contains-head id ids))
-      came false is e = inl e
+ordered-admitted_one : (homes : MapOf Home) (id : RecordId) (place : Option Place) → IsStrictlySortedBy id_cmp (keys_of homes) → IsStrictlySortedBy id_cmp (keys_of (admitted homes (id, place)))
+ordered-admitted_one homes id None up = up
+ordered-admitted_one homes id (Some place) up =
+    elim (is_current homes id) as (λ b. IsStrictlySortedBy id_cmp (keys_of (cond b homes (insert_entry id_cmp homes id (new_home place))))) [ true ↦ up | false ↦ ordered-inserted homes id (new_home place) up ]
 
-pub ordered-admitted : (ids : List RecordId) (homes : MapOf Home) → IsStrictlySortedBy id_cmp (keys_of homes) → IsStrictlySortedBy id_cmp (keys_of (admitted homes ids))
-ordered-admitted [] homes up = up
-ordered-admitted (id ∷ ids) homes up =
-    elim (is_current homes id) as (λ b. IsStrictlySortedBy id_cmp (keys_of (admitted (cond b homes (insert_entry id_cmp homes id (record { place = record { turn = 0; op = 0 }; block = 0 }))) ids))) [
-      | true ↦ ordered-admitted ids homes up
-      | false ↦ ordered-admitted ids (insert_entry id_cmp homes id (record { place = record { turn = 0; op = 0 }; block = 0 })) (ordered-inserted homes id (record { place = record { turn = 0; op = 0 }; block = 0 }) up)
-    ]
+at-admitted_one : (homes : MapOf Home) (id : RecordId) (place : Option Place) (q : RecordId) → at_id (admitted homes (id, place)) q ≡ cond (same id q) (admitted_at (Some place) (at_id homes q)) (at_id homes q)
+at-admitted_one homes id None q = elim (same id q) as (λ b. at_id homes q ≡ cond b (at_id homes q) (at_id homes q)) [ true ↦ refl | false ↦ refl ]
+at-admitted_one homes id (Some place) q =
+    elim (is_current homes id) as (λ b. is_current homes id ≡ b → at_id (cond b homes (insert_entry id_cmp homes id (new_home place))) q ≡ cond (same id q) (Some (unwrap_or (at_id homes q) (new_home place))) (at_id homes q)) [
+      | true ↦ λ old. there (same id q) refl old
+      | false ↦ λ new. at-inserted homes id (new_home place) q ∙ fresh (same id q) refl new
+    ] refl
+  where
+    filled : (o : Option Home) → is_some o ≡ true → o ≡ Some (unwrap_or o (new_home place))
+    filled (Some h) is = refl
+    filled None is = cc
 
--- what a plan makes of a home
+    there : (b : Bool) → same id q ≡ b → is_current homes id ≡ true → at_id homes q ≡ cond b (Some (unwrap_or (at_id homes q) (new_home place))) (at_id homes q)
+    there true is old = filled (at_id homes q) (sym (ap (is_current homes) (one-id id q is)) ∙ old)
+    there false is old = refl
+
+    fresh : (b : Bool) → same id q ≡ b → is_current homes id ≡ false → cond b (Some (new_home place)) (at_id homes q) ≡ cond b (Some (unwrap_or (at_id homes q) (new_home place))) (at_id homes q)
+    fresh true is new =
+        ap (λ o. Some (unwrap_or o (new_home place))) (sym (none-from_test (at_id homes id) new) ∙ ap (at_id homes) (one-id id q is))
+    fresh false is new = refl
+
+pub ordered-admitted : (touched : MapOf (Option Place)) (homes : MapOf Home) → IsStrictlySortedBy id_cmp (keys_of homes) → IsStrictlySortedBy id_cmp (keys_of (fold admitted homes touched))
+ordered-admitted = ordered-walked admitted admitted_at (λ home. refl) (λ homes t up. ordered-admitted_one homes t.0 t.1 up) (λ homes t q up. at-admitted_one homes t.0 t.1 q)
+
+at-admitted : (touched : MapOf (Option Place)) (homes : MapOf Home) (q : RecordId) → IsStrictlySortedBy id_cmp (keys_of touched) → IsStrictlySortedBy id_cmp (keys_of homes)
+    → at_id (fold admitted homes touched) q ≡ admitted_at (at_id touched q) (at_id homes q)
+at-admitted = at-walked admitted admitted_at (λ home. refl) (λ homes t up. ordered-admitted_one homes t.0 t.1 up) (λ homes t q up. at-admitted_one homes t.0 t.1 q)
+
+-- what a move makes of a home
 abbrev pub moved_at : Option (Option Place) → Option Home → Option Home
 moved_at None home = home
 moved_at (Some None) home = None
@@ -162,29 +157,94 @@ ordered-moved_one : (homes : MapOf Home) (id : RecordId) (place : Option Place) 
 ordered-moved_one homes id (Some place) up = subst (IsStrictlySortedBy id_cmp) (sym (keys-changed id (λ (home : Home). record { place = place; block = home.block }) homes)) up
 ordered-moved_one homes id None up = ordered-removed homes (same id) up
 
-pub ordered-moved : (touched : MapOf (Option Place)) (homes : MapOf Home) → IsStrictlySortedBy id_cmp (keys_of homes) → IsStrictlySortedBy id_cmp (keys_of (fold moved homes touched))
-ordered-moved [] homes up = up
-ordered-moved (t ∷ touched) homes up = ordered-moved touched (moved homes t) (ordered-moved_one homes t.0 t.1 up)
-
 at-moved_one : (homes : MapOf Home) (id : RecordId) (place : Option Place) (q : RecordId) → IsStrictlySortedBy id_cmp (keys_of homes)
     → at_id (moved homes (id, place)) q ≡ cond (same id q) (moved_at (Some place) (at_id homes q)) (at_id homes q)
 at-moved_one homes id (Some place) q up = at-changed homes id (λ (home : Home). record { place = place; block = home.block }) q
 at-moved_one homes id None q up = at-removed homes id q up
 
-pub at-moved : (touched : MapOf (Option Place)) (homes : MapOf Home) (q : RecordId) → IsStrictlySortedBy id_cmp (keys_of touched) → IsStrictlySortedBy id_cmp (keys_of homes)
+pub ordered-moved : (touched : MapOf (Option Place)) (homes : MapOf Home) → IsStrictlySortedBy id_cmp (keys_of homes) → IsStrictlySortedBy id_cmp (keys_of (fold moved homes touched))
+ordered-moved = ordered-walked moved moved_at (λ home. refl) (λ homes t up. ordered-moved_one homes t.0 t.1 up) (λ homes t q up. at-moved_one homes t.0 t.1 q up)
+
+at-moved : (touched : MapOf (Option Place)) (homes : MapOf Home) (q : RecordId) → IsStrictlySortedBy id_cmp (keys_of touched) → IsStrictlySortedBy id_cmp (keys_of homes)
     → at_id (fold moved homes touched) q ≡ moved_at (at_id touched q) (at_id homes q)
-unfolding IsStrictlySortedBy
-at-moved [] homes q up up' = refl
-at-moved (t ∷ touched) homes q up up' =
-    at-moved touched (moved homes t) q up.1 (ordered-moved_one homes t.0 t.1 up')
-    ∙ ap (moved_at (at_id touched q)) (at-moved_one homes t.0 t.1 q up')
-    ∙ here (same q t.0) refl
+at-moved = at-walked moved moved_at (λ home. refl) (λ homes t up. ordered-moved_one homes t.0 t.1 up) (λ homes t q up. at-moved_one homes t.0 t.1 q up)
+
+-- ---- new ids are admitted, and the others are moved
+
+-- a home that was added makes no later id an old one
+others-after : (homes : MapOf Home) (t : RecordId × Option Place) (rest : MapOf (Option Place)) → AllByRecursion (λ id. id_cmp t.0 id ≡ Less) (keys_of rest)
+    → others (admitted homes t) rest ≡ others homes rest
+others-after homes t [] below = refl
+others-after homes t (r ∷ rest) below =
+    ap (λ b. cond {A = MapOf (Option Place)} (not b) (r ∷ others (admitted homes t) rest) (others (admitted homes t) rest)) (still r.0 r.1 below.0)
+    ∙ ap (λ (rs : MapOf (Option Place)). cond {A = MapOf (Option Place)} (not (is_new homes r)) (r ∷ rs) rs) (others-after homes t rest below.1)
   where
-    here : (b : Bool) → same q t.0 ≡ b → moved_at (at_id touched q) (cond (same t.0 q) (moved_at (Some t.1) (at_id homes q)) (at_id homes q)) ≡ moved_at (cond b (Some t.1) (at_id touched q)) (at_id homes q)
-    here true is =
-        ap (λ o. moved_at o (cond (same t.0 q) (moved_at (Some t.1) (at_id homes q)) (at_id homes q))) (ap (at_id touched) (one-id q t.0 is) ∙ at-past t touched up)
-        ∙ ap (λ b. cond b (moved_at (Some t.1) (at_id homes q)) (at_id homes q)) (same-sym t.0 q ∙ is)
-    here false is = ap (λ b. moved_at (at_id touched q) (cond b (moved_at (Some t.1) (at_id homes q)) (at_id homes q))) (same-sym t.0 q ∙ is)
+    still : (id : RecordId) (place : Option Place) → id_cmp t.0 id ≡ Less → is_new (admitted homes t) (id, place) ≡ is_new homes (id, place)
+    still id None less = refl
+    still id (Some place) less =
+        ap (λ o. not (is_some o)) (at-admitted_one homes t.0 t.1 id ∙ ap (λ r. cond (is_eq r) (admitted_at (Some t.1) (at_id homes id)) (at_id homes id)) less)
+
+-- some of what was touched is admitted or listed, and the rest is to come
+pub record LetsIn (start : MapOf Home) (touched : MapOf (Option Place)) (homes : MapOf Home) (listed rest : MapOf (Option Place)) : Type 0 where
+  pub up : IsStrictlySortedBy id_cmp (keys_of rest)
+  pub admits : fold admitted homes rest ≡ fold admitted start touched
+  pub lists : listed ++ others homes rest ≡ others start touched
+
+pub lets-begin : (start : MapOf Home) (touched listed : MapOf (Option Place)) → listed ≡ [] → IsStrictlySortedBy id_cmp (keys_of touched) → LetsIn start touched start listed touched
+lets-begin start touched listed none up = record {
+  up = up;
+  admits = refl;
+  lists = ap (λ (all : MapOf (Option Place)). all ++ others start touched) none;
+}
+
+module _ {start : MapOf Home} {touched : MapOf (Option Place)} {homes : MapOf Home} {listed rest : MapOf (Option Place)} (g : LetsIn start touched homes listed rest) where
+  pub lets-next : (t : RecordId × Option Place) (rest' : MapOf (Option Place)) → rest ≡ t ∷ rest' → (homes' : MapOf Home) → homes' ≡ admitted homes t
+      → (new : Bool) → new ≡ is_new homes t → (listed' : MapOf (Option Place)) → listed' ≡ cond new listed (listed ++ t ∷ []) → LetsIn start touched homes' listed' rest'
+  unfolding IsStrictlySortedBy
+  lets-next t rest' first homes' admits new is listed' lists =
+      let up = subst (λ (all : MapOf (Option Place)). IsStrictlySortedBy id_cmp (keys_of all)) first g.up in
+      record {
+        up = up.1;
+        admits = ap (λ all. fold admitted all rest') admits ∙ sym (ap (fold admitted homes) first) ∙ g.admits;
+        lists = ap (λ (all : MapOf (Option Place)). all ++ others homes' rest') (lists ∙ ap (λ b. cond {A = MapOf (Option Place)} b listed (listed ++ t ∷ [])) is)
+            ∙ ap (λ all. cond {A = MapOf (Option Place)} (is_new homes t) listed (listed ++ t ∷ []) ++ others all rest') admits
+            ∙ ap (λ (more : MapOf (Option Place)). cond {A = MapOf (Option Place)} (is_new homes t) listed (listed ++ t ∷ []) ++ more) (others-after homes t rest' up.0)
+            ∙ either (is_new homes t)
+            ∙ sym (ap (λ (all : MapOf (Option Place)). listed ++ others homes all) first)
+            ∙ g.lists;
+      }
+    where
+      either : (b : Bool) → cond {A = MapOf (Option Place)} b listed (listed ++ t ∷ []) ++ others homes rest' ≡ listed ++ cond {A = MapOf (Option Place)} (not b) (t ∷ others homes rest') (others homes rest')
+      either true = refl
+      either false = append_assoc listed (t ∷ []) (others homes rest')
+
+  module _ (past : rest ≡ []) where
+    pub lets-admitted : homes ≡ fold admitted start touched
+    lets-admitted = sym (ap (fold admitted homes) past) ∙ g.admits
+
+    pub lets-listed : listed ≡ others start touched
+    lets-listed = sym (append-nil listed) ∙ sym (ap (λ (all : MapOf (Option Place)). listed ++ others homes all) past) ∙ g.lists
+
+-- what the install makes of a home before blocks are numbered
+abbrev pub settled_at : Option (Option Place) → Option Home → Option Home
+settled_at None home = home
+settled_at (Some None) home = None
+settled_at (Some (Some place)) home = Some (record { place = place; block = (unwrap_or home (new_home place)).block })
+
+pub home-settled : (touched : MapOf (Option Place)) (homes : MapOf Home) (q : RecordId) → IsStrictlySortedBy id_cmp (keys_of touched) → IsStrictlySortedBy id_cmp (keys_of homes)
+    → at_id (fold moved (fold admitted homes touched) (others homes touched)) q ≡ settled_at (at_id touched q) (at_id homes q)
+home-settled touched homes q up up' =
+    at-moved (others homes touched) (fold admitted homes touched) q (ordered-filtered (λ p. not (is_new homes p)) touched up) (ordered-admitted touched homes up')
+    ∙ ap (moved_at (at_id (others homes touched) q)) (at-admitted touched homes q up up')
+    ∙ ap (λ t. moved_at t (admitted_at (at_id touched q) (at_id homes q))) (at-filtered (λ p. not (is_new homes p)) touched q up)
+    ∙ both (at_id touched q) (at_id homes q) refl
+  where
+    both : (t : Option (Option Place)) (o : Option Home) → at_id homes q ≡ o
+        → moved_at (option_and_then (λ place. cond (not (is_new homes (q, place))) (Some place) None) t) (admitted_at t o) ≡ settled_at t o
+    both None o is = refl
+    both (Some None) o is = refl
+    both (Some (Some place)) None is = ap (λ h. moved_at (cond (not (not (is_some h))) (Some (Some place)) None) (Some (new_home place))) is
+    both (Some (Some place)) (Some home) is = ap (λ h. moved_at (cond (not (not (is_some h))) (Some (Some place)) None) (Some home)) is
 
 -- ---- numbers of blocks
 

@@ -1,8 +1,8 @@
 -- What a catalogue keeps once a plan is installed.
-use Rattle.std.proofs.Common.{◌≡◌, ℕ, ◌<◌, true, false, cond, IsTrue, List, [], ◌∷◌, ◌++◌, length, Contains, refl, sym, ap, subst, ◌∙◌, inl, inr, arith}
+use Rattle.std.proofs.Common.{◌≡◌, ℕ, ◌<◌, true, IsTrue, List, [], ◌∷◌, ◌++◌, length, Contains, refl, sym, ap, subst, ◌∙◌, inl, inr, arith}
 use Rattle.std.specs.Prelude.{fold, slice_get, Option, Some, None, is_some, unwrap_or}
 use Rattle.std.specs.Option.{option_map}
-use Rattle.std.specs.List.{list_any, cons_option}
+use Rattle.std.specs.List.{list_any}
 use Rattle.std.specs.List.Sorted.{IsPermutation, IsStrictlySortedBy}
 use Rattle.std.specs.BTreeMap.{is_at}
 use Rattle.std.specs.Map.{keys_of, values_of as values}
@@ -28,7 +28,7 @@ use Rattle.authority_names.specs.Leads.{Table}
 use Rattle.catalogue_core.specs.ClosedKeys.{closed_pairs}
 use Rattle.catalogue_core.specs.Grouping.{WorkList, KeptWorks}
 use Rattle.catalogue_core.specs.Histories.{MapOf, at_id, is_current, after_batch, bases, current}
-use Rattle.catalogue_core.specs.Homes.{Block, has_contributor, place_of, places_in, standing, admitted, moved, housed_all}
+use Rattle.catalogue_core.specs.Homes.{Block, has_contributor, place_of, places_in, admitted, others, moved, housed_all}
 use Rattle.catalogue_editions.specs.Ids.{least}
 use Rattle.catalogue_editions.specs.Joining.{join}
 use Rattle.catalogue_editions.specs.JoinLaws.{edition_join_laws}
@@ -44,9 +44,9 @@ use Rattle.record_homes.specs.declared.home.Home.{Home}
 use Rattle.record_homes.specs.declared.place.Place.{Place}
 use Rattle.catalogue_editions.proofs.Apart.{match-from_contributor, match-from_least}
 use Rattle.edition_blocks.proofs.BlockLaws.{block-stands, value-in, in-value, number-from_match, in-view, kept-in_view, fresh-in_view}
-use Rattle.catalogue_core.proofs.HomeLaws.{some-from_test, admitted-keeps, admitted-lets, admitted-only, ordered-admitted, moved_at, at-moved, ordered-moved, ordered-housed_all, place-housed_all, block-housed_all, some-mapped}
+use Rattle.catalogue_core.proofs.HomeLaws.{some-from_test, ordered-admitted, ordered-moved, settled_at, home-settled, ordered-housed_all, place-housed_all, block-housed_all, some-mapped}
 use Rattle.catalogue_core.proofs.Looking.{member-from_any, any-from_member, bears-resolution, bears-current}
-use Rattle.record_homes.proofs.MapLaws.{same, one-id, same-itself, same-maps}
+use Rattle.record_homes.proofs.MapLaws.{same, same-maps}
 use Rattle.catalogue_core.proofs.Placing.{lookup-values}
 use Rattle.edition_blocks.proofs.MappedLaws.{mapped-from_member, member-from_mapped}
 use Rattle.catalogue_core.proofs.TurnLaws.{ordered-current}
@@ -118,31 +118,6 @@ after-change names blocks closed opened apart p = (
 
 -- ---- homes
 
-standing-found : (touched : MapOf (Option Place)) (q : RecordId) (place : Place) → at_id touched q ≡ Some (Some place) → Contains (standing touched) q
-standing-found [] q place at = cc
-standing-found (t ∷ touched) q place at =
-    elim (same q t.0) as (λ b. same q t.0 ≡ b → cond b (Some t.1) (at_id touched q) ≡ Some (Some place) → Contains (cons_option (option_map (λ (p : Place). t.0) t.1) (standing touched)) q) [
-      | true ↦ λ is h. (let one : t.1 ≡ Some place = cc in
-          subst (λ (o : Option Place). Contains (cons_option (option_map (λ (p : Place). t.0) o) (standing touched)) q) (sym one)
-          (subst (Contains (t.0 ∷ standing touched)) (sym (one-id q t.0 is)) (Contains-head t.0 (standing touched))))
-      | false ↦ λ is h. (let rest = standing-found touched q place h in
-          elim t.1 as (λ o. Contains (cons_option (option_map (λ (p : Place). t.0) o) (standing touched)) q) [ Some p ↦ Contains-tail t.0 (standing touched) q rest | None ↦ rest ])
-    ] refl at
-
-standing-touched : (touched : MapOf (Option Place)) (q : RecordId) → Contains (standing touched) q → at_id touched q ≡ None → ⊥
-standing-touched [] q (k, kl, is) none = omega arith
-standing-touched (t ∷ touched) q c none =
-    elim (same q t.0) as (λ b. same q t.0 ≡ b → cond b (Some t.1) (at_id touched q) ≡ None → ⊥) [
-      | true ↦ λ is h. cc
-      | false ↦ λ is h. (elim t.1 as (λ o. Contains (cons_option (option_map (λ (p : Place). t.0) o) (standing touched)) q → ⊥) [
-        | Some p ↦ λ c. elim (Contains-cases t.0 (standing touched) q c) [
-          | inl here ↦ (let clash : true ≡ false = sym (same-itself q) ∙ ap (same q) (sym here) ∙ is in cc)
-          | inr later ↦ standing-touched touched q later h
-        ]
-        | None ↦ λ c. standing-touched touched q c h
-      ]) c
-    ] refl none
-
 pub keys-values : {X Y : Type 0} (f : X → Y) (all : MapOf X) → keys_of (map_values f all) ≡ keys_of all
 keys-values f [] = refl
 keys-values {X} {Y} f (p ∷ all) = ap (λ (ks : List RecordId). p.0 ∷ ks) (keys-values f all)
@@ -162,10 +137,10 @@ module _ (history : List HistoryEntry) (entry : HistoryEntry) (homes : MapOf Hom
   now = after_batch (current history) entry.batch
 
   abbrev let-in : MapOf Home
-  let-in = admitted homes (standing touched)
+  let-in = fold admitted homes touched
 
   abbrev settled : MapOf Home
-  settled = fold moved let-in touched
+  settled = fold moved let-in (others homes touched)
 
   abbrev pub homes' : MapOf Home
   homes' = housed_all settled opened numbers
@@ -175,41 +150,21 @@ module _ (history : List HistoryEntry) (entry : HistoryEntry) (homes : MapOf Hom
       (sym (keys-values Some (current history)) ∙ ap keys_of (sym k.current.loads) ∙ keys-values (loaded_at (batches history)) (places_in homes) ∙ keys-values (λ (home : Home). home.place) homes)
       (ordered-current history)
 
-  ordered-let-in : IsStrictlySortedBy id_cmp (keys_of let-in)
-  ordered-let-in = ordered-admitted (standing touched) homes ordered-homes
-
   ordered-homes' : IsStrictlySortedBy id_cmp (keys_of homes')
-  ordered-homes' = ordered-housed_all opened numbers settled (ordered-moved touched let-in ordered-let-in)
+  ordered-homes' = ordered-housed_all opened numbers settled (ordered-moved (others homes touched) let-in (ordered-admitted touched homes ordered-homes))
 
-  at-settled : (q : RecordId) → at_id settled q ≡ moved_at (at_id touched q) (at_id let-in q)
-  at-settled q = at-moved touched let-in q p.touches ordered-let-in
-
-  -- an id that the plan did not touch keeps its home
-  untouched : (q : RecordId) → at_id touched q ≡ None → at_id let-in q ≡ at_id homes q
-  untouched q none = known (at_id homes q) refl
-    where
-      known : (o : Option Home) → at_id homes q ≡ o → at_id let-in q ≡ o
-      known (Some h) is = admitted-keeps q (standing touched) homes h is
-      known None is = nothing (at_id let-in q) refl
-        where
-          nothing : (o : Option Home) → at_id let-in q ≡ o → o ≡ None
-          nothing None is' = refl
-          nothing (Some h) is' = elim (admitted-only q (standing touched) homes h is') [
-            | inl old ↦ (let clash : ◌≡◌ {A = Option Home} (Some h) None = sym old ∙ is in cc)
-            | inr new ↦ absurd (standing-touched touched q new none)
-          ]
+  at-settled : (q : RecordId) → at_id settled q ≡ settled_at (at_id touched q) (at_id homes q)
+  at-settled q = home-settled touched homes q p.touches ordered-homes
 
   -- each id has the place that the plan gives it
   place-settled : (q : RecordId) → option_map (λ (h : Home). h.place) (at_id homes' q) ≡ place_of homes touched q
   place-settled q =
-      place-housed_all opened numbers settled q ∙ ap (option_map (λ (h : Home). h.place)) (at-settled q) ∙ given (at_id touched q) refl
+      place-housed_all opened numbers settled q ∙ ap (option_map (λ (h : Home). h.place)) (at-settled q) ∙ given (at_id touched q)
     where
-      given : (t : Option (Option Place)) → at_id touched q ≡ t → option_map (λ (h : Home). h.place) (moved_at t (at_id let-in q)) ≡ unwrap_or t (option_map (λ (h : Home). h.place) (at_id homes q))
-      given None is = ap (option_map (λ (h : Home). h.place)) (untouched q is)
-      given (Some None) is = refl
-      given (Some (Some place)) is =
-          let (h, at) = admitted-lets q (standing touched) homes (standing-found touched q place is) in
-          ap (λ o. option_map (λ (h : Home). h.place) (moved_at (Some (Some place)) o)) at
+      given : (t : Option (Option Place)) → option_map (λ (h : Home). h.place) (settled_at t (at_id homes q)) ≡ unwrap_or t (option_map (λ (h : Home). h.place) (at_id homes q))
+      given None = refl
+      given (Some None) = refl
+      given (Some (Some place)) = refl
 
   found-settled : (q : RecordId) → option_map (loaded_at all) (option_map (λ (h : Home). h.place) (at_id homes' q)) ≡ option_map Some (at_id now q)
   found-settled q = ap (option_map (loaded_at all)) (place-settled q) ∙ p.stands q
@@ -252,7 +207,7 @@ module _ (history : List HistoryEntry) (entry : HistoryEntry) (homes : MapOf Hom
                 | inl (n, e, stands, open', same') ↦
                     (let has' : IsTrue (has_contributor q e.value) = ap (has_contributor q) same' ∙ bears in
                     let (home, old, is) = k.housed.only n e q stands has' in
-                    let number' : h₀.block ≡ home.block = moved-block (at_id touched q) home h₀ (sym (at-settled q ∙ ap (moved_at (at_id touched q)) (admitted-keeps q (standing touched) homes home old)) ∙ at₀) in
+                    let number' : h₀.block ≡ home.block = moved-block (at_id touched q) home h₀ (sym (at-settled q ∙ ap (settled_at (at_id touched q)) old) ∙ at₀) in
                     (e, ap (block_at blocks') (block ∙ number' ∙ is) ∙ kept n e stands open', has'))
                 | inr (e, ce, same') ↦ absurd (none e ce (ap (has_contributor q) same' ∙ bears))
               ])
@@ -261,7 +216,7 @@ module _ (history : List HistoryEntry) (entry : HistoryEntry) (homes : MapOf Hom
         got-number : (i m : ℕ) → i < length opened → slice_get numbers i ≡ Some m → m ≡ number_at closed (length blocks) i
         got-number i m below is = sym (get_or_from_slice_get numbers i m 0 is) ∙ given.each i below
 
-        moved-block : (t : Option (Option Place)) (home h₀ : Home) → moved_at t (Some home) ≡ Some h₀ → h₀.block ≡ home.block
+        moved-block : (t : Option (Option Place)) (home h₀ : Home) → settled_at t (Some home) ≡ Some h₀ → h₀.block ≡ home.block
         moved-block None home h₀ is = let one : home ≡ h₀ = cc in ap (λ (x : Home). x.block) (sym one)
         moved-block (Some None) home h₀ is = cc
         moved-block (Some (Some place)) home h₀ is = let one : ◌≡◌ {A = Home} (record { place = place; block = home.block }) h₀ = cc in ap (λ (x : Home). x.block) (sym one)
@@ -305,8 +260,9 @@ module _ (history : List HistoryEntry) (entry : HistoryEntry) (homes : MapOf Hom
 -- step by step
 pub installed : (history : List HistoryEntry) (entry : HistoryEntry) (homes : MapOf Home) (blocks : List (Option Block)) (works : KeptWorks) → IsKept history homes blocks works
     → (closed : List ℕ) (opened : List Block) (touched : MapOf (Option Place)) → IsPlanned (batches history ++ entry.batch ∷ []) homes blocks (after_batch (current history) entry.batch) closed opened touched
-    → (let-in : MapOf Home) → let-in ≡ admitted homes (standing touched)
-    → (settled : MapOf Home) → settled ≡ fold moved let-in touched
+    → (let-in : MapOf Home) → let-in ≡ fold admitted homes touched
+    → (rest : MapOf (Option Place)) → rest ≡ others homes touched
+    → (settled : MapOf Home) → settled ≡ fold moved let-in rest
     → (numbers : List ℕ) → AreNumbers closed (length blocks) (length opened) numbers
     → (homes' : MapOf Home) → homes' ≡ housed_all settled opened numbers
     → (roomy : List (Option Block)) → roomy ≡ blocks
@@ -316,14 +272,14 @@ pub installed : (history : List HistoryEntry) (entry : HistoryEntry) (homes : Ma
     → works'.works ≡ option_map (λ ws. changed ws (closed_pairs works.names blocks closed) (work_pairs works.names (values_of opened))) works.works
     → (history₁ history' : List HistoryEntry) → history₁ ≡ history → history' ≡ history₁ ++ entry ∷ []
     → IsKept history' homes' blocks' works'
-installed history entry homes blocks works k closed opened touched p within lets after settles numbers given homes' houses roomy same' blocks' kept fresh moved' works' same-names changes history₁ history' same-history appended =
+installed history entry homes blocks works k closed opened touched p within lets rest lists after settles numbers given homes' houses roomy same' blocks' kept fresh moved' works' same-names changes history₁ history' same-history appended =
     let kept' = subst (λ bs. (n : ℕ) (e : Block) → block_at bs n ≡ Some e → (Contains closed n → ⊥) → block_at blocks' n ≡ Some e) same' kept in
     let fresh' = subst (λ bs. AreOpened (without bs closed) closed (length bs) opened blocks') same' fresh in
     let view = subst (λ bs. IsPermutation (view_of bs closed opened) (values_of (blocks_in blocks'))) same' moved' in
     let whole = kept-installed history entry homes blocks works k closed opened touched numbers p blocks' kept' fresh' view given works'.works changes in
-    let found : homes' ≡ housed_all (fold moved (admitted homes (standing touched)) touched) opened numbers =
-    houses ∙ ap (λ all. housed_all all opened numbers) (settles ∙ ap (λ all. fold moved all touched) lets) in
+    let found : homes' ≡ housed_all (fold moved (fold admitted homes touched) (others homes touched)) opened numbers =
+    houses ∙ ap (λ all. housed_all all opened numbers) (settles ∙ ap (λ all. fold moved all rest) lets ∙ ap (fold moved (fold admitted homes touched)) lists) in
     subst (λ turns. IsKept turns homes' blocks' works') (sym (appended ∙ ap (λ turns. turns ++ entry ∷ []) same-history))
     (subst (λ all. IsKept (history ++ entry ∷ []) all blocks' works') (sym found)
-    (subst (λ names. IsKept (history ++ entry ∷ []) (housed_all (fold moved (admitted homes (standing touched)) touched) opened numbers) blocks'
+    (subst (λ names. IsKept (history ++ entry ∷ []) (housed_all (fold moved (fold admitted homes touched) (others homes touched)) opened numbers) blocks'
     (record { names = names; works = works'.works })) (sym same-names) whole))

@@ -2,7 +2,7 @@
 use Rattle.std.proofs.Common.{◌≡◌, ℕ, suc, ◌+◌, ◌<◌, ◌≤◌, Bool, true, false, cond, ◌||◌, List, [], ◌∷◌, ◌++◌, length, Contains, get_or, drop, refl, sym, ap, subst, ◌∙◌, add-one, inl, inr, arith}
 use Rattle.std.proofs.Math.ListN.{drop_of_length-le}
 use Rattle.std.proofs.Math.Seq.{drop-cons}
-use Rattle.std.specs.Prelude.{Option, Some, None, fold}
+use Rattle.std.specs.Prelude.{Option, Some, None, is_some, fold}
 use Rattle.std.specs.List.{list_any}
 use Rattle.std.proofs.lemmas.List.Elements.{Contains-append_left, Contains-append_right, Contains-append_cases}
 use Rattle.std.specs.List.Sorted.{IsStrictlySortedBy}
@@ -12,7 +12,7 @@ use Rattle.field_merge.specs.Kept.{id_cmp}
 use Rattle.merge_laws.specs.Resolution.{IsResolution}
 use Rattle.merge_laws.proofs.Resolutions.{IsResolution-append}
 use Rattle.swoosh_resolver.specs.Changes.{Fits, view_of}
-use Rattle.catalogue_core.specs.Histories.{MapOf, at_id, id_of, is_current, after_op, after_batch}
+use Rattle.catalogue_core.specs.Histories.{MapOf, at_id, id_of, is_current, after_op, after_batch, outcome_of, outcomes}
 use Rattle.catalogue_core.specs.Homes.{Block}
 use Rattle.catalogue_editions.specs.Ids.{least}
 use Rattle.catalogue_editions.specs.Joining.{join}
@@ -23,16 +23,17 @@ use Rattle.catalogue_editions.specs.MatchLaws.{edition_match_laws}
 use Rattle.catalogue_editions.specs.Net.{net}
 use Rattle.catalogue_core.specs.Plans.{IsPlanned}
 use Rattle.catalogue_core.specs.Touches.{IsTouched}
-use Rattle.catalogue_core.specs.PreparedReaches.{without_named, without_all, IsReachOfLeaving}
+use Rattle.catalogue_core.specs.PreparedReaches.{leaves, without_named, without_all, IsReachOfLeaving}
 use Rattle.catalogue_core.specs.Reaches.{IsReachOfWithdrawal}
 use Rattle.catalogue_editions.specs.declared.batch.Batch.{Batch}
 use Rattle.catalogue_editions.specs.declared.edition.Edition.{Edition}
 use Rattle.record_homes.specs.declared.home.Home.{Home}
 use Rattle.catalogue_editions.specs.declared.op.Op.{Op}
 use Rattle.catalogue_editions.specs.declared.op.Op.TheVariants.{Load, Withdraw}
+use Rattle.catalogue_editions.specs.declared.outcome.Outcome.TheVariants.{Added, Replaced, Removed, Absent}
 use Rattle.record_homes.specs.declared.place.Place.{Place}
 use Rattle.catalogue_core.proofs.HomeLaws.{none-from_test, removed-absent}
-use Rattle.record_homes.proofs.MapLaws.{same, at-inserted, at-removed, ordered-inserted, ordered-removed, id-of_value, value-of_id}
+use Rattle.record_homes.proofs.MapLaws.{same, one-id, at-inserted, at-removed, ordered-inserted, ordered-removed, id-of_value, value-of_id}
 use Rattle.catalogue_core.proofs.PlanLaws.{resolved-by_members}
 
 pub plan-unnamed : {all : List Batch} {homes : MapOf Home} {blocks : List (Option Block)} {now : MapOf Edition} {closed : List ℕ} {opened : List Block} {touched : MapOf (Option Place)}
@@ -124,6 +125,10 @@ op-at : (library : List ℕ) (all : MapOf Edition) (op : Op) (q : RecordId) → 
 op-at library all (Load e) q up = at-inserted all (least e) e q
 op-at library all (Withdraw control) q up = at-removed all (record { library = library; control = control }) q up
 
+none_of : (a b : Bool) → (a || b) ≡ false → (a ≡ false) × (b ≡ false)
+none_of true b h = cc
+none_of false b h = (refl, h)
+
 -- operations leave what they do not name
 unnamed-at : (library : List ℕ) (all : MapOf Edition) (ops : List Op) (q : RecordId) → IsStrictlySortedBy id_cmp (keys_of all) → is_named library ops q ≡ false
     → at_id (fold (after_op library) all ops) q ≡ at_id all q
@@ -132,10 +137,6 @@ unnamed-at library all (op ∷ ops) q up none =
     let (other, later) = none_of (same (id_of library op) q) (is_named library ops q) none in
     unnamed-at library (after_op library all op) ops q (ordered-op library all op up) later
     ∙ op-at library all op q up ∙ ap (λ t. cond t (loaded op) (at_id all q)) other
-  where
-    none_of : (a b : Bool) → (a || b) ≡ false → (a ≡ false) × (b ≡ false)
-    none_of true b h = cc
-    none_of false b h = (refl, h)
 
 -- what they find under an id does not depend on the others
 agreeing-at : (library : List ℕ) (all other : MapOf Edition) (ops : List Op) (q : RecordId) → IsStrictlySortedBy id_cmp (keys_of all) → IsStrictlySortedBy id_cmp (keys_of other)
@@ -174,6 +175,32 @@ rest-at library all (op ∷ ops) q up =
 ordered-rest : (library : List ℕ) (all : MapOf Edition) (ops : List Op) → IsStrictlySortedBy id_cmp (keys_of all) → IsStrictlySortedBy id_cmp (keys_of (without_all library all ops))
 ordered-rest library all [] up = up
 ordered-rest library all (op ∷ ops) up = ordered-rest library (without_named library all op) ops (ordered-removed all (same (id_of library op)) up)
+
+-- a record leaves by an operation exactly where it is current
+leaves-current : (library : List ℕ) (all : MapOf Edition) (op : Op) → leaves (outcome_of library all op) ≡ is_current all (id_of library op)
+leaves-current library all (Load e) = elim (is_current all (least e)) as (λ b. leaves (cond b Replaced Added) ≡ b) [ true ↦ refl | false ↦ refl ]
+leaves-current library all (Withdraw control) =
+    elim (is_current all (record { library = library; control = control })) as (λ b. leaves (cond b Removed Absent) ≡ b) [ true ↦ refl | false ↦ refl ]
+
+-- if no record leaves by operations over some records, the operations name none of these, and none of some of these
+pub none-leaves : (library : List ℕ) (all more : MapOf Edition) (ops : List Op) → IsStrictlySortedBy id_cmp (keys_of more) → ((q : RecordId) → is_current all q ≡ true → is_current more q ≡ true)
+    → list_any leaves (outcomes library more ops) ≡ false → without_all library all ops ≡ all
+none-leaves library all more [] up within none = refl
+none-leaves library all more (op ∷ ops) up within none =
+    let (stays, later) = none_of (leaves (outcome_of library more op)) (list_any leaves (outcomes library (after_op library more op) ops)) none in
+    let new : is_current more (id_of library op) ≡ false = sym (leaves-current library more op) ∙ stays in
+    let gone : is_current all (id_of library op) ≡ false = absent (is_current all (id_of library op)) (λ is. sym (within (id_of library op) is) ∙ new) in
+    ap (λ rest. without_all library rest ops) (removed-absent all (id_of library op) (none-from_test (at_id all (id_of library op)) gone))
+    ∙ none-leaves library all (after_op library more op) ops (ordered-op library more op up)
+    (λ q is. ap is_some (op-at library more op q up)
+    ∙ elim (same (id_of library op) q) as (λ b. same (id_of library op) q ≡ b → is_some (cond b (loaded op) (at_id more q)) ≡ true) [
+      | true ↦ λ here. (let clash : true ≡ false = sym is ∙ sym (ap (is_current all) (one-id (id_of library op) q here)) ∙ gone in cc)
+      | false ↦ λ _. within q is
+    ] refl) later
+  where
+    absent : (b : Bool) → (b ≡ true → true ≡ false) → b ≡ false
+    absent true never = never refl
+    absent false never = refl
 
 -- the records after a batch are those that it does not name and those that it leaves of its loads
 module _ (start : MapOf Edition) (batch : Batch) (up : IsStrictlySortedBy id_cmp (keys_of start)) where

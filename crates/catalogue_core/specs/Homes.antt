@@ -1,5 +1,5 @@
 -- Where the current records of a catalogue are found, and how the install of a plan moves them.
-use Rattle.std.specs.Prelude.{◌≡◌, ℕ, Bool, IsTrue, if◌then◌else◌, List, [], ◌∷◌, fold, filter_map, Option, Some, None, unwrap_or}
+use Rattle.std.specs.Prelude.{◌≡◌, ℕ, Bool, false, not, IsTrue, if◌then◌else◌, List, [], ◌∷◌, fold, filter, filter_map, Option, Some, None, unwrap_or}
 use Rattle.std.specs.Option.{option_map, option_and_then}
 use Rattle.std.specs.BTreeMap.{is_at, insert_entry}
 use Rattle.std.specs.Map.{remove_entry}
@@ -37,14 +37,23 @@ pub record AreHoused (blocks : List (Option Block)) (homes : MapOf Home) : Type 
 abbrev pub place_of : MapOf Home → MapOf (Option Place) → RecordId → Option Place
 place_of homes touched id = unwrap_or (at_id touched id) (option_map (λ home. home.place) (at_id homes id))
 
--- the ids that a plan lets stand
-abbrev pub standing : MapOf (Option Place) → List RecordId
-standing touched = filter_map (λ p. option_map (λ place. p.0) p.1) touched
+-- whether a touched id is new: its record is current after the turn, and it has no home yet
+abbrev pub is_new : MapOf Home → RecordId × Option Place → Bool
+is_new homes (id, Some place) = not (is_current homes id)
+is_new homes (id, None) = false
 
--- with a home that says nothing yet under each of the ids that has none
-abbrev pub admitted : MapOf Home → List RecordId → MapOf Home
-admitted homes [] = homes
-admitted homes (id ∷ ids) = admitted (if is_current homes id then homes else insert_entry id_cmp homes id (record { place = record { turn = 0; op = 0 }; block = 0 })) ids
+-- the home of a new id: its block is not known yet
+abbrev pub new_home : Place → Home
+new_home place = record { place = place; block = 0 }
+
+-- with a home under the id, if it is new
+abbrev pub admitted : MapOf Home → RecordId × Option Place → MapOf Home
+admitted homes (id, Some place) = if is_current homes id then homes else insert_entry id_cmp homes id (new_home place)
+admitted homes (id, None) = homes
+
+-- the touched ids that are not new
+abbrev pub others : MapOf Home → MapOf (Option Place) → MapOf (Option Place)
+others homes touched = filter (λ p. not (is_new homes p)) touched
 
 -- without the homes under the ids, which go again, the last first
 abbrev pub taken_back : MapOf Home → List RecordId → MapOf Home

@@ -1,5 +1,5 @@
 -- How many match tests the turn of a prepared batch may take.
-use Rattle.std.specs.Prelude.{◌≡◌, ℕ, ◌+◌, ◌⊎◌, ◌++◌, true, false, List, [], ◌∷◌, fold}
+use Rattle.std.specs.Prelude.{◌≡◌, ℕ, Bool, ◌+◌, ◌⊎◌, ◌++◌, true, false, List, [], ◌∷◌, fold}
 use Rattle.std.specs.BTreeMap.{is_at}
 use Rattle.std.specs.Map.{remove_entry, values_of}
 use Rattle.field_merge.specs.Kept.{id_cmp}
@@ -7,6 +7,15 @@ use Rattle.catalogue_core.specs.Histories.{MapOf, id_of, is_current}
 use Rattle.catalogue_core.specs.Reaches.{IsReachOfWithdrawal, IsReachOfInsertion}
 use Rattle.catalogue_editions.specs.declared.edition.Edition.{Edition}
 use Rattle.catalogue_editions.specs.declared.op.Op.{Op}
+use Rattle.catalogue_editions.specs.declared.outcome.Outcome.{Outcome}
+use Rattle.catalogue_editions.specs.declared.outcome.Outcome.TheVariants.{Added, Replaced, Removed, Absent}
+
+-- whether a current record leaves: it was replaced or removed
+abbrev pub leaves : Outcome → Bool
+leaves Added = false
+leaves Replaced = true
+leaves Removed = true
+leaves Absent = false
 
 -- without the record that the operation names
 abbrev pub without_named : List ℕ → MapOf Edition → Op → MapOf Edition

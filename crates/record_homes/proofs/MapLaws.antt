@@ -1,7 +1,7 @@
 -- Maps from ids: what is found in them where a pair comes or goes, or a value is changed, and that their ids stay in order.
 use Rattle.std.proofs.Common.{◌≡◌, Bool, true, false, cond, List, [], ◌∷◌, Contains, refl, sym, ap, subst, ◌∙◌, inl, inr, arith}
-use Rattle.std.specs.Prelude.{Option, Some, None}
-use Rattle.std.specs.Option.{option_map}
+use Rattle.std.specs.Prelude.{Option, Some, None, filter}
+use Rattle.std.specs.Option.{option_map, option_and_then}
 use Rattle.std.specs.declared.cmp.Ordering.{Ordering}
 use Rattle.std.specs.declared.cmp.Ordering.TheVariants.{Less, Equal, Greater}
 use Rattle.std.specs.Ordering.{match_ordering, is_eq, ordering_reverse}
@@ -132,6 +132,17 @@ ordered-removed [] test up = tt
 ordered-removed (p ∷ all) test up =
     elim (test p.0) as (λ b. IsStrictlySortedBy id_cmp (keys_of (cond b all (p ∷ remove_entry test all)))) [ true ↦ up.1 | false ↦ (below-removed p.0 all test up.0, ordered-removed all test up.1) ]
 
+below-filtered : {X : Type 0} (k : RecordId) (all : MapOf X) (test : RecordId × X → Bool) → AllByRecursion (λ y. id_cmp k y ≡ Less) (keys_of all) → AllByRecursion (λ y. id_cmp k y ≡ Less) (keys_of (filter test all))
+below-filtered k [] test h = tt
+below-filtered k (p ∷ all) test h =
+    elim (test p) as (λ b. AllByRecursion (λ y. id_cmp k y ≡ Less) (keys_of (cond b (p ∷ filter test all) (filter test all)))) [ true ↦ (h.0, below-filtered k all test h.1) | false ↦ below-filtered k all test h.1 ]
+
+pub ordered-filtered : {X : Type 0} (test : RecordId × X → Bool) (all : MapOf X) → IsStrictlySortedBy id_cmp (keys_of all) → IsStrictlySortedBy id_cmp (keys_of (filter test all))
+unfolding IsStrictlySortedBy
+ordered-filtered test [] up = tt
+ordered-filtered test (p ∷ all) up =
+    elim (test p) as (λ b. IsStrictlySortedBy id_cmp (keys_of (cond b (p ∷ filter test all) (filter test all)))) [ true ↦ (below-filtered p.0 all test up.0, ordered-filtered test all up.1) | false ↦ ordered-filtered test all up.1 ]
+
 pub keys-changed : {X : Type 0} (id : RecordId) (f : X → X) (all : MapOf X) → keys_of (change_at id f all) ≡ keys_of all
 keys-changed id f [] = refl
 keys-changed {X} id f (p ∷ all) =
@@ -203,3 +214,26 @@ same-maps {X} (p ∷ m) (q ∷ n) up up' each =
           sym (at-head q n) ∙ sym (each q.0) ∙ at-below q.0 p m up (id_total.antisymm q.0 p.0 ∙ ap ordering_reverse e) in
           cc)
     ] refl
+
+-- with the pairs alone that pass a test
+pub at-filtered : {X : Type 0} (test : RecordId × X → Bool) (all : MapOf X) (q : RecordId) → IsStrictlySortedBy id_cmp (keys_of all)
+    → at_id (filter test all) q ≡ option_and_then (λ x. cond (test (q, x)) (Some x) None) (at_id all q)
+unfolding IsStrictlySortedBy
+at-filtered test [] q up = refl
+at-filtered {X} test (p ∷ all) q up =
+    elim (same q p.0) as (λ b. same q p.0 ≡ b → at_id (cond (test p) (p ∷ filter test all) (filter test all)) q ≡ option_and_then (λ x. cond (test (q, x)) (Some x) None) (cond b (Some p.1) (at_id all q))) [
+      | true ↦ λ here. found here (at-filtered test all q up.1) (test p) refl
+      | false ↦ λ other. elim (test p) as (λ t. at_id (cond t (p ∷ filter test all) (filter test all)) q ≡ option_and_then (λ x. cond (test (q, x)) (Some x) None) (at_id all q)) [
+        | true ↦ ap (λ b. cond b (Some p.1) (at_id (filter test all) q)) other ∙ at-filtered test all q up.1
+        | false ↦ at-filtered test all q up.1
+      ]
+    ] refl
+  where
+    found : same q p.0 ≡ true → at_id (filter test all) q ≡ option_and_then (λ x. cond (test (q, x)) (Some x) None) (at_id all q)
+        → (t : Bool) → test p ≡ t → at_id (cond t (p ∷ filter test all) (filter test all)) q ≡ cond (test (q, p.1)) (Some p.1) None
+    found here rest true is =
+        ap (λ b. cond b (Some p.1) (at_id (filter test all) q)) here ∙ sym (ap (λ b. cond b (Some p.1) None) (ap (λ id. test (id, p.1)) (one-id q p.0 here) ∙ is))
+    found here rest false is =
+        rest
+        ∙ ap (option_and_then (λ (x : X). cond (test (q, x)) (Some x) None)) (ap (at_id all) (one-id q p.0 here) ∙ at-past p all up)
+        ∙ sym (ap (λ b. cond b (Some p.1) None) (ap (λ id. test (id, p.1)) (one-id q p.0 here) ∙ is))

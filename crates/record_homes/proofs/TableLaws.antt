@@ -1,14 +1,13 @@
 -- The table of homes as a map: what is found in it, and how a write to the homes of one library changes it.
-use Rattle.std.proofs.Common.{◌≡◌, ℕ, ◌+◌, ◌-◌, suc, Bool, true, false, cond, ◌&&◌, List, [], ◌∷◌, ◌++◌, length, refl, sym, ap, subst, ◌∙◌, arith}
-use Rattle.std.specs.Prelude.{Option, Some, None, is_some, unwrap_or, map, nat_eq, Result, Ok, Err, OnErr}
+use Rattle.std.proofs.Common.{◌≡◌, ℕ, ◌+◌, suc, Bool, true, false, cond, ◌&&◌, List, [], ◌∷◌, ◌++◌, length, refl, sym, ap, subst, ◌∙◌, arith}
+use Rattle.std.specs.Prelude.{Option, Some, None, is_some, unwrap_or, not, map, nat_eq, Result, Ok, Err, OnErr}
 use Rattle.std.specs.Option.{option_map}
 use Rattle.std.specs.declared.cmp.Ordering.{Ordering}
 use Rattle.std.specs.declared.cmp.Ordering.TheVariants.{Less, Equal, Greater}
-use Rattle.std.specs.Ordering.{match_ordering, is_eq, nat_cmp, ordering_then, eq_by_cmp}
+use Rattle.std.specs.Ordering.{match_ordering, is_eq, nat_cmp, ordering_then}
 use Rattle.std.specs.Cmp.{eq_by_cmp_equiv}
 use Rattle.std.specs.Cmp.Lexicographic.{pointwise, slice_cmp, texts_ties, nat_list_cmp_total}
 use Rattle.std.specs.BTreeMap.{is_at, insert_entry}
-use Rattle.std.specs.List.{flat_map}
 use Rattle.std.specs.List.Sorted.{IsStrictlySortedBy}
 use Rattle.std.specs.Map.{lookup, remove_entry, keys_of}
 use Rattle.std.proofs.lemmas.Map.{lookup-none}
@@ -154,13 +153,35 @@ none-set all id home empty is q =
 
 -- ---- the table after a write
 
-pub table-inserted : (old new : Libraries) (id : RecordId) (home : Home) → AreInOrder old → AreInOrder new
-    → ((q : RecordId) → home_at new q ≡ cond (same id q) (Some home) (home_at old q))
+pub table-same : (old new : Libraries) → AreInOrder old → AreInOrder new → ((q : RecordId) → home_at new q ≡ home_at old q)
+    → in_order (pairs_in new) ≡ in_order (pairs_in old)
+table-same old new up next set =
+    table-is new (in_order (pairs_in old)) next (ordered-in_order (pairs_in old)) (λ q. set q ∙ sym (at-table old up q))
+
+-- a home is put under an id that has none
+pub table-put : (old new : Libraries) (id : RecordId) (home : Home) → AreInOrder old → AreInOrder new → home_at old id ≡ None
+    → ((q : RecordId) → home_at new q ≡ cond (same id q) (Some (unwrap_or (home_at old id) home)) (home_at old q))
     → in_order (pairs_in new) ≡ insert_entry id_cmp (in_order (pairs_in old)) id home
-table-inserted old new id home up next set =
+table-put old new id home up next none set =
     table-is new (insert_entry id_cmp (in_order (pairs_in old)) id home) next
     (ordered-inserted (in_order (pairs_in old)) id home (ordered-in_order (pairs_in old)))
-    (λ q. set q ∙ ap (λ o. cond (same id q) (Some home) o) (sym (at-table old up q)) ∙ sym (at-inserted (in_order (pairs_in old)) id home q))
+    (λ q. set q ∙ ap (λ o. cond (same id q) (Some (unwrap_or o home)) (home_at old q)) none
+    ∙ ap (λ o. cond (same id q) (Some home) o) (sym (at-table old up q)) ∙ sym (at-inserted (in_order (pairs_in old)) id home q))
+
+-- no home is put under an id that has one
+pub table-kept : (old new : Libraries) (id : RecordId) (home : Home) → AreInOrder old → AreInOrder new → is_some (home_at old id) ≡ true
+    → ((q : RecordId) → home_at new q ≡ cond (same id q) (Some (unwrap_or (home_at old id) home)) (home_at old q))
+    → in_order (pairs_in new) ≡ in_order (pairs_in old)
+table-kept old new id home up next some set =
+    table-same old new up next
+    (λ q. set q ∙ elim (same id q) as (λ b. same id q ≡ b → cond b (Some (unwrap_or (home_at old id) home)) (home_at old q) ≡ home_at old q) [
+      | true ↦ λ one. filled (home_at old id) some ∙ ap (home_at old) (one-id id q one)
+      | false ↦ λ _. refl
+    ] refl)
+  where
+    filled : (o : Option Home) → is_some o ≡ true → Some (unwrap_or o home) ≡ o
+    filled (Some h) is = refl
+    filled None is = cc
 
 pub table-removed : (old new : Libraries) (id : RecordId) → AreInOrder old → AreInOrder new
     → ((q : RecordId) → home_at new q ≡ cond (same id q) None (home_at old q))
@@ -183,11 +204,6 @@ table-changed old new id f up next set =
     own q true one = ap (option_map f) (ap (home_at old) (one-id id q one) ∙ sym (at-table old up q))
     own q false other = sym (at-table old up q)
 
-pub table-same : (old new : Libraries) → AreInOrder old → AreInOrder new → ((q : RecordId) → home_at new q ≡ home_at old q)
-    → in_order (pairs_in new) ≡ in_order (pairs_in old)
-table-same old new up next set =
-    table-is new (in_order (pairs_in old)) next (ordered-in_order (pairs_in old)) (λ q. set q ∙ sym (at-table old up q))
-
 -- what follows where a call is refused
 pub on_err_weaker : {X E : Type 0} (r : Result X E) {P Q : Type 0} → (P → Q) → OnErr r P → OnErr r Q
 on_err_weaker (Ok x) more h = tt
@@ -196,6 +212,15 @@ on_err_weaker (Err e) more h = more h
 pub on_err : {X E : Type 0} (r : Result X E) {P : Type 0} → P → OnErr r P
 on_err (Ok x) holds = tt
 on_err (Err e) holds = holds
+
+-- a home was put just where there was none
+pub none-from_new : (o : Option Home) → not (is_some o) ≡ true → o ≡ None
+none-from_new None new = refl
+none-from_new (Some h) new = cc
+
+pub some-from_old : (o : Option Home) → not (is_some o) ≡ false → is_some o ≡ true
+some-from_old None old = cc
+some-from_old (Some h) old = refl
 
 -- ---- counts
 

@@ -1,5 +1,5 @@
 //! The homes of one library's records.
-ghost use Rattle.std.specs.Prelude.{◌≡◌, [], None, Some, is_some, OnOk, OnErr};
+ghost use Rattle.std.specs.Prelude.{◌≡◌, [], None, Some, is_some, unwrap_or, not, IfOk, OnOk, OnErr};
 ghost use Rattle.std.specs.Option.{option_map};
 ghost use Rattle.record_homes.specs.Maps.{moved_to};
 ghost use Rattle.record_homes.specs.Libraries.{row_at, Sets};
@@ -7,6 +7,7 @@ ghost use Rattle.record_homes.specs.Libraries.{row_at, Sets};
 use crate::home::Home;
 use crate::move_to::MoveTo;
 use indexmap::IndexMap;
+use indexmap::map::Entry;
 use key_hashing::hashing::Hashing;
 use std::alloc::Global;
 use std::marker::Model;
@@ -47,13 +48,21 @@ impl LibraryHomes {
         }
     }
 
-    /// Puts a home under the control number. Returns `Memory` if allocation fails; all is as before then.
-    pub(crate) fn put(&mut self, control: Bytes, home: Home) -> Result<(), Memory>
-        ensures set { OnOk result (Sets self.old self.new control (Some home)) }
+    /// Puts a home under the control number if there is none, and answers whether there was none. Returns `Memory` if allocation
+    /// fails; all is as before then.
+    pub(crate) fn put(&mut self, control: Bytes, home: Home) -> Result<bool, Memory>
+        ensures new { IfOk result (λ new. new ≡ not (is_some (row_at self.old control))) }
+        ensures set { OnOk result (Sets self.old self.new control
+            (Some (unwrap_or (row_at self.old control) home))) }
         ensures kept { OnErr result (self.new ≡ self.old) }
     {
-        self.rows.insert(control, home)?;
-        Ok(())
+        match self.rows.entry(control)? {
+            Entry::Occupied(_) => Ok(false),
+            Entry::Vacant(entry) => {
+                entry.insert(home);
+                Ok(true)
+            }
+        }
     }
 
     /// Takes the home under the control number away, and answers whether there was one. Takes no memory.

@@ -1,5 +1,5 @@
 //! The homes of all current records.
-ghost use Rattle.std.specs.Prelude.{◌≡◌, [], None, Some, length, if◌then◌else◌, is_some, OnOk, OnErr};
+ghost use Rattle.std.specs.Prelude.{◌≡◌, [], None, Some, length, if◌then◌else◌, is_some, unwrap_or, not, IfOk, OnOk, OnErr};
 ghost use Rattle.std.specs.BTreeMap.{is_at, insert_entry};
 ghost use Rattle.std.specs.Map.{remove_entry};
 ghost use Rattle.std.specs.Option.{option_map};
@@ -79,26 +79,22 @@ impl HomeTable {
         }
     }
 
-    /// Whether there is a home under the id. Takes no memory.
-    pub fn contains_key(&self, id: &RecordId) -> bool
-        ensures { result ≡ is_some (at_id self.now.entries id.now) }
-    {
-        self.get(id).is_some()
-    }
-
-    /// Puts a home under an id that has none. Returns `Memory` if allocation fails; the homes are as before then.
-    pub fn insert(&mut self, alloc: Global, id: RecordId, home: Home) -> Result<(), Memory>
-        requires { at_id self.old.entries id ≡ None }
-        ensures inserted { OnOk result (self.new.entries
-            ≡ insert_entry id_cmp self.old.entries id home) }
+    /// Puts a home under the id if it has none, and answers whether it had none. Looks for the id once. Returns `Memory` if
+    /// allocation fails; the homes are as before then.
+    pub fn add(&mut self, alloc: Global, id: RecordId, home: Home) -> Result<bool, Memory>
+        ensures new { IfOk result (λ new. new ≡ not (is_some (at_id self.old.entries id))) }
+        ensures added { IfOk result (λ new. self.new.entries
+            ≡ (if new then insert_entry id_cmp self.old.entries id home else self.old.entries)) }
         ensures kept { OnErr result (self.new.entries ≡ self.old.entries) }
     {
         if self.count == u64::MAX {
             return Err(Memory);
         }
-        put(alloc, self.hashing, &mut self.libraries, id, home)?;
-        self.count += 1;
-        Ok(())
+        let new = put(alloc, self.hashing, &mut self.libraries, id, home)?;
+        if new {
+            self.count += 1;
+        }
+        Ok(new)
     }
 
     /// Takes the home under the id away, where there is one. Takes no memory.
@@ -127,17 +123,20 @@ impl HomeTable {
     }
 }
 
-/// Puts a home under the id. Returns `Memory` if allocation fails; each home is as before then.
+/// Puts a home under the id if it has none, and answers whether it had none. Returns `Memory` if allocation fails; each home is as
+/// before then.
 fn put(
     alloc: Global,
     hashing: Hashing,
     libraries: &mut BTreeMap<LibraryCode, LibraryHomes>,
     id: RecordId,
     home: Home,
-) -> Result<(), Memory>
+) -> Result<bool, Memory>
     ensures ordered { AreInOrder libraries.new.entries }
+    ensures new { IfOk result (λ new. new ≡ not (is_some (home_at libraries.old.entries id))) }
     ensures set { OnOk result ((q : RecordModel) → home_at libraries.new.entries q
-        ≡ (if is_at (id_cmp id) q then Some home else home_at libraries.old.entries q)) }
+        ≡ (if is_at (id_cmp id) q then Some (unwrap_or (home_at libraries.old.entries id) home)
+        else home_at libraries.old.entries q)) }
     ensures kept { OnErr result ((q : RecordModel)
         → home_at libraries.new.entries q ≡ home_at libraries.old.entries q) }
 {
@@ -148,7 +147,7 @@ fn put(
             let mut homes = LibraryHomes::empty(alloc, hashing);
             homes.put(control, home)?;
             libraries.insert(library, homes)?;
-            Ok(())
+            Ok(true)
         }
     }
 }

@@ -4,10 +4,14 @@
 //! edition is in. A plan notes each id that its turn touches: with a place if the record is current after the turn, and without
 //! one if it is not.
 //!
-//! Only a new id needs memory. So `admit` adds the new ids first, each with a blank home, or none of them if allocation fails.
-//! The calls after it (`move_all`, `house_all`) change or remove homes that are there. They take no memory and cannot fail.
-ghost use Rattle.std.specs.Prelude.{◌≡◌, ◌≤◌, length, map, fold, OnOk, OnErr};
-ghost use Rattle.catalogue_core.specs.Homes.{standing, admitted, taken_back, moved, housed, housed_all};
+//! Only a new id needs memory. So `admit` adds the homes of all new ids first, or none of them if allocation fails, and answers the
+//! other ids that the turn touched. The calls after it (`move_all`, `house_all`) change or remove homes that are there. They take
+//! no memory and cannot fail.
+//!
+//! Cost: `admit` searches the table once for each id that is current after the turn, `move_all` once for each touched id that is
+//! not new, and `house_all` once for each contributor of a block that the turn opens.
+ghost use Rattle.std.specs.Prelude.{◌≡◌, ◌≤◌, length, map, fold, IfOk, OnOk, OnErr};
+ghost use Rattle.catalogue_core.specs.Homes.{is_new, admitted, others, taken_back, moved, housed, housed_all};
 
 use catalogue_editions::edition::Edition;
 use record_homes::home::Home;
@@ -20,32 +24,56 @@ use union_base::copied::Copied;
 use union_base::memory::Memory;
 use union_base::record_id::RecordId;
 
-/// The home of a new id until `move_all` sets its place and `house_all` its block.
-const BLANK: Home = Home {
-    place: Place { turn: 0, op: 0 },
-    block: 0,
-};
+/// Adds a home for the id if it is new, and appends the id to `came` then. Answers whether it is new. The block in the home is 0
+/// until `house_all` sets it. Returns `Memory` if allocation fails; the homes are as before then.
+fn let_one_in<'a>(
+    alloc: Global,
+    homes: &mut HomeTable,
+    id: &'a RecordId,
+    place: Option<Place>,
+    came: &mut Vec<&'a RecordId>,
+) -> Result<bool, Memory>
+    ensures new { IfOk result (λ new. new ≡ is_new homes.old.entries (id.now, place)) }
+    ensures admitted { OnOk result (homes.new.entries
+        ≡ admitted homes.old.entries (id.now, place)) }
+    ensures back { taken_back homes.new.entries (map (λ id. id.now) came.new.items)
+        ≡ taken_back homes.old.entries (map (λ id. id.now) came.old.items) }
+{
+    match place {
+        Some(place) => {
+            came.reserve(1)?;
+            let new = homes.add(alloc, id.copied(alloc)?, Home { place, block: 0 })?;
+            if new {
+                came.push_reserved(id);
+            }
+            Ok(new)
+        }
+        None => Ok(false),
+    }
+}
 
-/// Adds a blank home for each id that is current by the plan and has no home, and appends the id to `came`. Returns `Memory` if
+/// Adds a home for each new id, and appends the id to `came`. Answers the other touched ids with their places. Returns `Memory` if
 /// allocation fails. Some homes may have been added by then; the id of each of them is in `came`.
 fn let_in<'a>(
     alloc: Global,
     homes: &mut HomeTable,
     touched: &'a BTreeMap<RecordId, Option<Place>>,
     came: &mut Vec<&'a RecordId>,
-) -> Result<(), Memory>
+) -> Result<Vec<(&'a RecordId, Option<Place>)>, Memory>
     ensures admitted { OnOk result (homes.new.entries
-        ≡ admitted homes.old.entries (standing touched.now.entries)) }
+        ≡ fold admitted homes.old.entries touched.now.entries) }
+    ensures others { IfOk result (λ rest. map (λ t. (t.0.now, t.1)) rest.items
+        ≡ others homes.old.entries touched.now.entries) }
     ensures back { taken_back homes.new.entries (map (λ id. id.now) came.new.items)
         ≡ taken_back homes.old.entries (map (λ id. id.now) came.old.items) }
 {
+    let mut rest = Vec::new(alloc);
     for (id, place) in touched.iter() {
-        if place.is_some() && !homes.contains_key(id) {
-            came.push(id)?;
-            homes.insert(alloc, id.copied(alloc)?, BLANK)?;
+        if !let_one_in(alloc, homes, id, *place, came)? {
+            rest.push((id, *place))?;
         }
     }
-    Ok(())
+    Ok(rest)
 }
 
 /// Removes the homes of the ids in `came`, the last first. Takes no memory.
@@ -58,20 +86,22 @@ fn take_back(homes: &mut HomeTable, mut came: Vec<&RecordId>)
     }
 }
 
-/// Adds a blank home for each id that is current by the plan and has no home. Returns `Memory` if allocation fails; the table is
-/// as before then.
-pub fn admit(
+/// Adds a home for each new id. Answers the other touched ids with their places, for `move_all`. Returns `Memory` if allocation
+/// fails; the table is as before then.
+pub fn admit<'a>(
     alloc: Global,
     homes: &mut HomeTable,
-    touched: &BTreeMap<RecordId, Option<Place>>,
-) -> Result<(), Memory>
+    touched: &'a BTreeMap<RecordId, Option<Place>>,
+) -> Result<Vec<(&'a RecordId, Option<Place>)>, Memory>
     ensures admitted { OnOk result (homes.new.entries
-        ≡ admitted homes.old.entries (standing touched.now.entries)) }
+        ≡ fold admitted homes.old.entries touched.now.entries) }
+    ensures others { IfOk result (λ rest. map (λ t. (t.0.now, t.1)) rest.items
+        ≡ others homes.old.entries touched.now.entries) }
     ensures kept { OnErr result (homes.new.entries ≡ homes.old.entries) }
 {
     let mut came = Vec::new(alloc);
     match let_in(alloc, homes, touched, &mut came) {
-        Ok(()) => Ok(()),
+        Ok(rest) => Ok(rest),
         Err(refused) => {
             take_back(homes, came);
             Err(refused)
@@ -89,13 +119,13 @@ fn move_one(homes: &mut HomeTable, id: &RecordId, place: Option<Place>)
     }
 }
 
-/// Sets the place in the home of each id that is current by the plan, and removes the home of each id that no longer is. Takes
-/// no memory.
-pub fn move_all(homes: &mut HomeTable, touched: &BTreeMap<RecordId, Option<Place>>)
-    ensures { homes.new.entries ≡ fold moved homes.old.entries touched.now.entries }
+/// Sets the place in the home of each of the ids, and removes the home of each that has no place. Takes no memory.
+pub fn move_all(homes: &mut HomeTable, touched: Vec<(&RecordId, Option<Place>)>)
+    ensures { homes.new.entries
+        ≡ fold moved homes.old.entries (map (λ t. (t.0.now, t.1)) touched.entry.items) }
 {
-    for (id, place) in touched.iter() {
-        move_one(homes, id, *place);
+    for (id, place) in touched {
+        move_one(homes, id, place);
     }
 }
 

@@ -148,12 +148,12 @@ pub fn install(
     ensures appended { OnOk result (history.new.items ≡ history.old.items ++ entry ∷ []) }
     ensures same { OnErr result (history.new.items ≡ history.old.items) }
 {
-    let regrouped = make_room_in_kept(alloc, blocks, &works.names, &mut works.works, &plan.change)?;
-    let numbers = blocks.make_room(alloc, &plan.change)?;
-    history.reserve(1)?;
-    admit(alloc, homes, &plan.touched)?;
     let Plan { change, touched } = plan;
-    move_all(homes, &touched);
+    let regrouped = make_room_in_kept(alloc, blocks, &works.names, &mut works.works, &change)?;
+    let numbers = blocks.make_room(alloc, &change)?;
+    history.reserve(1)?;
+    let rest = admit(alloc, homes, &touched)?;
+    move_all(homes, rest);
     house_all(homes, change.opened.as_slice(), numbers.as_slice());
     blocks.install(change);
     regroup(&mut works.works, regrouped);

@@ -1,11 +1,13 @@
 //! The plan of a turn for a batch whose loads were resolved among themselves before the turn.
 //!
-//! Each record that the batch loads or withdraws is withdrawn first, if it is current. Then the parts are inserted, one after the
-//! other: the editions to which the records that the batch leaves loaded resolve among themselves. Where each of these records was
-//! loaded, and what came of each operation, does not depend on the editions: one walk over the batch finds it.
+//! Where each of the batch's records was loaded, and what came of each operation, does not depend on the editions: one walk over
+//! the batch finds it. Then each current record that the batch loads or withdraws is withdrawn; a batch of new records has none, and
+//! is not walked again. Last the parts are inserted, one after the other: the editions to which the records that the batch leaves
+//! loaded resolve among themselves.
 //!
 //! Cost: at most the reach of the parts in match tests (specs/PreparedReaches.antt).
 ghost use Rattle.std.specs.Prelude.{◌≡◌, ◌≤◌, ◌+◌, ◌++◌, ◌∷◌, [], ℕ, List, true, false, is_some, unwrap_or, IfOk, OnOk};
+ghost use Rattle.std.specs.List.{list_any};
 ghost use Rattle.std.specs.BTreeMap.{is_at};
 ghost use Rattle.std.specs.Map.{remove_entry, values_of};
 ghost use Rattle.std.specs.Option.{option_map};
@@ -21,7 +23,7 @@ ghost use Rattle.catalogue_core.specs.Keeping.{batches, loaded, loaded_at, Stand
 ghost use Rattle.catalogue_editions.specs.Matching.{match as edition_match};
 ghost use Rattle.catalogue_editions.specs.Net.{net};
 ghost use Rattle.catalogue_core.specs.Plans.{batches_with, IsPlannedOn};
-ghost use Rattle.catalogue_core.specs.PreparedReaches.{without_named, without_all, IsReachOfLeaving, IsReachOfComing, IsReachOfParts};
+ghost use Rattle.catalogue_core.specs.PreparedReaches.{leaves, without_named, without_all, IsReachOfLeaving, IsReachOfComing, IsReachOfParts};
 ghost use Rattle.catalogue_core.specs.Reaches.{IsReachOfWithdrawal};
 ghost use Rattle.catalogue_core.specs.Touches.{IsTouched};
 ghost use Rattle.catalogue_editions.specs.declared.edition.Edition.{Edition as EditionModel};
@@ -143,11 +145,28 @@ fn insert_parts<L: Ledger>(
     Ok(change)
 }
 
-/// The plan that withdraws each current record which the batch loads or withdraws, and inserts nothing yet. Counts the match
-/// tests. Returns `Memory` if allocation fails.
+/// Whether the operation replaced or removed a current record.
+fn leaves(outcome: &Outcome) -> bool
+    ensures { result ≡ leaves outcome.now }
+{
+    matches!(outcome, Outcome::Replaced | Outcome::Removed)
+}
+
+/// Whether one of the operations replaced or removed a current record.
+fn any_leaves(outcomes: &[Outcome]) -> bool
+    ensures { result ≡ list_any leaves outcomes.now }
+{
+    outcomes.iter().any(|outcome| leaves(outcome))
+}
+
+/// The plan that withdraws each current record which the batch loads or withdraws, and inserts nothing yet. `found` has the outcomes
+/// of the batch's operations: if none is that a record was replaced or removed, the operations are not looked at, and the plan takes
+/// no memory. Else its `touched` notes the records withdrawn so far, so that each is withdrawn once. Counts the match tests. Returns
+/// `Memory` if allocation fails.
 fn without_named<L: Ledger>(
     alloc: Global,
     context: &Context<'_>,
+    found: &[Outcome],
     steps: &mut Steps<L>,
 ) -> Result<Plan, Memory>
     requires current { StandFor (batches context.now.history.now)
@@ -155,6 +174,8 @@ fn without_named<L: Ledger>(
     requires resolved { IsResolution edition_match join (bases context.now.history.now)
         (values_of_blocks (blocks_in context.now.blocks.now.blocks)) }
     requires housed { AreHoused context.now.blocks.now.blocks context.now.homes.now.entries }
+    requires found { found.now ≡ outcomes context.now.batch.now.library
+        (current context.now.history.now) context.now.batch.now.ops }
     ensures planned { IfOk result (λ plan. IsPlannedOn context.now
         (without_all context.now.batch.now.library (current context.now.history.now)
         context.now.batch.now.ops) plan) }
@@ -162,11 +183,14 @@ fn without_named<L: Ledger>(
         (current context.now.history.now) context.now.batch.now.ops number
         → steps.new ≤ steps.old + number }
 {
-    let ops = context.batch.ops.as_slice();
     let mut plan = Plan {
         change: context.blocks.start(),
         touched: BTreeMap::new(alloc),
     };
+    if !any_leaves(found) {
+        return Ok(plan);
+    }
+    let ops = context.batch.ops.as_slice();
     for op in ops {
         plan = withdraw_named(alloc, context, plan, op, steps)?;
     }
@@ -285,7 +309,7 @@ pub fn planned_parts<L: Ledger>(
         → steps.new ≤ steps.old + number }
 {
     let (touched, outcomes) = touch_all(alloc, context)?;
-    let Plan { change, touched: _ } = without_named(alloc, context, steps)?;
+    let Plan { change, touched: _ } = without_named(alloc, context, outcomes.as_slice(), steps)?;
     let change = insert_parts(alloc, context.blocks, change, parts, steps)?;
     Ok((Plan { change, touched }, outcomes))
 }

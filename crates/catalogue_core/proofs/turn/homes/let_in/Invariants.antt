@@ -1,10 +1,14 @@
-use Rattle.std.proofs.Common.{◌≡◌, map}
-use Rattle.catalogue_core.specs.Homes.{standing, admitted, taken_back}
+use Rattle.std.proofs.Common.{◌≡◌, Bor, map}
+use Rattle.std.specs.Prelude.{Option}
+use Rattle.union_base.specs.declared.record_id.RecordId.{RecordId}
+use Rattle.record_homes.specs.declared.place.Place.{Place}
+use Rattle.catalogue_core.specs.Homes.{taken_back}
+use Rattle.catalogue_core.proofs.HomeLaws.{LetsIn}
 use Rattle.catalogue_core.proofs.turn.homes.let_in.Given as goal
 
--- letting in the ids that are left lets in all of them; taking back those that came leaves what taking back the earlier ones leaves
+-- the ids so far are let in or listed; taking back those that came leaves what taking back the earlier ones leaves
 abbrev pub invariant-loop-id : goal.invariant-loop-id
 invariant-loop-id l = record {
-  admits : admitted l.homes.entries (standing l.id-iterator) ≡ admitted l.initial.homes.entries (standing l.touched.entries);
+  lets : LetsIn l.initial.homes.entries l.touched.entries l.homes.entries (map (λ (t : Bor RecordId × Option Place). (t.0.now, t.1)) l.rest.items) l.id-iterator;
   back : taken_back l.homes.entries (map (λ id. id.now) l.came.items) ≡ taken_back l.initial.homes.entries (map (λ id. id.now) l.initial.came.items);
 }

@@ -1,5 +1,9 @@
-use Rattle.std.proofs.Common.{rules, List, refl, ap, ◌∙◌}
+use Rattle.std.proofs.Common.{rules, List, Bor, map, refl, ap, ◌∙◌}
+use Rattle.std.specs.Prelude.{Option}
+use Rattle.union_base.specs.declared.record_id.RecordId.{RecordId}
+use Rattle.record_homes.specs.declared.place.Place.{Place}
 use Rattle.catalogue_core.specs.Grouping.{kept_works, list_in, regrouped}
+use Rattle.catalogue_core.specs.Histories.{MapOf}
 use Rattle.catalogue_core.specs.Homes.{Block, housed_all}
 use Rattle.catalogue_core.proofs.InstallLaws.{installed}
 use Rattle.catalogue_core.proofs.turn.installing.install.Goals as goal
@@ -7,9 +11,11 @@ use Rattle.catalogue_core.proofs.turn.installing.install.Goals as goal
 pub returns-clause-kept : goal.returns-clause-kept
 returns-clause-kept c =
     let change = c.args.plan.change in
+    let rest : MapOf (Option Place) = map (λ (t : Bor RecordId × Option Place). (t.0.now, t.1)) c.in_ok-rest.rest.items in
     installed c.args.history.now.items c.args.entry c.args.homes.now.entries c.args.blocks.now.blocks (kept_works c.args.works.now) c.requires.kept
     change.closed.items change.opened.items c.args.plan.touched.entries c.requires.planned
-    c.admit.new.homes.entries c.in_ok-admit.ensures.admitted
+    c.admit.new.homes.entries c.in_ok-rest.ensures.admitted
+    rest c.in_ok-rest.ensures.others
     c.move_all.new.homes.entries c.move_all.ensures
     c.in_ok-numbers.numbers.items c.in_ok-numbers.ensures.numbers
     c.house_all.new.homes.entries (c.house_all.ensures ∙ ap (λ (es : List Block). housed_all c.move_all.new.homes.entries es c.as_slice-2.result.now) c.as_slice.ensures.value ∙ ap (housed_all c.move_all.new.homes.entries change.opened.items) c.as_slice-2.ensures.value)

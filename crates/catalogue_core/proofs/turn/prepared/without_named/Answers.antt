@@ -1,10 +1,25 @@
-use Rattle.std.proofs.Common.{◌≡◌, ◌<◌, ◌++◌, ◌∷◌, [], List, length, get_or, refl, subst}
+use Rattle.std.proofs.Common.{◌≡◌, ◌<◌, ◌++◌, ◌∷◌, [], List, length, get_or, refl, sym, ap, subst, ◌∙◌}
+use Rattle.std.specs.List.{list_any}
 use Rattle.catalogue_core.specs.Histories.{current, id_of}
 use Rattle.catalogue_core.specs.Keeping.{batches}
+use Rattle.catalogue_core.specs.Plans.{IsPlanned}
+use Rattle.catalogue_core.specs.PreparedReaches.{leaves}
 use Rattle.catalogue_editions.specs.declared.op.Op.{Op}
-use Rattle.catalogue_core.proofs.LeavingLaws.{leaves-begin, leaves-paid, leaves-next}
-use Rattle.catalogue_core.proofs.TurnLaws.{plan-begins}
+use Rattle.catalogue_core.proofs.LeavingLaws.{leaves-begin, leaves-paid, leaves-next, none-leaves}
+use Rattle.catalogue_core.proofs.TurnLaws.{ordered-current, plan-begins}
 use Rattle.catalogue_core.proofs.turn.prepared.without_named.Goals as goal
+
+pub returns-then-not-any_leaves-clause-planned : goal.returns-then-not-any_leaves-clause-planned
+returns-then-not-any_leaves-clause-planned g c =
+    let history = c.args.context.now.history.now in
+    let batch = c.args.context.now.batch.now in
+    let homes = c.args.context.now.homes.now.entries in
+    let blocks = c.args.context.now.blocks.now.blocks in
+    let stay = none-leaves batch.library (current history) (current history) batch.ops (ordered-current history) (λ q is. is)
+    (ap (list_any leaves) (sym c.requires.found) ∙ sym c.any_leaves.ensures ∙ c.if-not-any_leaves.true) in
+    subst (λ all. IsPlanned (batches history ++ batch ∷ []) homes blocks all c.start.result.closed.items c.start.result.opened.items c.new.result.entries) (sym stay)
+    (plan-begins history batch homes blocks c.start.result.closed.items c.start.result.opened.items c.new.result.entries c.start.ensures.closed c.start.ensures.opened c.new.ensures.empty c.requires.current c.requires.resolved
+    c.start.ensures.fits)
 
 pub loop-op-init : goal.loop-op-init
 loop-op-init g c =
