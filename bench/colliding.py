@@ -1,11 +1,12 @@
 #!/usr/bin/env python3
-"""Makes records whose control pairs collide in the index: bench/colliding.py COUNT > FILE
+"""Makes records whose control pairs collide by the kit's hasher: bench/colliding.py COUNT > FILE
 
-The index is a hash map of the kit (indexmap) with the kit's hasher FoldHasher: it multiplies 16 bytes at a time to 128 bits and joins the
-halves by xor, from a state that is the same in every run. Where the first 8 of 16 bytes are the state itself, the product is 0 and so is
-the state after it, whatever the other 8 bytes are. So a source is looked for after which the state is 8 printable bytes, and all
-numbers that begin with these 8 bytes and have 16 are alike to the hasher. The homes of a library's records are a map of the same kind, in
-which a control number stands alone; there 16 bytes are looked for after which the state is 8 printable bytes.
+The index is a hash map of the kit (indexmap). The kit's hasher FoldHasher multiplies 16 bytes at a time to 128 bits and joins the halves
+by xor, from a state that is the same in every run; the program's does the same by a state and a multiplier that each run draws, so these
+records should cost it no more than others. Where the first 8 of 16 bytes are the state itself, the product is 0 and so is the state after
+it, whatever the other 8 bytes are. So a source is looked for after which the state is 8 printable bytes, and all numbers that begin with
+these 8 bytes and have 16 are alike to FoldHasher. The homes of a library's records are a map of the same kind, in which a control number
+stands alone; there 16 bytes are looked for after which the state is 8 printable bytes.
 """
 import sys
 
@@ -58,7 +59,8 @@ def hash_of(source, number):
 
 
 def is_printable(text):
-    return all(0x21 <= byte <= 0x7E for byte in text)
+    """Whether it can stand in a field that is written with `$` for the mark of a subfield."""
+    return all(0x21 <= byte <= 0x7E and byte != 0x24 for byte in text)
 
 
 def colliding():
