@@ -77,9 +77,9 @@ impl Reading {
     }
 }
 
-/// Reads a file of names to its end, into a table that hashes headings by these numbers. A frame is refused for the first rule that fails: those on how it is cut, then those on length,
-/// leader, directory, ranges and shape of fields, and then the reasons of the table (`NameTable::add`). The others are taken into
-/// the table; one of status `d` gives nothing.
+/// Reads a file of names to its end, into a table that hashes headings by these numbers. A frame is refused for the first rule that
+/// fails: those on how it is cut, then those on length, leader, directory, ranges and shape of fields, and then the reasons of the
+/// table (`NameTable::add`). The others are taken into the table; one of status `d` gives nothing.
 ///
 /// Returns `TooLong` where the source gave 2^40 bytes and at least one more, `Failed` where a read failed, and `Memory` if allocation
 /// fails.
