@@ -1,8 +1,9 @@
 //! A shelf in memory, whose opens and reads fail where its scripts say so.
 ghost use Rattle.std.specs.Prelude.{◌≡◌, ◌≢◌, ◌<◌, ◌≤◌, ℕ, List, [], Some, None, false, IsTrue, IsErrOf, IfOk, OnOk, OnErr, IsSomeAnd, MatchOption};
+ghost use Rattle.union_io.specs.Causes.{Rose, next_count};
 ghost use Rattle.union_io.specs.Counts.{SameCounts, SameElsewhere};
 ghost use Rattle.union_io.specs.Files.{told_file};
-ghost use Rattle.union_io.specs.Names.{AddsName};
+ghost use Rattle.union_io.specs.Names.{AddsName, is_among};
 ghost use Rattle.union_io.specs.Opening.{CountsOpen, ListsOpen};
 ghost use Rattle.union_io.specs.Opened.{names_in, count_in};
 ghost use Rattle.union_io.specs.Script.{after_call, new_script};
@@ -186,7 +187,8 @@ impl Shelf for MemShelf {
         ensures names { ListsOpen result (names_in self.old.names) (names_in self.new.names)
             path.now }
 
-        // exactly these opens fail, and each other gives the file from its beginning
+        // no file changes, exactly these opens fail, and each other gives the file from its beginning
+        ensures same { self.new.files ≡ self.old.files }
         ensures fails { IsErrOf result OpenFail.Failed → IsTrue (open_fails self.old path.now) }
         ensures ok { IfOk result (λ source. (open_fails self.old path.now ≡ false)
             × IsSomeAnd (at_name self.old.files path.now)
@@ -204,7 +206,26 @@ impl Shelf for MemShelf {
         }
     }
 
-    fn give_back(&mut self, source: MemSource) {
+    /// Takes the source back, and counts one fault of its name exactly where a read of it failed. Neither the files change nor
+    /// which opens fail.
+    fn give_back(&mut self, source: MemSource)
+        requires { IsTrue (is_among source.name (names_in self.old.names)) }
+        ensures files { Some (content_at self.new.files) ≡ Some (content_at self.old.files) }
+        ensures names { names_in self.new.names ≡ names_in self.old.names }
+        ensures later { count_in self.old.names source.name
+            ≤ count_in self.new.names source.name }
+        ensures raised { 0 < source.faults → Rose (count_in self.old.names source.name)
+            (count_in self.new.names source.name) }
+        ensures calm { source.faults ≡ 0
+            → SameCounts (count_in self.old.names) (count_in self.new.names) }
+        ensures others { SameElsewhere (count_in self.old.names) (count_in self.new.names)
+            source.name }
+
+        ensures same { self.new.files ≡ self.old.files }
+        ensures script { self.new.script ≡ self.old.script }
+        ensures once { 0 < source.faults → count_in self.new.names source.name
+            ≡ next_count (count_in self.old.names source.name) }
+    {
         self.names.take_back(source.name(), source.faults());
     }
 }

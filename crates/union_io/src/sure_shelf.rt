@@ -121,6 +121,7 @@ impl Shelf for SureShelf {
         ensures names { ListsOpen result (names_in self.old.names) (names_in self.new.names)
             path.now }
 
+        ensures same { self.new.files ≡ self.old.files }
         ensures never_failed { result ≢ Err OpenFail.Failed }
     {
         let source = self.source_of(alloc, path)?;
@@ -128,5 +129,8 @@ impl Shelf for SureShelf {
         Ok(source)
     }
 
-    fn give_back(&mut self, _source: SureSource) {}
+    /// Takes the source back, and changes nothing.
+    fn give_back(&mut self, _source: SureSource)
+        ensures { self.new ≡ self.old }
+    {}
 }
