@@ -121,7 +121,11 @@ impl Ord for LibraryCode {
 
     ghost matches_eq = { texts_ties };
 
+    /// Most codes that are compared are equal, and then all sixteen bytes are, which is quicker to tell.
     fn cmp(&self, other: &LibraryCode) -> Ordering {
+        if self.size == other.size && self.buffer == other.buffer {
+            return Ordering::Equal;
+        }
         self.bytes().cmp(other.bytes())
     }
 }
