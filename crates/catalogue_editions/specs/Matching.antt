@@ -1,8 +1,8 @@
 -- Which editions match, the keys that an edition has, and those of an index: by its features alone.
-use Rattle.std.specs.Prelude.{Bool}
+use Rattle.std.specs.Prelude.{◌≡◌, Bool, List}
 use Rattle.match_features.specs.Meeting.{meet}
 use Rattle.match_features.specs.Keys.{HasKey, share_key}
-use Rattle.match_features.specs.Posted.{IsPosted, Seeks}
+use Rattle.match_features.specs.Posted.{IsPosted, Seeks, sought}
 use Rattle.match_features.specs.declared.keys.FeatureKey.{FeatureKey}
 use Rattle.catalogue_editions.specs.declared.edition.Edition.{Edition}
 
@@ -25,3 +25,7 @@ IsPostedUnder x key = IsPosted x.features key
 -- the key is one by which an index is asked for editions that may match this one
 abbrev pub SeeksKey : Edition → FeatureKey → Type 0
 SeeksKey x key = Seeks x.features key
+
+-- the list has the keys by which an index is asked for editions that may match this one, in order
+abbrev pub IsSoughtBy : Edition → List FeatureKey → Type 0
+IsSoughtBy x keys = keys ≡ sought x.features

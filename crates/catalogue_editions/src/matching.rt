@@ -1,12 +1,12 @@
 //! Which editions match, as `specs/Matching.antt` has it: by their features alone.
-ghost use Rattle.std.specs.Prelude.{refl};
+ghost use Rattle.std.specs.Prelude.{◌≢◌, ◌↔◌, AllPairs, Contains, IfOk, refl};
 ghost use Rattle.catalogue_editions.specs.Matching.{match as edition_match, HasFeatureKey, share};
-ghost use Rattle.catalogue_editions.specs.Matching.{IsPostedUnder, SeeksKey};
+ghost use Rattle.catalogue_editions.specs.Matching.{IsPostedUnder, SeeksKey, IsSoughtBy};
 ghost use Rattle.catalogue_editions.specs.MatchLaws.{edition_match_laws, edition_key_laws, edition_seeking_laws};
 ghost use Rattle.catalogue_editions.specs.ExactKeys.{exact_keys};
 
 use crate::edition::Edition;
-use match_features::keys::{FeatureKey, feature_keys, posted_keys, sought_keys};
+use match_features::keys::{FeatureKey, feature_keys, posted_keys, posted_of_sought, sought_keys};
 use merge_laws::resolvable::Resolvable;
 use merge_laws::steps::Steps;
 use std::alloc::Global;
@@ -27,6 +27,8 @@ impl Resolvable for Edition {
 
     ghost seeks = { SeeksKey };
 
+    ghost is_sought = { IsSoughtBy };
+
     fn matches<L: Ledger>(&self, other: &Edition, steps: &mut Steps<L>) -> bool {
         steps.tick();
         self.features().meets(other.features())
@@ -42,6 +44,19 @@ impl Resolvable for Edition {
 
     fn sought_keys(&self, alloc: Global) -> Result<Vec<FeatureKey>, Memory> {
         sought_keys(alloc, self.features())
+    }
+
+    fn posted_of_sought(
+        &self,
+        alloc: Global,
+        keys: Vec<FeatureKey>,
+    ) -> Result<Vec<FeatureKey>, Memory>
+        requires { IsSoughtBy self.now keys.items }
+        ensures keys { IfOk result (λ keys. (k : FeatureKey)
+            → Contains keys.items k ↔ IsPostedUnder self.now k) }
+        ensures once { IfOk result (λ keys. AllPairs (λ j k. j ≢ k) keys.items) }
+    {
+        posted_of_sought(alloc, self.features(), keys)
     }
 
     fn copy_key(alloc: Global, key: &FeatureKey) -> Result<FeatureKey, Memory> {

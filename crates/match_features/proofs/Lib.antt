@@ -4,3 +4,4 @@ pub mod MemberLaws
 pub mod MeetLaws
 pub mod KeyLaws
 pub mod PostedLaws
+pub mod TitledLaws

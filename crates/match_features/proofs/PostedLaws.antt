@@ -253,10 +253,10 @@ sought-from_member x k h =
     let descriptions = description_keys x.titles x.dates x.names in
     let many = map TitleOfMany x.titles in
     let titles = map Title x.titles in
-    elim (has_few x) as (λ b. has_few x ≡ b → Contains (numbers ++ cond b (descriptions ++ many) titles) k → Seeks x k) [
-      | true ↦ λ few c. elim (Contains-append_cases numbers (descriptions ++ many) k c) [
+    elim (has_few x) as (λ b. has_few x ≡ b → Contains (numbers ++ cond b (many ++ descriptions) titles) k → Seeks x k) [
+      | true ↦ λ few c. elim (Contains-append_cases numbers (many ++ descriptions) k c) [
         | inl number ↦ number-from_member x k number
-        | inr more ↦ elim (Contains-append_cases descriptions many k more) [ inl e ↦ sought-from_description x k few e | inr e ↦ sought-from_many x k few e ]
+        | inr more ↦ elim (Contains-append_cases many descriptions k more) [ inl e ↦ sought-from_many x k few e | inr e ↦ sought-from_description x k few e ]
       ]
       | false ↦ λ not-few c. elim (Contains-append_cases numbers titles k c) [
         | inl number ↦ number-from_member x k number
@@ -265,10 +265,10 @@ sought-from_member x k h =
     ] refl h
 
 from_number : (x : Features) (k : FeatureKey) → Contains (number_keys x) k → Contains (sought x) k
-from_number x k h = Contains-append_left (number_keys x) (cond (has_few x) (description_keys x.titles x.dates x.names ++ map TitleOfMany x.titles) (map Title x.titles)) k h
+from_number x k h = Contains-append_left (number_keys x) (cond (has_few x) (map TitleOfMany x.titles ++ description_keys x.titles x.dates x.names) (map Title x.titles)) k h
 
 abbrev sought_by : Features → Bool → List FeatureKey
-sought_by x few = number_keys x ++ cond few (description_keys x.titles x.dates x.names ++ map TitleOfMany x.titles) (map Title x.titles)
+sought_by x few = number_keys x ++ cond few (map TitleOfMany x.titles ++ description_keys x.titles x.dates x.names) (map Title x.titles)
 
 member-from_sought : (x : Features) (k : FeatureKey) → Seeks x k → Contains (sought x) k
 member-from_sought x (Control pair) h =
@@ -287,12 +287,12 @@ member-from_sought x (Title title) (many, ct) =
     (Contains-append_right (number_keys x) (map Title x.titles) (Title title) (member-map Title x.titles title ct))
 member-from_sought x (Description key) (few, ct, cd, cn) =
     subst (λ b. Contains (sought_by x b) (Description key)) (sym few)
-    (Contains-append_right (number_keys x) (description_keys x.titles x.dates x.names ++ map TitleOfMany x.titles) (Description key)
-    (Contains-append_left (description_keys x.titles x.dates x.names) (map TitleOfMany x.titles) (Description key) (member-from_description x.titles x.dates x.names key.0 key.1 key.2 ct cd cn)))
+    (Contains-append_right (number_keys x) (map TitleOfMany x.titles ++ description_keys x.titles x.dates x.names) (Description key)
+    (Contains-append_right (map TitleOfMany x.titles) (description_keys x.titles x.dates x.names) (Description key) (member-from_description x.titles x.dates x.names key.0 key.1 key.2 ct cd cn)))
 member-from_sought x (TitleOfMany title) (few, ct) =
     subst (λ b. Contains (sought_by x b) (TitleOfMany title)) (sym few)
-    (Contains-append_right (number_keys x) (description_keys x.titles x.dates x.names ++ map TitleOfMany x.titles) (TitleOfMany title)
-    (Contains-append_right (description_keys x.titles x.dates x.names) (map TitleOfMany x.titles) (TitleOfMany title) (member-map TitleOfMany x.titles title ct)))
+    (Contains-append_right (number_keys x) (map TitleOfMany x.titles ++ description_keys x.titles x.dates x.names) (TitleOfMany title)
+    (Contains-append_left (map TitleOfMany x.titles) (description_keys x.titles x.dates x.names) (TitleOfMany title) (member-map TitleOfMany x.titles title ct)))
 
 pub features_sought : (x : Features) (k : FeatureKey) → Contains (sought x) k ↔ Seeks x k
 features_sought x k = (sought-from_member x k, member-from_sought x k)

@@ -58,10 +58,10 @@ number_keys x = map Control x.control ++ map Isbn x.isbns ++ map Issn x.issns
 abbrev pub posted_by_title : Features → List FeatureKey
 posted_by_title x = if has_few x then description_keys x.titles x.dates x.names else map TitleOfMany x.titles
 
--- each title with each date and each name and each title as that of many where there are few, and else each title
+-- each title as that of many and each title with each date and each name where there are few, and else each title
 abbrev pub sought_by_title : Features → List FeatureKey
 sought_by_title x =
-    if has_few x then description_keys x.titles x.dates x.names ++ map TitleOfMany x.titles else map Title x.titles
+    if has_few x then map TitleOfMany x.titles ++ description_keys x.titles x.dates x.names else map Title x.titles
 
 -- the keys under which features are posted, in order
 abbrev pub posted : Features → List FeatureKey
@@ -70,3 +70,8 @@ posted x = keys x ++ posted_by_title x
 -- the keys that features seek, in order
 abbrev pub sought : Features → List FeatureKey
 sought x = number_keys x ++ sought_by_title x
+
+-- a title as that of many, as a title alone; any other key, as it is
+abbrev pub titled : FeatureKey → FeatureKey
+titled (TitleOfMany title) = Title title
+titled key = key

@@ -51,8 +51,8 @@ pub(crate) fn gathered(
         control,
         isbns: Vec::new(alloc),
         issns: Vec::new(alloc),
-        titles: Vec::new(alloc),
-        names: Vec::new(alloc),
+        titles: Vec::with_capacity(alloc, 1)?,
+        names: Vec::with_capacity(alloc, 1)?,
     };
     for field in fields {
         found.take(alloc, field)?;

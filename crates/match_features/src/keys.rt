@@ -1,13 +1,14 @@
 //! The keys that features have, as `specs/Keys.antt` has them, and those of an index, as `specs/Posted.antt` has them.
 ghost use Rattle.std.specs.Prelude.{◌≡◌, ◌≢◌, ◌↔◌, ◌++◌, IfOk, OnOk, Contains, AllPairs, map, min, length, ◌*◌, ◌-◌, ◌^◌, []};
 ghost use Rattle.match_features.specs.Keys.{keys, HasKey};
-ghost use Rattle.match_features.specs.Posted.{has_few, IsPosted, Seeks, number_keys, description_keys, dated_keys, posted, posted_by_title, sought, sought_by_title};
+ghost use Rattle.match_features.specs.Posted.{has_few, IsPosted, Seeks, number_keys, description_keys, dated_keys, posted, posted_by_title, sought, sought_by_title, titled};
 
 use crate::control_pair::ControlPair;
 use crate::description_key::DescriptionKey;
 use crate::features::Features;
 use std::alloc::Global;
 use std::hash::{Hash, Hasher};
+use std::mem;
 use union_base::bytes::Bytes;
 use union_base::copied::Copied;
 use union_base::memory::Memory;
@@ -134,8 +135,8 @@ pub fn posted_keys(alloc: Global, features: &Features) -> Result<Vec<FeatureKey>
     Ok(found)
 }
 
-/// The keys by which an index is asked for features that may meet these: those of their numbers, and each title with each date
-/// and each name and each title as that of many, or each title where there are more than 64 such triples.
+/// The keys by which an index is asked for features that may meet these: those of their numbers, and each title as that of many
+/// and each title with each date and each name, or each title where there are more than 64 such triples.
 ///
 /// Returns `Memory` if allocation fails.
 pub fn sought_keys(alloc: Global, features: &Features) -> Result<Vec<FeatureKey>, Memory>
@@ -147,6 +148,48 @@ pub fn sought_keys(alloc: Global, features: &Features) -> Result<Vec<FeatureKey>
     push_number_keys(alloc, &mut found, features)?;
     push_sought_by_title(alloc, &mut found, features)?;
     Ok(found)
+}
+
+/// The keys of `posted_keys`, made of those of `sought_keys`, which are moved and not made again.
+///
+/// Returns `Memory` if allocation fails.
+pub fn posted_of_sought(
+    alloc: Global,
+    features: &Features,
+    keys: Vec<FeatureKey>,
+) -> Result<Vec<FeatureKey>, Memory>
+    requires { keys.items ≡ sought features.now }
+    ensures value { IfOk result (λ found. found.items ≡ posted features.now) }
+    ensures had { IfOk result (λ found. (k : FeatureKey)
+        → Contains found.items k ↔ IsPosted features.now k) }
+    ensures once { IfOk result (λ found. AllPairs (λ j k. j ≢ k) found.items) }
+{
+    let mut keys = keys;
+    if has_few(features) {
+        entitle_all(alloc, &mut keys);
+    } else {
+        push_keys_of_many(alloc, &mut keys, features.titles.as_slice())?;
+    }
+    Ok(keys)
+}
+
+/// Makes each title as that of many a title alone. Takes no memory.
+fn entitle_all(alloc: Global, keys: &mut Vec<FeatureKey>)
+    ensures { keys.new.items ≡ map titled keys.old.items }
+{
+    for key in keys.iter_mut() {
+        entitle(alloc, key);
+    }
+}
+
+/// Makes a title as that of many a title alone, and leaves any other key. Takes no memory.
+fn entitle(alloc: Global, key: &mut FeatureKey)
+    ensures { key.new ≡ titled key.old }
+{
+    if let FeatureKey::TitleOfMany(title) = key {
+        let title = mem::replace(title, Bytes::from(Vec::new(alloc)));
+        *key = FeatureKey::Title(title);
+    }
 }
 
 /// Whether the features have at most 64 triples of a title, a date and a name.
@@ -271,7 +314,7 @@ fn push_posted_by_title(
     }
 }
 
-/// Puts each title with each date and each name last, and each title as that of many; or each title.
+/// Puts each title as that of many last, and each title with each date and each name; or each title.
 fn push_sought_by_title(
     alloc: Global,
     found: &mut Vec<FeatureKey>,
@@ -281,11 +324,10 @@ fn push_sought_by_title(
 {
     let titles = features.titles.as_slice();
     if has_few(features) {
-        push_description_keys(alloc, found, features)?;
-        push_keys_of_many(alloc, found, titles)
-    } else {
-        push_title_keys(alloc, found, titles)
+        push_keys_of_many(alloc, found, titles)?;
+        return push_description_keys(alloc, found, features);
     }
+    push_title_keys(alloc, found, titles)
 }
 
 /// Puts each title with each date and each name last.

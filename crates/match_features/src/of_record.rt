@@ -105,7 +105,7 @@ fn own_source(alloc: Global, code: &[u8]) -> Result<Bytes, Memory>
 fn types_of(alloc: Global, rec: &Record) -> Result<Vec<[u8; 2]>, Memory>
     ensures { IfOk result (λ types. types.items ≡ types_of rec.now) }
 {
-    let mut types = Vec::new(alloc);
+    let mut types = Vec::with_capacity(alloc, 1)?;
     types.push([rec.leader.kind, rec.leader.level])?;
     Ok(types)
 }
@@ -114,7 +114,7 @@ fn types_of(alloc: Global, rec: &Record) -> Result<Vec<[u8; 2]>, Memory>
 fn date_in(alloc: Global, text: &[u8]) -> Result<Vec<[u8; 4]>, Memory>
     ensures { IfOk result (λ dates. dates.items ≡ date_in text.now) }
 {
-    let mut dates = Vec::new(alloc);
+    let mut dates = Vec::with_capacity(alloc, 1)?;
     if let Some(date) = year_of(text) {
         dates.push(date)?;
     }

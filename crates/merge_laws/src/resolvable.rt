@@ -1,5 +1,5 @@
 //! Values that match or do not, and merge where they do.
-ghost use Rattle.std.specs.Prelude.{◌≡◌, ◌≢◌, ◌+◌, ◌↔◌, Bool, true, IfOk, Contains, AllPairs};
+ghost use Rattle.std.specs.Prelude.{◌≡◌, ◌≢◌, ◌+◌, ◌↔◌, Bool, true, List, IfOk, Contains, AllPairs};
 ghost use Rattle.merge_laws.specs.Resolution.{MatchLaws, KeyLaws};
 ghost use Rattle.merge_laws.specs.Candidates.{SeekingLaws};
 
@@ -35,6 +35,9 @@ pub trait Resolvable: Join {
     /// What a value can match is looked up under a key.
     ghost seeks: { Self → Self.Key → Type 0 };
 
+    /// A list has the keys that a value seeks, as `sought_keys` tells them.
+    ghost is_sought: { Self → List Self.Key → Type 0 };
+
     /// Whether the values match. Counts exactly one step, and takes no memory.
     fn matches<L: Ledger>(&self, other: &Self, steps: &mut Steps<L>) -> bool
         ensures answer { result ≡ meets self.now other.now }
@@ -52,9 +55,23 @@ pub trait Resolvable: Join {
             → Contains keys.items k ↔ is_posted self.now k) }
         ensures once { IfOk result (λ keys. AllPairs (λ j k. j ≢ k) keys.items) };
 
-    /// The keys under which what the value can match is looked up, in any order. Returns `Memory` if allocation fails.
+    /// The keys under which what the value can match is looked up. Returns `Memory` if allocation fails.
     fn sought_keys(&self, alloc: Global) -> Result<Vec<Self::Key>, Memory>
-        ensures { IfOk result (λ keys. (k : Self.Key) → Contains keys.items k ↔ seeks self.now k) };
+        ensures told { IfOk result (λ keys. is_sought self.now keys.items) }
+        ensures keys { IfOk result (λ keys. (k : Self.Key)
+            → Contains keys.items k ↔ seeks self.now k) };
+
+    /// The same as `posted_keys`, made of the keys that the value seeks, as `sought_keys` has answered them: what is in both need
+    /// not be made twice. Returns `Memory` if allocation fails.
+    fn posted_of_sought(
+        &self,
+        alloc: Global,
+        keys: Vec<Self::Key>,
+    ) -> Result<Vec<Self::Key>, Memory>
+        requires { is_sought self.now keys.items }
+        ensures keys { IfOk result (λ keys. (k : Self.Key)
+            → Contains keys.items k ↔ is_posted self.now k) }
+        ensures once { IfOk result (λ keys. AllPairs (λ j k. j ≢ k) keys.items) };
 
     /// An equal key. Returns `Memory` if allocation fails.
     fn copy_key(alloc: Global, key: &Self::Key) -> Result<Self::Key, Memory>

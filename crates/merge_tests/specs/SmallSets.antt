@@ -1,7 +1,7 @@
 -- Sets of numbers that are not empty, which match where they meet and merge by union: the values that the tests resolve.
 -- A set is seen as a number n, where the binary digits of n + 1 say which numbers are in it. So each n is a set, and no
 -- set is empty.
-use Rattle.std.specs.Prelude.{◌≡◌, ℕ, zero, suc, ◌+◌, ◌-◌, ◌/◌, ◌%◌, ◌<◌, ◌≤◌, ◌↔◌, ◌⊎◌, Bool, true, IsTrue, nat_eq, nat_lt, bit_and, bit_or, refl, max, min}
+use Rattle.std.specs.Prelude.{◌≡◌, ◌≢◌, List, Contains, AllPairs, ℕ, zero, suc, ◌+◌, ◌-◌, ◌/◌, ◌%◌, ◌<◌, ◌≤◌, ◌↔◌, ◌⊎◌, Bool, true, IsTrue, nat_eq, nat_lt, bit_and, bit_or, refl, max, min}
 use Rattle.std.specs.Int.{bit_at}
 use Rattle.std.proofs.Common.{sym, ◌∙◌, ap, inl, inr, arith}
 use Rattle.std.proofs.Math.Decide.{dec_lt}
@@ -13,6 +13,10 @@ use Rattle.merge_laws.specs.Resolution.{JoinLaws, MatchLaws, KeyLaws}
 -- The number k is in the set.
 abbrev pub HasNumber : ℕ → ℕ → Type 0
 HasNumber n k = bit_at (n + 1) k ≡ 1
+
+-- The list has the numbers in the set, each once.
+abbrev pub AreNumbers : ℕ → List ℕ → Type 0
+AreNumbers n keys = ((k : ℕ) → Contains keys k ↔ HasNumber n k) × AllPairs (λ j k. j ≢ k) keys
 
 -- the union of two sets, each not empty, as numbers: the number n stands for the binary digits of n + 1
 abbrev pub union : ℕ → ℕ → ℕ

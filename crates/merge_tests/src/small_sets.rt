@@ -3,8 +3,8 @@
 //!
 //! Guarantee: the laws of both traits, by specs/SmallSets.antt. Cost: a set is one word, and no call takes memory but
 //! those that make keys. An index has a set under each of its numbers, which are also what it seeks.
-ghost use Rattle.std.specs.Prelude.{◌≡◌, ◌+◌, ◌-◌, ◌<◌, ◌↔◌, ℕ, IfSome, IsNone};
-ghost use Rattle.merge_tests.specs.SmallSets.{HasNumber, union, meet, union_laws, meet_laws, number_laws, seeking_laws, numbers_exact};
+ghost use Rattle.std.specs.Prelude.{◌≡◌, ◌≢◌, ◌+◌, ◌-◌, ◌<◌, ◌↔◌, ℕ, AllPairs, Contains, IfOk, IfSome, IsNone};
+ghost use Rattle.merge_tests.specs.SmallSets.{HasNumber, AreNumbers, union, meet, union_laws, meet_laws, number_laws, seeking_laws, numbers_exact};
 
 use merge_laws::join::Join;
 use merge_laws::resolvable::Resolvable;
@@ -81,6 +81,8 @@ impl Resolvable for SmallSet {
 
     ghost seeks = { HasNumber };
 
+    ghost is_sought = { AreNumbers };
+
     fn matches<L: Ledger>(&self, other: &SmallSet, steps: &mut Steps<L>) -> bool {
         steps.tick();
         self.mask & other.mask != 0
@@ -103,6 +105,14 @@ impl Resolvable for SmallSet {
 
     fn sought_keys(&self, alloc: Global) -> Result<Vec<u32>, Memory> {
         self.index_keys(alloc)
+    }
+
+    fn posted_of_sought(&self, _alloc: Global, keys: Vec<u32>) -> Result<Vec<u32>, Memory>
+        requires { AreNumbers self.now keys.items }
+        ensures keys { IfOk result (λ keys. (k : ℕ) → Contains keys.items k ↔ HasNumber self.now k) }
+        ensures once { IfOk result (λ keys. AllPairs (λ j k. j ≢ k) keys.items) }
+    {
+        Ok(keys)
     }
 
     fn copy_key(_alloc: Global, key: &u32) -> Result<u32, Memory> {

@@ -48,7 +48,8 @@ impl<R: Resolvable> Model for Seeker<R> {
 
     ghost view = { λ s. record { value = s.value; keys = s.sought.items } };
 
-    ghost invariant = { λ s. AreSought R.seeks s.value s.sought.items };
+    ghost invariant = { λ s. AreSought R.seeks s.value s.sought.items
+        × R.is_sought s.value s.sought.items };
 }
 
 impl<R: Resolvable> Seeker<R> {
@@ -64,7 +65,8 @@ impl<R: Resolvable> Seeker<R> {
     pub(crate) fn keyed(self, alloc: Global) -> Result<Keyed<R>, Memory>
         ensures { IfOk result (λ k. k.value ≡ self.value) }
     {
-        let Seeker { value, sought: _ } = self;
-        Keyed::of(alloc, value)
+        let Seeker { value, sought } = self;
+        let keys = value.posted_of_sought(alloc, sought)?;
+        Ok(Keyed { value, keys })
     }
 }

@@ -9,7 +9,7 @@ returns-in-Some-clause-cost g c =
     let keys = c.value.inside.sought.items in
     let value = c.args.value.now.value in
     let look : IsLook g.R.Resolvable.is_posted g.R.Resolvable.seeks c.args.self.now.blocks value keys c.deref-number-items.result.now = record {
-      keyed = subst (λ v. AreSought g.R.Resolvable.seeks v keys) (ap (λ (e : Entry g.row.R.Denot g.row.R-Key.Denot). e.value) c.value.view_is) c.value.invariant;
+      keyed = subst (λ v. AreSought g.R.Resolvable.seeks v keys) (ap (λ (e : Entry g.row.R.Denot g.row.R-Key.Denot). e.value) c.value.view_is) c.value.invariant.0;
       ascending = rw items c.in_ok-numbers.ensures.ascending;
       members = rw (items, ← c.as_slice.ensures.value, ← c.self.view_is) (c.in_ok-numbers.ensures.members c.self.inside.blocks.items c.self.invariant.posted);
     } in
@@ -23,7 +23,7 @@ loop-number-preserved g c =
     let keys = c.value.inside.sought.items in
     let value = c.args.value.now.value in
     let look : IsLook g.R.Resolvable.is_posted g.R.Resolvable.seeks c.args.self.now.blocks value keys c.deref-number-items.result.now = record {
-      keyed = subst (λ v. AreSought g.R.Resolvable.seeks v keys) (ap (λ (e : Entry g.row.R.Denot g.row.R-Key.Denot). e.value) c.value.view_is) c.value.invariant;
+      keyed = subst (λ v. AreSought g.R.Resolvable.seeks v keys) (ap (λ (e : Entry g.row.R.Denot g.row.R-Key.Denot). e.value) c.value.view_is) c.value.invariant.0;
       ascending = rw items c.in_ok-numbers.ensures.ascending;
       members = rw (items, ← c.as_slice.ensures.value, ← c.self.view_is) (c.in_ok-numbers.ensures.members c.self.inside.blocks.items c.self.invariant.posted);
     } in
@@ -39,7 +39,7 @@ returns-clause-none g c =
     let keys = c.value.inside.sought.items in
     let value = c.args.value.now.value in
     let look : IsLook g.R.Resolvable.is_posted g.R.Resolvable.seeks c.args.self.now.blocks value keys c.deref-number-items.result.now = record {
-      keyed = subst (λ v. AreSought g.R.Resolvable.seeks v keys) (ap (λ (e : Entry g.row.R.Denot g.row.R-Key.Denot). e.value) c.value.view_is) c.value.invariant;
+      keyed = subst (λ v. AreSought g.R.Resolvable.seeks v keys) (ap (λ (e : Entry g.row.R.Denot g.row.R-Key.Denot). e.value) c.value.view_is) c.value.invariant.0;
       ascending = rw items c.in_ok-numbers.ensures.ascending;
       members = rw (items, ← c.as_slice.ensures.value, ← c.self.view_is) (c.in_ok-numbers.ensures.members c.self.inside.blocks.items c.self.invariant.posted);
     } in
@@ -51,7 +51,7 @@ returns-clause-cost g c =
     let keys = c.value.inside.sought.items in
     let value = c.args.value.now.value in
     let look : IsLook g.R.Resolvable.is_posted g.R.Resolvable.seeks c.args.self.now.blocks value keys c.deref-number-items.result.now = record {
-      keyed = subst (λ v. AreSought g.R.Resolvable.seeks v keys) (ap (λ (e : Entry g.row.R.Denot g.row.R-Key.Denot). e.value) c.value.view_is) c.value.invariant;
+      keyed = subst (λ v. AreSought g.R.Resolvable.seeks v keys) (ap (λ (e : Entry g.row.R.Denot g.row.R-Key.Denot). e.value) c.value.view_is) c.value.invariant.0;
       ascending = rw items c.in_ok-numbers.ensures.ascending;
       members = rw (items, ← c.as_slice.ensures.value, ← c.self.view_is) (c.in_ok-numbers.ensures.members c.self.inside.blocks.items c.self.invariant.posted);
     } in

@@ -13,7 +13,7 @@ returns-then-matches_at-clause-cost g c =
     let numbers = c.deref-number-items.result.now in
     let mine : c.self.inside.values.items ≡ items = ap (λ (l : Listed g.row.R.Denot g.row.R-Key.Denot). l.items) c.self.view_is in
     let look : IsLook g.R.Resolvable.is_posted g.R.Resolvable.seeks (map Some items) value keys numbers = record {
-      keyed = subst (λ v. AreSought g.R.Resolvable.seeks v keys) (ap (λ (e : Entry g.row.R.Denot g.row.R-Key.Denot). e.value) c.value.view_is) c.value.invariant;
+      keyed = subst (λ v. AreSought g.R.Resolvable.seeks v keys) (ap (λ (e : Entry g.row.R.Denot g.row.R-Key.Denot). e.value) c.value.view_is) c.value.invariant.0;
       ascending = rw c.deref-number-items.ensures.value c.in_ok-numbers.ensures.ascending;
       members = rw (c.deref-number-items.ensures.value, ← c.as_slice.ensures.value) (c.in_ok-numbers.ensures.members (map Some items) (rw mine at c.self.invariant));
     } in
@@ -29,7 +29,7 @@ loop-number-preserved g c =
     let numbers = c.deref-number-items.result.now in
     let mine : c.self.inside.values.items ≡ items = ap (λ (l : Listed g.row.R.Denot g.row.R-Key.Denot). l.items) c.self.view_is in
     let look : IsLook g.R.Resolvable.is_posted g.R.Resolvable.seeks (map Some items) value keys numbers = record {
-      keyed = subst (λ v. AreSought g.R.Resolvable.seeks v keys) (ap (λ (e : Entry g.row.R.Denot g.row.R-Key.Denot). e.value) c.value.view_is) c.value.invariant;
+      keyed = subst (λ v. AreSought g.R.Resolvable.seeks v keys) (ap (λ (e : Entry g.row.R.Denot g.row.R-Key.Denot). e.value) c.value.view_is) c.value.invariant.0;
       ascending = rw c.deref-number-items.ensures.value c.in_ok-numbers.ensures.ascending;
       members = rw (c.deref-number-items.ensures.value, ← c.as_slice.ensures.value) (c.in_ok-numbers.ensures.members (map Some items) (rw mine at c.self.invariant));
     } in
@@ -47,7 +47,7 @@ returns-clause-none g c =
     let numbers = c.deref-number-items.result.now in
     let mine : c.self.inside.values.items ≡ items = ap (λ (l : Listed g.row.R.Denot g.row.R-Key.Denot). l.items) c.self.view_is in
     let look : IsLook g.R.Resolvable.is_posted g.R.Resolvable.seeks (map Some items) value keys numbers = record {
-      keyed = subst (λ v. AreSought g.R.Resolvable.seeks v keys) (ap (λ (e : Entry g.row.R.Denot g.row.R-Key.Denot). e.value) c.value.view_is) c.value.invariant;
+      keyed = subst (λ v. AreSought g.R.Resolvable.seeks v keys) (ap (λ (e : Entry g.row.R.Denot g.row.R-Key.Denot). e.value) c.value.view_is) c.value.invariant.0;
       ascending = rw c.deref-number-items.ensures.value c.in_ok-numbers.ensures.ascending;
       members = rw (c.deref-number-items.ensures.value, ← c.as_slice.ensures.value) (c.in_ok-numbers.ensures.members (map Some items) (rw mine at c.self.invariant));
     } in
@@ -62,7 +62,7 @@ returns-clause-cost g c =
     let numbers = c.deref-number-items.result.now in
     let mine : c.self.inside.values.items ≡ items = ap (λ (l : Listed g.row.R.Denot g.row.R-Key.Denot). l.items) c.self.view_is in
     let look : IsLook g.R.Resolvable.is_posted g.R.Resolvable.seeks (map Some items) value keys numbers = record {
-      keyed = subst (λ v. AreSought g.R.Resolvable.seeks v keys) (ap (λ (e : Entry g.row.R.Denot g.row.R-Key.Denot). e.value) c.value.view_is) c.value.invariant;
+      keyed = subst (λ v. AreSought g.R.Resolvable.seeks v keys) (ap (λ (e : Entry g.row.R.Denot g.row.R-Key.Denot). e.value) c.value.view_is) c.value.invariant.0;
       ascending = rw c.deref-number-items.ensures.value c.in_ok-numbers.ensures.ascending;
       members = rw (c.deref-number-items.ensures.value, ← c.as_slice.ensures.value) (c.in_ok-numbers.ensures.members (map Some items) (rw mine at c.self.invariant));
     } in

@@ -1,0 +1,67 @@
+-- The keys under which features are posted, made of those that they seek.
+use Rattle.std.proofs.Common.{◌≡◌, true, false, cond, ℕ, zero, suc, ◌+◌, ◌<◌, List, [], ◌∷◌, ◌++◌, length, map, take, drop, slice_set, slice_index_or, append_assoc, refl, sym, ◌∙◌, ap, arith}
+use Rattle.std.specs.List.{flat_map}
+use Rattle.std.proofs.lemmas.List.{map-append}
+use Rattle.std.proofs.lemmas.List.Concat.{flat_map-cons}
+use Rattle.match_features.specs.declared.features.Features.{Features}
+use Rattle.match_features.specs.declared.keys.FeatureKey.{FeatureKey}
+use Rattle.match_features.specs.declared.keys.FeatureKey.TheVariants.{Control, Isbn, Issn, Title, Description, TitleOfMany}
+use Rattle.match_features.specs.Posted.{has_few, dated_keys, description_keys, number_keys, posted, sought, titled}
+
+-- keys of one kind, as keys of the kind that each becomes
+each-titled : {A : Type 0} (f g : A → FeatureKey) → ((a : A) → titled (f a) ≡ g a) → (xs : List A) → map titled (map f xs) ≡ map g xs
+each-titled f g same [] = refl
+each-titled f g same (x ∷ xs) = λ i. same x i ∷ each-titled f g same xs i
+
+-- lists of keys that stay stay one after the other
+all-stay : {A : Type 0} (f : A → List FeatureKey) → ((a : A) → map titled (f a) ≡ f a) → (xs : List A) → map titled (flat_map f xs) ≡ flat_map f xs
+all-stay f same [] = refl
+all-stay f same (x ∷ xs) =
+    ap (map titled) (flat_map-cons f x xs) ∙ map-append titled (f x) (flat_map f xs) ∙
+    (λ i. same x i ++ all-stay f same xs i) ∙ sym (flat_map-cons f x xs)
+
+descriptions-stay : (titles dates names : List (List ℕ)) → map titled (description_keys titles dates names) ≡ description_keys titles dates names
+descriptions-stay titles dates names =
+    all-stay (λ title. dated_keys title dates names)
+    (λ title. all-stay (λ date. map (λ name. Description (title, date, name)) names)
+    (λ date. each-titled (λ name. Description (title, date, name)) (λ name. Description (title, date, name)) (λ name. refl) names) dates) titles
+
+numbers-stay : (x : Features) → map titled (number_keys x) ≡ number_keys x
+numbers-stay x =
+    map-append titled (map Control x.control ++ map Isbn x.isbns) (map Issn x.issns) ∙
+    (λ i. (map-append titled (map Control x.control) (map Isbn x.isbns) ∙
+    (λ j. each-titled Control Control (λ p. refl) x.control j ++ each-titled Isbn Isbn (λ p. refl) x.isbns j)) i ++
+    each-titled Issn Issn (λ p. refl) x.issns i)
+
+-- where there are few triples
+pub posted-from_few : (x : Features) → has_few x ≡ true → map titled (sought x) ≡ posted x
+posted-from_few x few =
+    let numbers = number_keys x in
+    let descriptions = description_keys x.titles x.dates x.names in
+    let many = map TitleOfMany x.titles in
+    let own = map Title x.titles in
+    (λ i. map titled (numbers ++ cond (few i) (many ++ descriptions) own)) ∙
+    map-append titled numbers (many ++ descriptions) ∙
+    (λ i. numbers-stay x i ++ (map-append titled many descriptions ∙
+    (λ j. each-titled TitleOfMany Title (λ p. refl) x.titles j ++ descriptions-stay x.titles x.dates x.names j)) i) ∙
+    sym (append_assoc numbers own descriptions) ∙
+    (λ i. (numbers ++ own) ++ cond (sym few i) descriptions many)
+
+-- where there are more
+pub posted-from_many : (x : Features) → has_few x ≡ false → sought x ++ map TitleOfMany x.titles ≡ posted x
+posted-from_many x not-few =
+    let descriptions = description_keys x.titles x.dates x.names in
+    let many = map TitleOfMany x.titles in
+    let own = map Title x.titles in
+    (λ i. (number_keys x ++ cond (not-few i) (many ++ descriptions) own) ++ many) ∙
+    (λ i. (number_keys x ++ own) ++ cond (sym not-few i) descriptions many)
+
+-- the first keys are those that they become; after the next one is changed too, one more is
+pub one-more : (keys : List FeatureKey) (i : ℕ) (k : FeatureKey) → i < length keys
+    → slice_set (map titled (take i keys) ++ drop i keys) i (titled (slice_index_or (map titled (take i keys) ++ drop i keys) i k))
+    ≡ map titled (take (i + 1) keys) ++ drop (i + 1) keys
+one-more [] i k within = absurd (omega arith)
+one-more (key ∷ keys) zero k within = refl
+one-more (key ∷ keys) (suc i) k within =
+    let next : suc i + 1 ≡ suc (i + 1) = omega arith in
+    rw next (ap (λ rest. titled key ∷ rest) (one-more keys i k (omega arith)))
