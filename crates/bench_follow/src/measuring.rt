@@ -6,6 +6,7 @@ use crate::asking::{Asking, ask_until};
 use crate::loading::{Loading, load_timed};
 use catalogue_core::catalogue::Catalogue;
 use key_hashing::hashing::Hashing;
+use load_results::reports::Reports;
 use snapshot_desk::opening::open;
 use std::alloc::Global;
 use std::sync::Wait;
@@ -17,7 +18,6 @@ use union_files::opening::open_rest;
 use union_follow::turning::Load;
 use union_io::shelf::Shelf;
 use union_io::source::Source;
-use union_load::reports::Reports;
 use union_words::libraries::Libraries;
 
 /// What a load took, and what a viewer beside it answered. Times are in microseconds.

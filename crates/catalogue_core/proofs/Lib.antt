@@ -15,6 +15,7 @@ pub mod WalkLaws
 pub mod PartsLaws
 pub mod LeavingLaws
 pub mod TouchLaws
+mod TouchedLaws
 mod ToldLaws
 mod Images
 mod Unranked

@@ -237,17 +237,17 @@ module _ {all : List Batch} {homes : MapOf Home} {blocks : List (Option Block)} 
       ≡ cond t None (place_of homes touched q)) [ true ↦ refl | false ↦ refl ]
 
   pub plan-withdrawn : (gone key : RecordId) (closed' : List ℕ) (opened' : List Block) (touched' : MapOf (Option Place)) → key ≡ gone
-      → ((q : RecordId) → at_id touched' q ≡ cond (same key q) (Some None) (at_id touched q)) → IsStrictlySortedBy id_cmp (keys_of touched')
+      → touched' ≡ insert_entry id_cmp touched key None
       → Fits match blocks closed' opened' → IsResolution match join (values_of (remove_entry (same gone) now)) (view_of blocks closed' opened')
       → IsPlanned all homes blocks (remove_entry (same gone) now) closed' opened' touched'
-  plan-withdrawn gone key closed' opened' touched' is updates up fits resolved = record {
+  plan-withdrawn gone key closed' opened' touched' is inserted fits resolved = record {
     stands = λ q.
-        ap (option_map (loaded_at all)) (touched-none gone key q touched' is (updates q))
+        ap (option_map (loaded_at all)) (touched-none gone key q touched' is (ap (λ all. at_id all q) inserted ∙ at-inserted touched key None q))
         ∙ elim (same gone q) as (λ t. option_map (loaded_at all) (cond t None (place_of homes touched q)) ≡ option_map Some (cond t None (at_id now q))) [ true ↦ refl | false ↦ p.stands q ]
         ∙ ap (option_map Some) (sym (at-removed now gone q p.ordered));
     ordered = ordered-removed now (same gone) p.ordered;
     single = single-remove now (same gone) p.single;
-    touches = up;
+    touches = subst (λ (all : MapOf (Option Place)). IsStrictlySortedBy id_cmp (keys_of all)) (sym inserted) (ordered-inserted touched key None p.touches);
     fits = fits;
     resolved = resolved;
   }
@@ -263,14 +263,14 @@ module _ {all : List Batch} {homes : MapOf Home} {blocks : List (Option Block)} 
 
   pub plan-inserted : (e : Edition) (id key : RecordId) (place : Place) (closed' : List ℕ) (opened' : List Block) (touched' : MapOf (Option Place)) → key ≡ id
       → e.content.contributors ≡ id ∷ [] → is_current now id ≡ false → loaded_at all place ≡ Some e
-      → ((q : RecordId) → at_id touched' q ≡ cond (same key q) (Some (Some place)) (at_id touched q)) → IsStrictlySortedBy id_cmp (keys_of touched')
+      → touched' ≡ insert_entry id_cmp touched key (Some place)
       → Fits match blocks closed' opened' → IsResolution match join (view_of blocks closed opened ++ e ∷ []) (view_of blocks closed' opened')
       → IsPlanned all homes blocks (insert_entry id_cmp now id e) closed' opened' touched'
-  plan-inserted e id key place closed' opened' touched' is own new loads updates up fits resolved =
+  plan-inserted e id key place closed' opened' touched' is own new loads inserted fits resolved =
       let grown = grown-insert now id e new in
       record {
         stands = λ q.
-            ap (option_map (loaded_at all)) (touched-some id key q place touched' is (updates q))
+            ap (option_map (loaded_at all)) (touched-some id key q place touched' is (ap (λ all. at_id all q) inserted ∙ at-inserted touched key (Some place) q))
             ∙ elim (same id q) as (λ t. option_map (loaded_at all) (cond t (Some place) (place_of homes touched q)) ≡ option_map Some (cond t (Some e) (at_id now q))) [
               | true ↦ ap Some loads
               | false ↦ p.stands q
@@ -278,7 +278,7 @@ module _ {all : List Batch} {homes : MapOf Home} {blocks : List (Option Block)} 
             ∙ ap (option_map Some) (sym (at-inserted now id e q));
         ordered = ordered-inserted now id e p.ordered;
         single = single-insert now id e p.single own;
-        touches = up;
+        touches = subst (λ (all : MapOf (Option Place)). IsStrictlySortedBy id_cmp (keys_of all)) (sym inserted) (ordered-inserted touched key (Some place) p.touches);
         fits = fits;
         resolved = resolved-by_members (values_of (insert_entry id_cmp now id e)) (values_of now ++ e ∷ []) (view_of blocks closed' opened')
             (λ x c. elim (grown.only x c) [

@@ -41,16 +41,16 @@ module _ {all : List Batch} {homes : MapOf Home} {editions : MapOf Edition} {tou
 
   -- a load
   pub touches-load : (library : List ℕ) (op : Op) (e : Edition) (key : RecordId) (place : Place) (touched' : MapOf (Option Place)) → op ≡ Load e → key ≡ id_of library op
-      → is_own_op library op ≡ true → loaded_at all place ≡ loaded op → ((q : RecordId) → at_id touched' q ≡ cond (same key q) (Some (Some place)) (at_id touched q))
-      → IsStrictlySortedBy id_cmp (keys_of touched') → IsTouched all homes (after_op library editions op) touched'
-  touches-load library op e key place touched' load is own loads updates up =
+      → is_own_op library op ≡ true → loaded_at all place ≡ loaded op → touched' ≡ insert_entry id_cmp touched key (Some place)
+      → IsTouched all homes (after_op library editions op) touched'
+  touches-load library op e key place touched' load is own loads inserted =
       let Of : Op → Type 0 = λ o. key ≡ id_of library o → is_own_op library o ≡ true → loaded_at all place ≡ loaded o → IsTouched all homes (after_op library editions o) touched' in
       subst Of (sym load) loaded_so is own loads
     where
       loaded_so : key ≡ least e → is_own_op library (Load e) ≡ true → loaded_at all place ≡ Some e → IsTouched all homes (insert_entry id_cmp editions (least e) e) touched'
       loaded_so named mine there = record {
         stands = λ q.
-            ap (option_map (loaded_at all)) (found-at (least e) key q (Some place) touched' named (updates q))
+            ap (option_map (loaded_at all)) (found-at (least e) key q (Some place) touched' named (ap (λ all. at_id all q) inserted ∙ at-inserted touched key (Some place) q))
             ∙ elim (same (least e) q) as (λ b. option_map (loaded_at all) (cond b (Some place) (place_of homes touched q)) ≡ option_map Some (cond b (Some e) (at_id editions q))) [
               | true ↦ ap Some there
               | false ↦ t.stands q
@@ -58,14 +58,13 @@ module _ {all : List Batch} {homes : MapOf Home} {editions : MapOf Edition} {tou
             ∙ ap (option_map Some) (sym (at-inserted editions (least e) e q));
         ordered = ordered-inserted editions (least e) e t.ordered;
         single = single-op library editions (Load e) t.single mine;
-        touches = up;
+        touches = subst (λ (all' : MapOf (Option Place)). IsStrictlySortedBy id_cmp (keys_of all')) (sym inserted) (ordered-inserted touched key (Some place) t.touches);
       }
 
   -- a withdrawal
   pub touches-withdrawal : (library : List ℕ) (op : Op) (control : List ℕ) (key : RecordId) (touched' : MapOf (Option Place)) → op ≡ Withdraw control → key ≡ id_of library op
-      → ((q : RecordId) → at_id touched' q ≡ cond (same key q) (Some None) (at_id touched q)) → IsStrictlySortedBy id_cmp (keys_of touched')
-      → IsTouched all homes (after_op library editions op) touched'
-  touches-withdrawal library op control key touched' gone is updates up =
+      → touched' ≡ insert_entry id_cmp touched key None → IsTouched all homes (after_op library editions op) touched'
+  touches-withdrawal library op control key touched' gone is inserted =
       let Of : Op → Type 0 = λ o. key ≡ id_of library o → IsTouched all homes (after_op library editions o) touched' in
       subst Of (sym gone) withdrawn_so is
     where
@@ -75,12 +74,12 @@ module _ {all : List Batch} {homes : MapOf Home} {editions : MapOf Edition} {tou
       withdrawn_so : key ≡ id → IsTouched all homes (remove_entry (same id) editions) touched'
       withdrawn_so named = record {
         stands = λ q.
-            ap (option_map (loaded_at all)) (found-at id key q None touched' named (updates q))
+            ap (option_map (loaded_at all)) (found-at id key q None touched' named (ap (λ all. at_id all q) inserted ∙ at-inserted touched key None q))
             ∙ elim (same id q) as (λ b. option_map (loaded_at all) (cond b None (place_of homes touched q)) ≡ option_map Some (cond b None (at_id editions q))) [ true ↦ refl | false ↦ t.stands q ]
             ∙ ap (option_map Some) (sym (at-removed editions id q t.ordered));
         ordered = ordered-removed editions (same id) t.ordered;
         single = single-remove editions (same id) t.single;
-        touches = up;
+        touches = subst (λ (all' : MapOf (Option Place)). IsStrictlySortedBy id_cmp (keys_of all')) (sym inserted) (ordered-inserted touched key None t.touches);
       }
 
   touched-current : (id : RecordId) → is_some (place_of homes touched id) ≡ is_current editions id

@@ -19,6 +19,8 @@ pub mod Keeping
 pub mod Homes
 pub mod ClosedKeys
 pub mod Grouping
+pub mod TouchedIds
+pub mod HeldIds
 pub mod Plans
 pub mod Reaches
 pub mod Kept

@@ -13,12 +13,12 @@
 ghost use Rattle.std.specs.Prelude.{◌≡◌, ◌≤◌, length, map, fold, IfOk, OnOk, OnErr};
 ghost use Rattle.catalogue_core.specs.Homes.{is_new, admitted, others, taken_back, moved, housed, housed_all};
 
+use crate::turn::ascending_ids::AscendingIds;
 use catalogue_editions::edition::Edition;
 use record_homes::home::Home;
 use record_homes::place::Place;
 use record_homes::table::HomeTable;
 use std::alloc::Global;
-use std::collections::BTreeMap;
 use swoosh_resolver::keyed::Keyed;
 use union_base::copied::Copied;
 use union_base::memory::Memory;
@@ -57,7 +57,7 @@ fn let_one_in<'a>(
 fn let_in<'a>(
     alloc: Global,
     homes: &mut HomeTable,
-    touched: &'a BTreeMap<RecordId, Option<Place>>,
+    touched: &'a AscendingIds,
     came: &mut Vec<&'a RecordId>,
 ) -> Result<Vec<(&'a RecordId, Option<Place>)>, Memory>
     ensures admitted { OnOk result (homes.new.entries
@@ -68,7 +68,8 @@ fn let_in<'a>(
         ≡ taken_back homes.old.entries (map (λ id. id.now) came.old.items) }
 {
     let mut rest = Vec::new(alloc);
-    for (id, place) in touched.iter() {
+    let entries = touched.entries();
+    for (id, place) in entries {
         if !let_one_in(alloc, homes, id, *place, came)? {
             rest.push((id, *place))?;
         }
@@ -91,7 +92,7 @@ fn take_back(homes: &mut HomeTable, mut came: Vec<&RecordId>)
 pub fn admit<'a>(
     alloc: Global,
     homes: &mut HomeTable,
-    touched: &'a BTreeMap<RecordId, Option<Place>>,
+    touched: &'a AscendingIds,
 ) -> Result<Vec<(&'a RecordId, Option<Place>)>, Memory>
     ensures admitted { OnOk result (homes.new.entries
         ≡ fold admitted homes.old.entries touched.now.entries) }
@@ -99,7 +100,7 @@ pub fn admit<'a>(
         ≡ others homes.old.entries touched.now.entries) }
     ensures kept { OnErr result (homes.new.entries ≡ homes.old.entries) }
 {
-    let mut came = Vec::new(alloc);
+    let mut came = Vec::with_capacity(alloc, touched.entries().len())?;
     match let_in(alloc, homes, touched, &mut came) {
         Ok(rest) => Ok(rest),
         Err(refused) => {

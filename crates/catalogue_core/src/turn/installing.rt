@@ -152,6 +152,7 @@ pub fn install(
     let regrouped = make_room_in_kept(alloc, blocks, &works.names, &mut works.works, &change)?;
     let numbers = blocks.make_room(alloc, &change)?;
     history.reserve(1)?;
+    let touched = touched.into_list(alloc)?;
     let rest = admit(alloc, homes, &touched)?;
     move_all(homes, rest);
     house_all(homes, change.opened.as_slice(), numbers.as_slice());

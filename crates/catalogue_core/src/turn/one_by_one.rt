@@ -18,13 +18,13 @@ ghost use Rattle.catalogue_editions.specs.Matching.{match as edition_match};
 use crate::turn::context::Context;
 use crate::turn::plan::Plan;
 use crate::turn::steps::{insert, place_of, withdraw};
+use crate::turn::touched::Touched;
 use catalogue_editions::edition::Edition;
 use catalogue_editions::op::Op;
 use catalogue_editions::outcome::Outcome;
 use merge_laws::steps::Steps;
 use record_homes::place::Place;
 use std::alloc::Global;
-use std::collections::BTreeMap;
 use std::sync::ledger::Ledger;
 use union_base::bytes::Bytes;
 use union_base::copied::Copied;
@@ -157,9 +157,10 @@ pub fn planned<L: Ledger>(
 {
     let ops = context.batch.ops.as_slice();
     let mut outcomes = Vec::with_capacity(alloc, ops.len())?;
+    let touched = Touched::with_capacity(alloc, ops.len())?;
     let mut plan = Plan {
         change: context.blocks.start(),
-        touched: BTreeMap::new(alloc),
+        touched,
     };
     let turn = context.history.len();
     for (i, op) in ops.iter().enumerate() {

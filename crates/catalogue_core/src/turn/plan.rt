@@ -1,14 +1,12 @@
 //! Plans: what a turn makes of a catalogue, worked out before anything of the catalogue changes.
+use crate::turn::touched::Touched;
 use catalogue_editions::edition::Edition;
-use record_homes::place::Place;
-use std::collections::BTreeMap;
 use swoosh_resolver::change::Change;
-use union_base::record_id::RecordId;
 
 /// What a turn makes of a catalogue, as far as it is worked out: the change of its blocks; and under each id that the turn
 /// touched the place at which the record was loaded that is current by now, or none.
 #[derive(Drop)]
 pub struct Plan {
     pub change: Change<Edition>,
-    pub touched: BTreeMap<RecordId, Option<Place>>,
+    pub touched: Touched,
 }

@@ -32,6 +32,7 @@ ghost use Rattle.catalogue_editions.specs.declared.batch.Batch.{Batch as BatchMo
 use crate::turn::context::Context;
 use crate::turn::plan::Plan;
 use crate::turn::steps::{place_of, withdraw};
+use crate::turn::touched::Touched;
 use catalogue_editions::edition::Edition;
 use catalogue_editions::op::Op;
 use catalogue_editions::outcome::Outcome;
@@ -40,7 +41,6 @@ use record_homes::home::Home;
 use record_homes::place::Place;
 use record_homes::table::HomeTable;
 use std::alloc::Global;
-use std::collections::BTreeMap;
 use std::sync::ledger::Ledger;
 use swoosh_resolver::blocks::Blocks;
 use swoosh_resolver::change::Change;
@@ -185,7 +185,7 @@ fn without_named<L: Ledger>(
 {
     let mut plan = Plan {
         change: context.blocks.start(),
-        touched: BTreeMap::new(alloc),
+        touched: Touched::new(alloc),
     };
     if !any_leaves(found) {
         return Ok(plan);
@@ -213,7 +213,7 @@ fn is_current(touched: Option<Option<Place>>, home: Option<Home>) -> bool
 fn touch_op(
     alloc: Global,
     homes: &HomeTable,
-    touched: &mut BTreeMap<RecordId, Option<Place>>,
+    touched: &mut Touched,
     library: &LibraryCode,
     place: Place,
     op: &Op,
@@ -232,7 +232,7 @@ fn touch_op(
     let home = homes.get(&id);
     match op {
         Op::Load(_) => {
-            let before = touched.insert(id, Some(place))?;
+            let before = touched.insert(alloc, id, Some(place))?;
             Ok(if is_current(before, home) {
                 Outcome::Replaced
             } else {
@@ -240,7 +240,7 @@ fn touch_op(
             })
         }
         Op::Withdraw(_) => {
-            let before = touched.insert(id, None)?;
+            let before = touched.insert(alloc, id, None)?;
             Ok(if is_current(before, home) {
                 Outcome::Removed
             } else {
@@ -252,10 +252,7 @@ fn touch_op(
 
 /// What the batch makes of each record that it loads or withdraws, as the next turn of the history: the place at which the record
 /// was loaded, or none if it is withdrawn in the end. And what came of each operation. Returns `Memory` if allocation fails.
-fn touch_all(
-    alloc: Global,
-    context: &Context<'_>,
-) -> Result<(BTreeMap<RecordId, Option<Place>>, Vec<Outcome>), Memory>
+fn touch_all(alloc: Global, context: &Context<'_>) -> Result<(Touched, Vec<Outcome>), Memory>
     requires { StandFor (batches context.now.history.now) (places_in context.now.homes.now.entries)
         (current context.now.history.now) }
     ensures touched { IfOk result (λ turn. IsTouched (batches_with context.now)
@@ -267,7 +264,7 @@ fn touch_all(
 {
     let ops = context.batch.ops.as_slice();
     let mut outcomes = Vec::with_capacity(alloc, ops.len())?;
-    let mut touched = BTreeMap::new(alloc);
+    let mut touched = Touched::with_capacity(alloc, ops.len())?;
     let turn = context.history.len();
     for (i, op) in ops.iter().enumerate() {
         let place = Place { turn, op: i };

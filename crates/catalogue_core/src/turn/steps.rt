@@ -22,6 +22,7 @@ ghost use Rattle.catalogue_editions.specs.declared.edition.Edition.{Edition as E
 use crate::keeping::loaded_in;
 use crate::turn::context::Context;
 use crate::turn::plan::Plan;
+use crate::turn::touched::Touched;
 use catalogue_editions::edition::Edition;
 use cluster_reopen::parts::reopen;
 use merge_laws::join::Join;
@@ -29,7 +30,6 @@ use merge_laws::steps::Steps;
 use record_homes::place::Place;
 use record_homes::table::HomeTable;
 use std::alloc::Global;
-use std::collections::BTreeMap;
 use std::sync::ledger::Ledger;
 use swoosh_resolver::blocks::Blocks;
 use swoosh_resolver::change::{self, Change};
@@ -39,15 +39,11 @@ use union_base::memory::Memory;
 use union_base::record_id::RecordId;
 
 /// The place at which the record with this id was loaded, if the plan leaves it current, else None. Takes no memory.
-pub fn place_of(
-    homes: &HomeTable,
-    touched: &BTreeMap<RecordId, Option<Place>>,
-    id: &RecordId,
-) -> Option<Place>
+pub fn place_of(homes: &HomeTable, touched: &Touched, id: &RecordId) -> Option<Place>
     ensures { result ≡ place_of homes.now.entries touched.now.entries id.now }
 {
     match touched.get(id) {
-        Some(place) => *place,
+        Some(place) => place,
         None => Some(homes.get(id)?.place),
     }
 }
@@ -56,7 +52,7 @@ pub fn place_of(
 /// Takes no memory.
 fn base_beside<'a>(
     context: &Context<'a>,
-    touched: &BTreeMap<RecordId, Option<Place>>,
+    touched: &Touched,
     gone: &RecordId,
     id: &RecordId,
 ) -> Option<&'a Edition>
@@ -75,7 +71,7 @@ fn base_beside<'a>(
 fn bases_beside(
     alloc: Global,
     context: &Context<'_>,
-    touched: &BTreeMap<RecordId, Option<Place>>,
+    touched: &Touched,
     gone: &RecordId,
     ids: &[RecordId],
 ) -> Result<Vec<Edition>, Memory>
@@ -212,7 +208,7 @@ pub fn withdraw<L: Ledger>(
         mut touched,
     } = plan;
     let change = context.blocks.plan_split(alloc, change, at, parts)?;
-    touched.insert(id.copied(alloc)?, None)?;
+    touched.insert(alloc, id.copied(alloc)?, None)?;
     Ok(Plan { change, touched })
 }
 
@@ -240,7 +236,7 @@ pub fn insert<L: Ledger>(
         change,
         mut touched,
     } = plan;
-    touched.insert(edition.least().copied(alloc)?, Some(place))?;
+    touched.insert(alloc, edition.least().copied(alloc)?, Some(place))?;
     let copy = Join::copied(edition, alloc)?;
     let change = context.blocks.plan_insert(alloc, change, copy, steps)?;
     Ok(Plan { change, touched })

@@ -1,10 +1,10 @@
 use Rattle.std.proofs.Common.{rules, List, Bor, map, refl, ap, ◌∙◌}
-use Rattle.std.specs.Prelude.{Option}
+use Rattle.std.specs.Prelude.{Option, fold}
 use Rattle.union_base.specs.declared.record_id.RecordId.{RecordId}
 use Rattle.record_homes.specs.declared.place.Place.{Place}
 use Rattle.catalogue_core.specs.Grouping.{kept_works, list_in, regrouped}
 use Rattle.catalogue_core.specs.Histories.{MapOf}
-use Rattle.catalogue_core.specs.Homes.{Block, housed_all}
+use Rattle.catalogue_core.specs.Homes.{Block, admitted, others, housed_all}
 use Rattle.catalogue_core.proofs.InstallLaws.{installed}
 use Rattle.catalogue_core.proofs.turn.installing.install.Goals as goal
 
@@ -14,8 +14,8 @@ returns-clause-kept c =
     let rest : MapOf (Option Place) = map (λ (t : Bor RecordId × Option Place). (t.0.now, t.1)) c.in_ok-rest.rest.items in
     installed c.args.history.now.items c.args.entry c.args.homes.now.entries c.args.blocks.now.blocks (kept_works c.args.works.now) c.requires.kept
     change.closed.items change.opened.items c.args.plan.touched.entries c.requires.planned
-    c.admit.new.homes.entries c.in_ok-rest.ensures.admitted
-    rest c.in_ok-rest.ensures.others
+    c.admit.new.homes.entries (c.in_ok-rest.ensures.admitted ∙ ap (fold admitted c.args.homes.now.entries) c.in_ok-touched.ensures)
+    rest (c.in_ok-rest.ensures.others ∙ ap (others c.args.homes.now.entries) c.in_ok-touched.ensures)
     c.move_all.new.homes.entries c.move_all.ensures
     c.in_ok-numbers.numbers.items c.in_ok-numbers.ensures.numbers
     c.house_all.new.homes.entries (c.house_all.ensures ∙ ap (λ (es : List Block). housed_all c.move_all.new.homes.entries es c.as_slice-2.result.now) c.as_slice.ensures.value ∙ ap (housed_all c.move_all.new.homes.entries change.opened.items) c.as_slice-2.ensures.value)

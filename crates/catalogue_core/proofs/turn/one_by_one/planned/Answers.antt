@@ -8,9 +8,9 @@ use Rattle.catalogue_core.proofs.turn.one_by_one.planned.Goals as goal
 pub loop-i-init : goal.loop-i-init
 loop-i-init g c =
     plans-begin (batches c.args.context.now.history.now ++ c.args.context.now.batch.now ∷ []) c.args.context.now.homes.now.entries c.args.context.now.blocks.now.blocks c.args.context.now.batch.now.library c.args.context.now.batch.now.ops (current c.args.context.now.history.now)
-    c.start.result.closed.items c.start.result.opened.items c.new.result.entries c.in_ok-outcomes.outcomes.items c.args.steps.now
-    (plan-begins c.args.context.now.history.now c.args.context.now.batch.now c.args.context.now.homes.now.entries c.args.context.now.blocks.now.blocks c.start.result.closed.items c.start.result.opened.items c.new.result.entries
-    c.start.ensures.closed c.start.ensures.opened c.new.ensures.empty c.requires.current c.requires.resolved c.start.ensures.fits)
+    c.start.result.closed.items c.start.result.opened.items c.in_ok-touched.touched.entries c.in_ok-outcomes.outcomes.items c.args.steps.now
+    (plan-begins c.args.context.now.history.now c.args.context.now.batch.now c.args.context.now.homes.now.entries c.args.context.now.blocks.now.blocks c.start.result.closed.items c.start.result.opened.items c.in_ok-touched.touched.entries
+    c.start.ensures.closed c.start.ensures.opened c.in_ok-touched.ensures c.requires.current c.requires.resolved c.start.ensures.fits)
     c.in_ok-outcomes.ensures.items
 
 pub plan_op-requires-clause-own : goal.plan_op-requires-clause-own

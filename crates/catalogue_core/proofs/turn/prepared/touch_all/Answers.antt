@@ -7,8 +7,8 @@ use Rattle.catalogue_core.proofs.turn.prepared.touch_all.Goals as goal
 
 pub loop-i-init : goal.loop-i-init
 loop-i-init c =
-    touches-begin c.args.context.now.history.now c.args.context.now.batch.now c.args.context.now.homes.now.entries c.new-touched.result.entries c.in_ok-outcomes.outcomes.items
-    c.new-touched.ensures.empty c.in_ok-outcomes.ensures.items c.requires
+    touches-begin c.args.context.now.history.now c.args.context.now.batch.now c.args.context.now.homes.now.entries c.in_ok-touched.touched.entries c.in_ok-outcomes.outcomes.items
+    c.in_ok-touched.ensures c.in_ok-outcomes.ensures.items c.requires
 
 pub touch_op-requires : goal.touch_op-requires
 touch_op-requires c =

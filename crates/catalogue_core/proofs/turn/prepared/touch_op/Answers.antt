@@ -5,7 +5,7 @@ use Rattle.catalogue_core.proofs.turn.prepared.touch_op.Goals as goal
 pub returns-then-is_current-clause-touched : goal.returns-then-is_current-clause-touched
 returns-then-is_current-clause-touched c = λ all editions loads t.
     touches-load t c.args.library.now c.args.op.now c.in-Load.field-0 c.in_ok-id.id c.args.place c.insert.new.self.entries c.in-Load.is c.in_ok-id.ensures c.requires.own loads
-    c.in_ok-before-in-Load.ensures.updates.0 c.insert.ensures.ordered
+    c.in_ok-before-in-Load.ensures.entries
 
 pub returns-then-is_current-clause-outcome : goal.returns-then-is_current-clause-outcome
 returns-then-is_current-clause-outcome c = λ all editions t.
@@ -15,7 +15,7 @@ returns-then-is_current-clause-outcome c = λ all editions t.
 pub returns-else-is_current-clause-touched : goal.returns-else-is_current-clause-touched
 returns-else-is_current-clause-touched c = λ all editions loads t.
     touches-load t c.args.library.now c.args.op.now c.in-Load.field-0 c.in_ok-id.id c.args.place c.insert.new.self.entries c.in-Load.is c.in_ok-id.ensures c.requires.own loads
-    c.in_ok-before-in-Load.ensures.updates.0 c.insert.ensures.ordered
+    c.in_ok-before-in-Load.ensures.entries
 
 pub returns-else-is_current-clause-outcome : goal.returns-else-is_current-clause-outcome
 returns-else-is_current-clause-outcome c = λ all editions t.
@@ -25,7 +25,7 @@ returns-else-is_current-clause-outcome c = λ all editions t.
 pub returns-then-is_current-2-clause-touched : goal.returns-then-is_current-2-clause-touched
 returns-then-is_current-2-clause-touched c = λ all editions loads t.
     touches-withdrawal t c.args.library.now c.args.op.now c.in-Withdraw.field-0 c.in_ok-id.id c.insert-in-Withdraw.new.self.entries c.in-Withdraw.is c.in_ok-id.ensures
-    c.in_ok-before-in-Withdraw.ensures.updates.0 c.insert-in-Withdraw.ensures.ordered
+    c.in_ok-before-in-Withdraw.ensures.entries
 
 pub returns-then-is_current-2-clause-outcome : goal.returns-then-is_current-2-clause-outcome
 returns-then-is_current-2-clause-outcome c = λ all editions t.
@@ -35,7 +35,7 @@ returns-then-is_current-2-clause-outcome c = λ all editions t.
 pub returns-else-is_current-2-clause-touched : goal.returns-else-is_current-2-clause-touched
 returns-else-is_current-2-clause-touched c = λ all editions loads t.
     touches-withdrawal t c.args.library.now c.args.op.now c.in-Withdraw.field-0 c.in_ok-id.id c.insert-in-Withdraw.new.self.entries c.in-Withdraw.is c.in_ok-id.ensures
-    c.in_ok-before-in-Withdraw.ensures.updates.0 c.insert-in-Withdraw.ensures.ordered
+    c.in_ok-before-in-Withdraw.ensures.entries
 
 pub returns-else-is_current-2-clause-outcome : goal.returns-else-is_current-2-clause-outcome
 returns-else-is_current-2-clause-outcome c = λ all editions t.

@@ -29,7 +29,7 @@ returns-clause-cost g c = λ all number p r.
 pub returns-clause-planned : goal.returns-clause-planned
 returns-clause-planned g c = λ all p.
     let change = c.in_ok-change.change in
-    plan-withdrawn p c.args.id.now c.in_ok-copied.field-0 change.closed.items change.opened.items c.insert.new.self.entries c.in_ok-copied.ensures c.in_ok-insert.ensures.updates.0
-    c.insert.ensures.ordered c.in_ok-change.ensures.fits
+    plan-withdrawn p c.args.id.now c.in_ok-copied.field-0 change.closed.items change.opened.items c.insert.new.self.entries c.in_ok-copied.ensures c.in_ok-insert.ensures.entries
+    c.in_ok-change.ensures.fits
     (left-resolved p c.args.id.now c.in_ok-at.at c.in_ok-at.left.items c.in_ok-at.ensures c.in_ok-parts.parts.items
     (view_of c.args.context.now.blocks.now.blocks change.closed.items change.opened.items) c.in_ok-parts.ensures.resolved c.in_ok-change.ensures.view)
