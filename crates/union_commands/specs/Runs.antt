@@ -5,7 +5,7 @@ use Rattle.std.specs.Io.KnownBytes.{Appends, Keeps}
 use Rattle.authority_names.specs.Leads.{Table}
 use Rattle.catalogue_core.specs.Histories.{AreEditionsOf}
 use Rattle.catalogue_editions.specs.declared.edition.Edition.{Edition}
-use Rattle.catalogue_export.specs.Editions.{export_text}
+use Rattle.catalogue_export.specs.Editions.{export_text, left_of}
 use Rattle.catalogue_export.specs.WorkLists.{works_text_of}
 use Rattle.catalogue_json.specs.JsonExport.{json_export_text}
 use Rattle.iso2709_frame.specs.Frames.{frames}
@@ -13,7 +13,7 @@ use Rattle.union_io.specs.Writing.{AppendsFront}
 use Rattle.library_batches.specs.Reading.{most_bytes}
 use Rattle.library_batches.specs.Refused.{refused}
 use Rattle.library_batches.specs.declared.refused.RefusedFrame.{RefusedFrame}
-use Rattle.union_reports.specs.Reports.{check_text, left_lines}
+use Rattle.union_reports.specs.Reports.{check_text, left_line}
 use Rattle.names_file.specs.Named.{Named, IsNamedBy, names_inputs}
 use Rattle.union_files.specs.Deliveries.{Delivery, Stream, delivered, batches_of, reports_of, has_refused}
 use Rattle.union_files.specs.Inputs.{deliveries}
@@ -53,6 +53,10 @@ pub record IsCheck (library : List ℕ) (file : Inflow) (out : Outflow) (status 
   -- where nothing fails it is done, or memory ran out
   pub complete : (bytes : List ℕ) → file.told ≡ Some bytes → length bytes ≤ most_bytes → ¬ HasFailed file → ¬ HasFailedAt out
       → (status ≡ end_of bytes) ⊎ (status ≡ Memory)
+
+-- a line for each edition of which fields were left out, where its record shows a work key by these names
+abbrev pub left_lines : Table → List Edition → List ℕ
+left_lines names editions = flat_map left_line (left_of names editions)
 
 -- what is shown on the output of the editions of a catalogue by some names, and what is noted of them after the reports
 pub record Showing : Type 0 where

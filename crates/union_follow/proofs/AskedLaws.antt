@@ -7,8 +7,8 @@ use Rattle.catalogue_query.specs.declared.answer.Answer.{Answer}
 use Rattle.catalogue_query.specs.declared.query.Query.{Query}
 use Rattle.load_sessions.specs.Askers.{Replied}
 use Rattle.load_sessions.specs.Entries.{entries_of}
-use Rattle.union_load.proofs.ReplyLaws.{replied_over}
-use Rattle.union_load.specs.Replies.{AreReplies}
+use Rattle.load_results.proofs.ReplyLaws.{replied_over}
+use Rattle.load_results.specs.Replies.{AreReplies}
 use Rattle.union_follow.proofs.EntryLaws.{entries_prefix}
 
 -- what a viewer replied over a prefix of the history it replied over the history

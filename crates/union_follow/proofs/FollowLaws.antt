@@ -12,7 +12,7 @@ use Rattle.union_io.specs.Files.{told_file}
 use Rattle.union_inputs.specs.Inputs.{Contents}
 use Rattle.union_inputs.specs.Readings.{IsStop, Reads}
 use Rattle.union_inputs.proofs.InputLaws.{on_both}
-use Rattle.union_load.specs.declared.reports.Reports.{Reports}
+use Rattle.load_results.specs.declared.reports.Reports.{Reports}
 use Rattle.union_words.specs.Words.{LibraryFile}
 use Rattle.union_follow.specs.Turning.{AreCalm, AreTurnedFrom, AreUnread, HaltsIn, IsTurned, StopsIn}
 use Rattle.union_follow.specs.declared.libraries.Halt.{Halt}

@@ -11,7 +11,7 @@ use Rattle.union_files.proofs.InterleavingLaws.{unmapped-at}
 use Rattle.union_io.specs.Causes.{Rose}
 use Rattle.union_io.specs.Counts.{SameCounts, SameElsewhere}
 use Rattle.union_io.specs.Names.{is_among}
-use Rattle.union_load.specs.declared.reports.Reports.{Reports}
+use Rattle.load_results.specs.declared.reports.Reports.{Reports}
 use Rattle.union_words.specs.Words.{LibraryFile}
 use Rattle.union_follow.specs.Turning.{AreCalm, AreListed, AreTurnedFrom, AreUnread, FailsOnly, HaltsAt, HaltsIn, StopsIn}
 use Rattle.union_follow.specs.declared.libraries.Halt.{Halt}

@@ -17,11 +17,11 @@ use Rattle.union_files.specs.Deliveries.{codes_of, AreDistinct, delivery, has_re
 use Rattle.union_files.specs.Inputs.{deliveries}
 use Rattle.union_files.specs.Unions.{HasUnited}
 use Rattle.union_files.specs.declared.loaded.Loaded.{Loaded}
-use Rattle.union_load.proofs.CourseLaws.{united, delivered-files}
-use Rattle.union_load.proofs.ReplyLaws.{all_both, each_weaker}
-use Rattle.union_load.proofs.SessionLaws.{reported_both}
-use Rattle.union_load.specs.Sessions.{Course, AreNumbered, AreReported, course_text, delivery_of, ended_of, file_of_course}
-use Rattle.union_load.specs.declared.reports.Reports.{Reports}
+use Rattle.load_results.proofs.CourseLaws.{united, delivered-files}
+use Rattle.load_results.proofs.ListLaws.{all_both, each_weaker}
+use Rattle.load_results.proofs.ReportLaws.{reported_both}
+use Rattle.load_results.specs.Courses.{Course, AreNumbered, AreReported, course_text, delivery_of, ended_of, file_of_course}
+use Rattle.load_results.specs.declared.reports.Reports.{Reports}
 use Rattle.union_words.specs.Words.{LibraryFile}
 use Rattle.union_follow.proofs.EntryLaws.{pair, entries_prefix}
 use Rattle.union_follow.specs.Following.{HasFollowed, IsInOrder}

@@ -24,7 +24,7 @@ use Rattle.union_io.specs.Counts.{SameElsewhere}
 use Rattle.union_io.specs.Files.{told_file}
 use Rattle.union_io.specs.Names.{is_among}
 use Rattle.union_reports.specs.Reports.{report_text}
-use Rattle.union_load.specs.declared.reports.Reports.{Reports}
+use Rattle.load_results.specs.declared.reports.Reports.{Reports}
 use Rattle.union_words.specs.Flows.{ShelfFlow, IsCalm}
 use Rattle.union_words.specs.Words.{LibraryFile}
 use Rattle.union_follow.specs.declared.libraries.Halt.{Halt}

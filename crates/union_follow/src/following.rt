@@ -10,7 +10,7 @@ ghost use Rattle.load_sessions.specs.Entries.{entries_of};
 ghost use Rattle.union_words.specs.Flows.{shelf_flow};
 ghost use Rattle.union_words.specs.Meanings.{libraries_meaning};
 ghost use Rattle.union_files.specs.Inputs.{AreFresh, Gathers, OpensInOrder, deliveries, files_of, is_open_fault, states_of};
-ghost use Rattle.union_load.specs.Replies.{AreReplies};
+ghost use Rattle.load_results.specs.Replies.{AreReplies};
 ghost use Rattle.union_follow.specs.Following.{HasFollowed};
 ghost use Rattle.union_follow.specs.Turning.{AreTurnedFrom, IsShown, Runs};
 
@@ -22,6 +22,8 @@ use catalogue_core::catalogue::Catalogue;
 use catalogue_query::answer::Answer;
 use catalogue_query::query::Query;
 use key_hashing::hashing::Hashing;
+use load_results::reports::Reports;
+use load_results::watched::Watched;
 use load_sessions::questions::Questions;
 use snapshot_desk::opening::open;
 use snapshot_desk::viewer::Viewer;
@@ -35,8 +37,6 @@ use union_files::opened_file::OpenedFile;
 use union_files::opening::{give_back_all, open_rest};
 use union_io::shelf::Shelf;
 use union_io::source::Source;
-use union_load::reports::Reports;
-use union_load::watched::Watched;
 use union_words::libraries::Libraries;
 use union_words::status::Status;
 

@@ -12,7 +12,8 @@ use Rattle.union_inputs.proofs.FileLaws.{Counts, flow}
 use Rattle.union_files.proofs.InputLaws.{drop_at}
 use Rattle.union_files.specs.Inputs.{Gathers, input_of, inputs_of, IsEarliest, IsElsewhere, StopsAt}
 use Rattle.load_sessions.specs.declared.session.Session.{Session}
-use Rattle.union_load.specs.Sessions.{Course, course_of, courses_of, file_of_course, Closes, fails_on, is_failed_in, first_failed, NoneFailed, RaisesFailed}
+use Rattle.load_results.specs.Courses.{Course, file_of_course}
+use Rattle.union_load.specs.Sessions.{course_of, courses_of, Closes, fails_on, is_failed_in, first_failed, NoneFailed, RaisesFailed}
 use Rattle.union_words.specs.Flows.{ShelfFlow}
 use Rattle.union_words.specs.Words.{LibraryFile}
 use Rattle.union_words.specs.declared.input.Input.TheVariants.{Library}

@@ -1,5 +1,3 @@
-pub mod OwnLaws
 pub mod SessionLaws
 pub mod FaultLaws
-pub mod CourseLaws
 pub mod ReplyLaws

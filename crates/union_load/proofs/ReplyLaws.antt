@@ -1,47 +1,27 @@
 -- What the passes of a closed desk have seen, and the replies over it.
-use Rattle.std.proofs.Common.{◌≡◌, ◌≢◌, ℕ, zero, suc, ◌+◌, ◌<◌, ◌≤◌, Bool, true, false, cond, ◌==◌, List, [], ◌∷◌, ◌++◌, length, take, refl, sym, ap, subst, ◌∙◌, arith}
+use Rattle.std.proofs.Common.{◌≡◌, ◌≢◌, ℕ, zero, suc, ◌+◌, ◌<◌, ◌≤◌, Bool, true, false, cond, ◌==◌, List, [], ◌∷◌, ◌++◌, length, refl, sym, ap, subst, ◌∙◌, arith}
 use Rattle.std.specs.Prelude.{map, filter, nat_le, Some, slice_get, All, Any}
 use Rattle.std.specs.List.{AllByRecursion}
 use Rattle.std.proofs.lemmas.Bool.Decides.{nat_tests}
-use Rattle.std.proofs.lemmas.List.{take-append-le}
 use Rattle.std.proofs.lemmas.List.Elements.{All-from_recursion, recursion_from_All}
 use Rattle.authority_names.specs.Leads.{Table}
 use Rattle.catalogue_editions.specs.declared.batch.Batch.{Batch}
 use Rattle.catalogue_core.specs.declared.history_entry.HistoryEntry.{HistoryEntry}
 use Rattle.catalogue_lock.specs.Ended.{Ended}
-use Rattle.catalogue_lock.specs.History.{changes_of, IsPrefix}
+use Rattle.catalogue_lock.specs.History.{changes_of}
 use Rattle.catalogue_lock.specs.Rule.{EndedOk}
 use Rattle.catalogue_query.specs.declared.answer.Answer.{Answer}
 use Rattle.catalogue_query.specs.declared.query.Query.{Query}
-use Rattle.load_sessions.specs.Askers.{Replied}
-use Rattle.load_sessions.specs.Entries.{entries_of, tells}
-use Rattle.union_load.proofs.CourseLaws.{each_place, element, first_of_both}
+use Rattle.load_sessions.specs.Entries.{entries_of}
+use Rattle.load_results.proofs.ListLaws.{all_both, each_place, each_weaker, element, first_of_both}
+use Rattle.load_results.proofs.ReplyLaws.{replied_over}
+use Rattle.load_results.specs.Courses.{Course, AreNumbered, ended_of}
+use Rattle.load_results.specs.Replies.{AreReplies}
 use Rattle.union_files.proofs.InterleavingLaws.{each-at}
-use Rattle.union_load.specs.Replies.{AreReplies, HasAsked}
-use Rattle.union_load.specs.Sessions.{Course, AreNumbered, ended_of}
+use Rattle.union_load.specs.Asked.{HasAsked}
 
 abbrev Entries : Type 0
 Entries = List (ℕ × Batch)
-
--- ---- replies over a longer history
-
-pub replied_over : (names : Table) (seen history : Entries) (low known : ℕ) (questions : List Query) (replies : List (ℕ × Answer)) → IsPrefix seen history → low ≤ known
-    → Replied names seen known questions replies → Replied names history low questions replies
-replied_over names seen history low known [] [] follows least replied = tt
-replied_over names seen history low known [] (reply ∷ replies) follows least replied = absurd replied
-replied_over names seen history low known (question ∷ questions) [] follows least replied = tt
-replied_over names seen history low known (question ∷ questions) (reply ∷ replies) follows least replied =
-    let within : reply.0 ≤ length seen = replied.1 in
-    let whole : take reply.0 seen ≡ take reply.0 history = sym (take-append-le reply.0 seen follows.0 within) ∙ ap (take reply.0) follows.1 in (
-      omega (arith, replied.0),
-      omega (arith, within, ap length follows.1, length_both seen follows.0),
-      subst (λ entries. tells names entries question reply.1) whole replied.2,
-      replied_over names seen history reply.0 reply.0 questions replies follows (omega arith) replied.3,
-    )
-  where
-    length_both : (xs ys : Entries) → length (xs ++ ys) ≡ length xs + length ys
-    length_both [] ys = omega arith
-    length_both (x ∷ xs) ys = omega (arith, length_both xs ys)
 
 pub asked_over : (names : Table) (history : List HistoryEntry) (low known : ℕ) (questions : List Query) (replies : List (ℕ × Answer)) (left : Ended Batch)
     → EndedOk (entries_of history) left → low ≤ known → HasAsked names known questions replies left → AreReplies names history low questions replies
@@ -104,10 +84,6 @@ of_any : {A : Type 0} (P : A → Type 0) (Q : Type 0) (xs : List A) → Any P xs
 of_any P Q xs one each =
     let here = All-from_recursion (λ x. P x → Q) xs each one.0 one.1 one.2 in subst (λ x. P x → Q) one.3 here one.4
 
-pub all_both : {A : Type 0} (P : A → Type 0) (xs ys : List A) → AllByRecursion P xs → AllByRecursion P ys → AllByRecursion P (xs ++ ys)
-all_both P [] ys all more = more
-all_both P (x ∷ xs) ys all more = (all.0, all_both P xs ys all.1 more)
-
 last_of_both : {A : Type 0} (P : A → Type 0) (xs ys : List A) → AllByRecursion P (xs ++ ys) → AllByRecursion P ys
 last_of_both P [] ys all = all
 last_of_both P (x ∷ xs) ys all = last_of_both P xs ys all.1
@@ -115,10 +91,6 @@ last_of_both P (x ∷ xs) ys all = last_of_both P xs ys all.1
 both_each : {A : Type 0} (P Q R : A → Type 0) (xs : List A) → ((x : A) → P x → Q x → R x) → AllByRecursion P xs → AllByRecursion Q xs → AllByRecursion R xs
 both_each P Q R [] follows ps qs = tt
 both_each P Q R (x ∷ xs) follows ps qs = (follows x ps.0 qs.0, both_each P Q R xs follows ps.1 qs.1)
-
-pub each_weaker : {A : Type 0} (P Q : A → Type 0) (xs : List A) → ((x : A) → P x → Q x) → AllByRecursion P xs → AllByRecursion Q xs
-each_weaker P Q [] follows ps = tt
-each_weaker P Q (x ∷ xs) follows ps = (follows x ps.0, each_weaker P Q xs follows ps.1)
 
 -- ---- a desk that was closed
 

@@ -1,7 +1,7 @@
 -- What sessions come to, one after the other.
-use Rattle.std.proofs.Common.{Vec, ◌≡◌, ℕ, suc, ◌+◌, ◌<◌, Bool, true, false, cond, ◌||◌, List, [], ◌∷◌, ◌++◌, length, append_assoc, append-nil, refl, IsTrue, sym, ap, subst, ◌∙◌, arith}
+use Rattle.std.proofs.Common.{Vec, ◌≡◌, ℕ, suc, ◌+◌, ◌<◌, true, false, cond, List, [], ◌∷◌, ◌++◌, length, refl, IsTrue, sym, ap, subst, ◌∙◌, arith}
 use Rattle.std.specs.Prelude.{map, All, Option, Some, None, IfSome, Result, Ok, Err}
-use Rattle.std.specs.List.{list_any, flat_map, AllByRecursion}
+use Rattle.std.specs.List.{AllByRecursion}
 use Rattle.std.specs.Option.{option_map}
 use Rattle.std.specs.Vec.{with_items}
 use Rattle.std.proofs.lemmas.List.{with_items_is}
@@ -18,10 +18,9 @@ use Rattle.union_io.specs.Files.{told_file}
 use Rattle.union_io.specs.Names.{is_among}
 use Rattle.union_inputs.specs.Inputs.{Contents}
 use Rattle.union_inputs.proofs.InputLaws.{on_both}
-use Rattle.union_files.specs.Deliveries.{has_refused}
 use Rattle.union_files.specs.Inputs.{is_overfull, first_overfull, AreWithin, IsTooLongAt, IsFresh, AreFresh, files_of}
-use Rattle.union_load.specs.Sessions.{is_fault, Course, file_of_course, delivery_of, AreNumbered, course_text, AreReported, Closes, IsReadyAs, AreReady, courses_of, session_state, session_states, HasRun, HaveRun}
-use Rattle.union_load.specs.declared.reports.Reports.{Reports}
+use Rattle.load_results.specs.Courses.{file_of_course, AreNumbered}
+use Rattle.union_load.specs.Sessions.{is_fault, Closes, IsReadyAs, AreReady, courses_of, session_state, session_states, HasRun, HaveRun}
 use Rattle.union_words.specs.Words.{LibraryFile}
 use Rattle.union_words.specs.declared.input.Input.{Input}
 use Rattle.union_words.specs.declared.input.Input.TheVariants.{Library}
@@ -55,23 +54,6 @@ closes_behind (Err (TooLong input)) file rest files P Q R both here behind =
     on_both files (λ contents p at. too_long_behind contents file rest input p.0 at) here behind
 closes_behind (Err Memory) file rest files P Q R both here behind = tt
 closes_behind (Err status) file rest files P Q R both here behind = absurd behind
-
--- the reports of one more
-or_assoc : (a b c : Bool) → ((a || (b || false)) || c) ≡ (a || (b || c))
-or_assoc true b c = refl
-or_assoc false true c = refl
-or_assoc false false c = refl
-
-pub reported_both : (contents : Contents) (course : Course) (courses : List Course) (before between now : Reports)
-    → AreReported contents (course ∷ []) before between → AreReported contents courses between now → AreReported contents (course ∷ courses) before now
-reported_both contents course courses before between now one more = record {
-  whole = (one.whole.0, more.whole);
-  text = more.text ∙ (ap (λ t. t ++ flat_map (course_text contents) courses) one.text
-      ∙ (append_assoc before.text.items (course_text contents course ++ []) (flat_map (course_text contents) courses)
-      ∙ ap (λ t. before.text.items ++ (t ++ flat_map (course_text contents) courses)) (append-nil (course_text contents course))));
-  refused = more.refused ∙ (ap (λ r. r || list_any has_refused (map (delivery_of contents) courses)) one.refused
-      ∙ or_assoc before.refused (has_refused (delivery_of contents course)) (list_any has_refused (map (delivery_of contents) courses)));
-}
 
 -- ---- sessions that are run
 

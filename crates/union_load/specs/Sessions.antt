@@ -1,15 +1,13 @@
 -- The sessions of a load: before they are run, when each has ended, and what they come to.
-use Rattle.std.specs.Prelude.{◌≡◌, ◌<◌, ◌≤◌, ℕ, suc, ⊤, Bool, true, false, ◌&&◌, ◌||◌, nat_eq, List, [], ◌∷◌, ◌++◌, length, map, Option, IfSome, IsTrue, Result, Ok, Err}
+use Rattle.std.specs.Prelude.{◌≡◌, ◌<◌, ◌≤◌, ℕ, suc, ⊤, Bool, true, false, ◌&&◌, nat_eq, List, [], ◌∷◌, ◌++◌, length, map, Option, IfSome, IsTrue, Result, Ok, Err}
 use Rattle.std.specs.Cmp.Lexicographic.{pointwise}
-use Rattle.std.specs.List.{list_any, find, flat_map, AllByRecursion}
+use Rattle.std.specs.List.{list_any, find, AllByRecursion}
 use Rattle.atomic_table.specs.Seated.{TableId}
 use Rattle.authority_names.specs.Leads.{Table}
 use Rattle.catalogue_editions.specs.declared.batch.Batch.{Batch}
 use Rattle.catalogue_lock.specs.Ended.{Ended}
 use Rattle.catalogue_lock.specs.Tokens.{view}
 use Rattle.catalogue_lock.specs.declared.view.View.{View}
-use Rattle.iso2709_frame.specs.Frames.{frames}
-use Rattle.library_batches.specs.Batches.{AreBatches}
 use Rattle.library_batches.specs.Outcomes.{AreCounted}
 use Rattle.library_batches.specs.Reading.{most_bytes}
 use Rattle.load_sessions.specs.Sessions.{IsReady, IsLoaded, counts_of}
@@ -20,10 +18,8 @@ use Rattle.load_sessions.specs.declared.session.Session.{Session}
 use Rattle.union_io.specs.Causes.{Rose}
 use Rattle.union_io.specs.Files.{told_file}
 use Rattle.union_io.specs.Names.{is_among}
-use Rattle.union_reports.specs.Reports.{report_text}
-use Rattle.union_files.specs.Deliveries.{Delivery, delivery, has_refused}
 use Rattle.union_files.specs.Inputs.{AreWithin, IsTooLongAt, OpenedState}
-use Rattle.union_load.specs.declared.reports.Reports.{Reports}
+use Rattle.load_results.specs.Courses.{Course}
 use Rattle.union_words.specs.Words.{LibraryFile}
 use Rattle.union_words.specs.declared.status.Status.{Status}
 use Rattle.union_words.specs.declared.status.Status.TheVariants.{TooLong, Memory}
@@ -32,48 +28,6 @@ use Rattle.union_words.specs.declared.status.Status.TheVariants.{TooLong, Memory
 abbrev pub is_fault : End → Bool
 is_fault EndFault = true
 is_fault end = false
-
--- what a session came to: the preference by which it loaded, its library, the name of its file, whether a read of it failed, the
--- number of its pass, the batches of its turns, and the history that it has seen
-pub record Course : Type 0 where
-  pub prefer : List (List ℕ)
-  pub library : List ℕ
-  pub path : List ℕ
-  pub failed : Bool
-  pub number : ℕ
-  pub own : List Batch
-  pub seen : List (ℕ × Batch)
-
--- the file that a course reads
-abbrev pub file_of_course : Course → LibraryFile
-file_of_course course = record { library = course.library; path = course.path }
-
--- what it leaves at the desk
-abbrev pub ended_of : Course → Ended Batch
-ended_of course = record { number = course.number; own = course.own; seen = course.seen }
-
--- they have these numbers, one after the other
-abbrev pub AreNumbered : ℕ → List Course → Type 0
-AreNumbered number [] = ⊤
-AreNumbered number (course ∷ courses) = (course.number ≡ number) × AreNumbered (suc number) courses
-
--- what the library delivers
-abbrev pub delivery_of : (List ℕ → List ℕ) → Course → Delivery
-delivery_of contents course = delivery course.prefer course.library (frames (contents course.path))
-
--- its batches are all those of its file
-abbrev pub IsWhole : (List ℕ → List ℕ) → Course → Type 0
-IsWhole contents course = AreBatches course.prefer course.library (frames (contents course.path)) course.own
-
--- the report on it, by what came of its batches in the history that it has seen
-abbrev pub course_text : (List ℕ → List ℕ) → Course → List ℕ
-course_text contents course = report_text course.library (frames (contents course.path)) (found course.seen course.number)
-
--- they are whole, and their reports were added
-pub record AreReported (contents : List ℕ → List ℕ) (courses : List Course) (before now : Reports) : Type 0 where
-  pub whole : AllByRecursion (IsWhole contents) courses
-  pub text : now.text.items ≡ before.text.items ++ flat_map (course_text contents) courses
-  pub refused : now.refused ≡ (before.refused || list_any has_refused (map (delivery_of contents) courses))
 
 -- one of the files is too long, or memory ran out
 abbrev pub StopsBehind : Status → List LibraryFile → Option (List ℕ → List ℕ) → Type 0

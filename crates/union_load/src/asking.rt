@@ -4,7 +4,7 @@ ghost use Rattle.catalogue_editions.specs.declared.batch.Batch.{Batch};
 ghost use Rattle.catalogue_lock.specs.Ended.{Ended};
 ghost use Rattle.catalogue_lock.specs.Tokens.{root_of, view, IsPassOf, IsRootOf};
 ghost use Rattle.load_sessions.specs.Askers.{IsAsker};
-ghost use Rattle.union_load.specs.Replies.{HasAsked, left_by};
+ghost use Rattle.union_load.specs.Asked.{HasAsked, left_by};
 ghost use Rattle.union_load.specs.Sessions.{HasEnded};
 
 use catalogue_lock::desk::Desk;

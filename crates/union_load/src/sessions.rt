@@ -13,19 +13,20 @@ ghost use Rattle.catalogue_lock.specs.Tokens.{root_of, view, IsPassOf, IsRootOf}
 ghost use Rattle.union_words.specs.Meanings.{libraries_meaning};
 ghost use Rattle.load_sessions.specs.Entries.{entries_of};
 ghost use Rattle.union_files.specs.Inputs.{Gathers, OpensInOrder, deliveries};
-ghost use Rattle.union_load.specs.Replies.{AreReplies, HasAsked, left_by};
+ghost use Rattle.load_results.specs.Replies.{AreReplies};
+ghost use Rattle.union_load.specs.Asked.{HasAsked, left_by};
 ghost use Rattle.union_files.specs.Unions.{HasUnited};
 
 use crate::asking::{ask_late, end_asker, start_asker};
-use crate::reports::Reports;
 use crate::session_ends::end_all;
 use crate::session_starts::start_sessions;
 use crate::start::Start;
-use crate::watched::Watched;
 use authority_names::name_table::NameTable;
 use catalogue_lock::desk::Desk;
 use catalogue_lock::root::Root;
 use catalogue_query::query::Query;
+use load_results::reports::Reports;
+use load_results::watched::Watched;
 use load_sessions::asker::Asker;
 use load_sessions::crew::Crew;
 use load_sessions::end::End;

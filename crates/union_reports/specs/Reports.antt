@@ -7,10 +7,7 @@ use Rattle.marc_parts.specs.Loads.{is_deleted}
 use Rattle.marc_rules.specs.NineteenRules.{status_of}
 use Rattle.union_base.specs.declared.record_id.RecordId.{RecordId}
 use Rattle.workset_keys.specs.WorkKeys.{own_name}
-use Rattle.authority_names.specs.Leads.{Table}
 use Rattle.catalogue_editions.specs.declared.outcome.Outcome.{Outcome}
-use Rattle.catalogue_export.specs.Editions.{left_of}
-use Rattle.catalogue_editions.specs.declared.edition.Edition.{Edition}
 use Rattle.library_batches.specs.Streams.{Frame, accepted}
 use Rattle.library_batches.specs.Refused.{refused}
 use Rattle.library_batches.specs.Outcomes.{is_added, is_replaced, is_removed, is_absent}
@@ -96,7 +93,3 @@ report_text library all found =
 -- `left LIB.CTL N`
 unfoldable pub left_line : RecordId × ℕ → List ℕ
 left_line l = codes "left" ++ (counted (own_name l.0) l.1 ++ 0x0A ∷ [])
-
--- a line for each edition of which fields were left out, where its record shows a work key by these names
-abbrev pub left_lines : Table → List Edition → List ℕ
-left_lines names editions = flat_map left_line (left_of names editions)

@@ -1,8 +1,9 @@
 use Rattle.std.proofs.Common.{◌++◌, ap, ◌∙◌, refl, Err}
 use Rattle.std.specs.List.{flat_map}
 use Rattle.catalogue_export.specs.Editions.{left_of}
-use Rattle.union_reports.specs.Reports.{left_line, left_lines}
+use Rattle.union_reports.specs.Reports.{left_line}
 use Rattle.union_words.specs.Statuses.{end_by}
+use Rattle.union_commands.specs.Runs.{left_lines}
 use Rattle.union_commands.proofs.RunLaws.{shown-whole, shown-failed, shown-memory}
 use Rattle.union_commands.proofs.writing.write_export.Goals as goal
 

@@ -3,7 +3,7 @@ use Rattle.std.specs.FinMap.{empty}
 use mathlib.Core.List.{IsPrefix}
 use Rattle.load_sessions.specs.Entries.{entries_of}
 use Rattle.snapshot_desk.proofs.Prefixes.{prefix_length}
-use Rattle.union_load.proofs.ReplyLaws.{replied_over}
+use Rattle.load_results.proofs.ReplyLaws.{replied_over}
 use Rattle.union_follow.proofs.following.ask_late.Goals as goal
 
 pub returns-clause-replied : goal.returns-clause-replied

@@ -10,7 +10,7 @@ use Rattle.union_base.specs.Both.{both_true}
 use Rattle.union_files.proofs.DistinctLaws.{distinct_deliveries}
 use Rattle.union_inputs.proofs.FileLaws.{same_more}
 use Rattle.union_files.specs.Inputs.{AreWithin, deliveries}
-use Rattle.union_load.specs.Replies.{AreReplies}
+use Rattle.load_results.specs.Replies.{AreReplies}
 use Rattle.union_words.specs.Meanings.{libraries_meaning}
 use Rattle.union_words.specs.Words.{is_library_word, have_distinct_codes, most_libraries}
 use Rattle.union_follow.proofs.AskedLaws.{replies_over}

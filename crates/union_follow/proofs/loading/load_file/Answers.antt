@@ -7,7 +7,7 @@ use Rattle.load_sessions.specs.Entries.{entries_of}
 use Rattle.load_sessions.specs.Tallies.{found as found_under}
 use Rattle.union_reports.specs.Reports.{report_text}
 use Rattle.union_inputs.proofs.SourceLaws.{on_told}
-use Rattle.union_load.specs.declared.reports.Reports.{Reports}
+use Rattle.load_results.specs.declared.reports.Reports.{Reports}
 use Rattle.union_follow.proofs.loading.load_file.Goals as goal
 
 pub returns-in-Ok-clause-reads : goal.returns-in-Ok-clause-reads

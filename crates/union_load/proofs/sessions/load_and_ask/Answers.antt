@@ -12,15 +12,18 @@ use Rattle.load_sessions.specs.Askers.{Replied}
 use Rattle.load_sessions.specs.Entries.{entries_of}
 use Rattle.load_sessions.specs.Sessions.{IsReady}
 use Rattle.union_base.specs.Both.{both_true}
-use Rattle.union_load.proofs.CourseLaws.{united, delivered-files}
+use Rattle.load_results.proofs.CourseLaws.{united, delivered-files}
 use Rattle.union_files.proofs.DistinctLaws.{distinct_deliveries}
 use Rattle.union_inputs.proofs.FileLaws.{flow, same_more}
-use Rattle.union_load.proofs.ReplyLaws.{each_weaker, numbered_below, replied_over}
+use Rattle.load_results.proofs.ListLaws.{each_weaker}
+use Rattle.load_results.proofs.ReplyLaws.{replied_over}
+use Rattle.union_load.proofs.ReplyLaws.{numbered_below}
 use Rattle.union_load.proofs.SessionLaws.{have_ended, ready_all}
 use Rattle.union_files.specs.Deliveries.{codes_of, AreDistinct, has_refused}
 use Rattle.union_files.specs.Inputs.{AreWithin, StopsAt, deliveries}
-use Rattle.union_load.specs.Replies.{AreReplies}
-use Rattle.union_load.specs.Sessions.{course_text, courses_of, delivery_of, ended_of, file_of_course}
+use Rattle.load_results.specs.Replies.{AreReplies}
+use Rattle.load_results.specs.Courses.{course_text, delivery_of, ended_of, file_of_course}
+use Rattle.union_load.specs.Sessions.{courses_of}
 use Rattle.union_files.specs.Unions.{HasUnited}
 use Rattle.union_words.specs.Meanings.{libraries_meaning}
 use Rattle.union_words.specs.Words.{is_library_word, have_distinct_codes, most_libraries}

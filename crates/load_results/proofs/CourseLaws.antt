@@ -1,4 +1,4 @@
--- What sessions leave at the desk makes the union of their files.
+-- What came of the files of libraries makes the union of them.
 use Rattle.std.proofs.Common.{◌≡◌, ℕ, zero, suc, ◌+◌, ◌<◌, true, false, cond, ◌==◌, List, [], ◌∷◌, ◌++◌, length, refl, sym, ap, subst, ◌∙◌, arith}
 use Rattle.std.specs.Prelude.{map, filter, nat_lt, Some, None, slice_get}
 use Rattle.std.specs.List.{list_all, list_any, flat_map, AllByRecursion}
@@ -15,13 +15,14 @@ use Rattle.load_sessions.specs.Entries.{entries_of}
 use Rattle.load_sessions.specs.Tallies.{found}
 use Rattle.union_base.specs.Both.{true_both}
 use Rattle.union_reports.specs.Reports.{report_text}
-use Rattle.union_load.proofs.OwnLaws.{IsApart, found-apart}
+use Rattle.load_results.proofs.ListLaws.{each_place, element, first_of_both}
+use Rattle.load_results.proofs.OwnLaws.{IsApart, found-apart}
 use Rattle.union_inputs.specs.Inputs.{Contents}
 use Rattle.union_files.specs.Deliveries.{Delivery, delivery, codes_of, AreDistinct, has_refused, Stream, delivered, batches_of, reports_of}
 use Rattle.union_files.specs.Inputs.{deliveries}
 use Rattle.union_files.proofs.InterleavingLaws.{each-at, apart-at, own-batches}
 use Rattle.union_files.specs.Interleavings.{batches_under, IsInterleaving}
-use Rattle.union_load.specs.Sessions.{Course, file_of_course, delivery_of, ended_of, AreNumbered, IsWhole, course_text}
+use Rattle.load_results.specs.Courses.{Course, file_of_course, delivery_of, ended_of, AreNumbered, IsWhole, course_text}
 use Rattle.union_files.specs.Unions.{HasUnited}
 use Rattle.union_files.specs.declared.loaded.Loaded.{Loaded}
 
@@ -29,15 +30,6 @@ abbrev Entries : Type 0
 Entries = List (ℕ × Batch)
 
 -- ---- lists
-
-pub element : {A : Type 0} (xs : List A) (n : ℕ) → n < length xs → (x : A) × (slice_get xs n ≡ Some x)
-element [] n below = absurd (omega (arith, below))
-element (x ∷ xs) zero below = (x, refl)
-element (x ∷ xs) (suc n) below = element xs n (omega (arith, below))
-
-pub first_of_both : {A : Type 0} (P : A → Type 0) (xs ys : List A) → AllByRecursion P (xs ++ ys) → AllByRecursion P xs
-first_of_both P [] ys all = tt
-first_of_both P (x ∷ xs) ys all = (all.0, first_of_both P xs ys all.1)
 
 unmapped : {A B : Type 0} (P : B → Type 0) (f : A → B) (xs : List A) → AllByRecursion P (map f xs) → AllByRecursion (λ x. P (f x)) xs
 unmapped P f [] all = tt
@@ -171,11 +163,6 @@ course_at [] n batches at = absurd (none_some at)
     none_some at = cc
 course_at (c ∷ courses) zero batches at = (c, refl, same_Some c.own batches at)
 course_at (c ∷ courses) (suc n) batches at = course_at courses n batches at
-
--- for each place of a list
-pub each_place : {A : Type 0} (P : A → Type 0) (xs : List A) → ((n : ℕ) (x : A) → slice_get xs n ≡ Some x → P x) → AllByRecursion P xs
-each_place P [] holds = tt
-each_place P (x ∷ xs) holds = (holds 0 x refl, each_place P xs (λ n y at. holds (suc n) y at))
 
 pub united : (names : Table) (contents : Contents) (courses : List Course) (loaded : Loaded) → loaded.catalogue.names ≡ names → AreNumbered 0 courses
     → AllByRecursion (EndedOk (entries_of loaded.catalogue.history)) (map ended_of courses)

@@ -1,21 +1,13 @@
--- What was asked beside a load and after it.
+-- What a pass that asks leaves at the desk.
 use Rattle.std.specs.Prelude.{◌≡◌, ℕ, List, [], length}
 use Rattle.authority_names.specs.Leads.{Table}
 use Rattle.catalogue_editions.specs.declared.batch.Batch.{Batch}
-use Rattle.catalogue_core.specs.declared.history_entry.HistoryEntry.{HistoryEntry}
 use Rattle.catalogue_lock.specs.Ended.{Ended}
 use Rattle.catalogue_lock.specs.Tokens.{view}
 use Rattle.catalogue_query.specs.declared.answer.Answer.{Answer}
 use Rattle.catalogue_query.specs.declared.query.Query.{Query}
 use Rattle.load_sessions.specs.Askers.{Replied}
-use Rattle.load_sessions.specs.Entries.{entries_of}
 use Rattle.load_sessions.specs.declared.asker.Asker.{Asker}
-
--- a reply to each question, by these names: each is over the first entries of the history, as many as it says, at least as many as were
--- known before, and at least those of the reply before it
-pub record AreReplies (names : Table) (history : List HistoryEntry) (known : ℕ) (questions : List Query) (replies : List (ℕ × Answer)) : Type 0 where
-  pub replied : Replied names (entries_of history) known questions replies
-  pub all : length replies ≡ length questions
 
 -- what the pass of an asker leaves at the desk
 abbrev pub left_by : Asker → Ended Batch
