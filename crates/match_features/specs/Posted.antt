@@ -72,6 +72,6 @@ abbrev pub sought : Features → List FeatureKey
 sought x = number_keys x ++ sought_by_title x
 
 -- a title as that of many, as a title alone; any other key, as it is
-abbrev pub titled : FeatureKey → FeatureKey
-titled (TitleOfMany title) = Title title
-titled key = key
+abbrev pub title_alone : FeatureKey → FeatureKey
+title_alone (TitleOfMany title) = Title title
+title_alone key = key

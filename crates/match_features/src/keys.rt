@@ -1,7 +1,7 @@
 //! The keys that features have, as `specs/Keys.antt` has them, and those of an index, as `specs/Posted.antt` has them.
 ghost use Rattle.std.specs.Prelude.{◌≡◌, ◌≢◌, ◌↔◌, ◌++◌, IfOk, OnOk, Contains, AllPairs, map, min, length, ◌*◌, ◌-◌, ◌^◌, []};
 ghost use Rattle.match_features.specs.Keys.{keys, HasKey};
-ghost use Rattle.match_features.specs.Posted.{has_few, IsPosted, Seeks, number_keys, description_keys, dated_keys, posted, posted_by_title, sought, sought_by_title, titled};
+ghost use Rattle.match_features.specs.Posted.{has_few, IsPosted, Seeks, number_keys, description_keys, dated_keys, posted, posted_by_title, sought, sought_by_title, title_alone};
 
 use crate::control_pair::ControlPair;
 use crate::description_key::DescriptionKey;
@@ -166,7 +166,7 @@ pub fn posted_of_sought(
 {
     let mut keys = keys;
     if has_few(features) {
-        entitle_all(alloc, &mut keys);
+        make_titles_alone(alloc, &mut keys);
     } else {
         push_keys_of_many(alloc, &mut keys, features.titles.as_slice())?;
     }
@@ -174,17 +174,17 @@ pub fn posted_of_sought(
 }
 
 /// Makes each title as that of many a title alone. Takes no memory.
-fn entitle_all(alloc: Global, keys: &mut Vec<FeatureKey>)
-    ensures { keys.new.items ≡ map titled keys.old.items }
+fn make_titles_alone(alloc: Global, keys: &mut Vec<FeatureKey>)
+    ensures { keys.new.items ≡ map title_alone keys.old.items }
 {
     for key in keys.iter_mut() {
-        entitle(alloc, key);
+        make_title_alone(alloc, key);
     }
 }
 
 /// Makes a title as that of many a title alone, and leaves any other key. Takes no memory.
-fn entitle(alloc: Global, key: &mut FeatureKey)
-    ensures { key.new ≡ titled key.old }
+fn make_title_alone(alloc: Global, key: &mut FeatureKey)
+    ensures { key.new ≡ title_alone key.old }
 {
     if let FeatureKey::TitleOfMany(title) = key {
         let title = mem::replace(title, Bytes::from(Vec::new(alloc)));

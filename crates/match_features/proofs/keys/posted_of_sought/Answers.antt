@@ -1,7 +1,7 @@
 use Rattle.std.proofs.Common.{◌≢◌, ◌↔◌, List, AllPairs, Contains, subst, sym, ◌∙◌, ap, map, ◌++◌}
 use Rattle.match_features.specs.declared.keys.FeatureKey.{FeatureKey}
 use Rattle.match_features.specs.declared.keys.FeatureKey.TheVariants.{TitleOfMany}
-use Rattle.match_features.specs.Posted.{IsPosted, titled}
+use Rattle.match_features.specs.Posted.{IsPosted, title_alone}
 use Rattle.match_features.proofs.PostedLaws.{features_posted, features_posted_once}
 use Rattle.match_features.proofs.TitledLaws.{posted-from_few, posted-from_many}
 use Rattle.match_features.proofs.keys.posted_of_sought.Goals as goal
@@ -13,7 +13,7 @@ returns-clause-value c =
     let x = c.args.features.now in
     elim c.if-has_few.branch [
       | then-has_few w ↦
-          ap (λ v. v.items) w.keys-is ∙ w.entitle_all.ensures ∙ ap (map titled) c.requires ∙
+          ap (λ v. v.items) w.keys-is ∙ w.make_titles_alone.ensures ∙ ap (map title_alone) c.requires ∙
           posted-from_few x (sym c.has_few.ensures ∙ w.if-has_few.true)
       | else-has_few+in_ok-push_keys_of_many w ↦
           ap (λ v. v.items) w.keys-is ∙ w.in_ok-push_keys_of_many.ensures ∙
