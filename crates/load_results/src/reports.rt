@@ -33,7 +33,8 @@ impl Reports {
         }
     }
 
-    /// Adds the report of a library's session.
+    /// Adds the report on what a library has sent. Returns `Memory` if allocation fails; then the text may have a part of the
+    /// report.
     pub fn add(&mut self, library: &LibraryCode, report: &Report) -> Result<(), Memory>
         ensures text { OnOk result ((all : List Frame) (found : List Outcome)
             → report.now.frames ≡ length all
