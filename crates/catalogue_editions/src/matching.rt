@@ -11,7 +11,6 @@ use merge_laws::resolvable::Resolvable;
 use merge_laws::steps::Steps;
 use std::alloc::Global;
 use std::sync::ledger::Ledger;
-use union_base::copied::Copied;
 use union_base::memory::Memory;
 
 impl Resolvable for Edition {
@@ -57,10 +56,6 @@ impl Resolvable for Edition {
         ensures once { IfOk result (λ keys. AllPairs (λ j k. j ≢ k) keys.items) }
     {
         posted_of_sought(alloc, self.features(), keys)
-    }
-
-    fn copy_key(alloc: Global, key: &FeatureKey) -> Result<FeatureKey, Memory> {
-        key.copied(alloc)
     }
 
     ghost match_laws = { edition_match_laws };

@@ -73,10 +73,6 @@ pub trait Resolvable: Join {
             → Contains keys.items k ↔ is_posted self.now k) }
         ensures once { IfOk result (λ keys. AllPairs (λ j k. j ≢ k) keys.items) };
 
-    /// An equal key. Returns `Memory` if allocation fails.
-    fn copy_key(alloc: Global, key: &Self::Key) -> Result<Self::Key, Memory>
-        ensures { IfOk result (λ k. k ≡ key.now) };
-
     /// Matching is reflexive and symmetric, and what matches one side of a merge matches the merge.
     ghost match_laws: { MatchLaws meets Self.join };
 

@@ -132,7 +132,6 @@ fn copies_and_keys(rt: HostRuntime) -> Result<(), Fail> {
     assert_eq!(rt; set.copied(rt.alloc())?.mask(), 0b110);
     let keys = set.index_keys(rt.alloc())?;
     assert_eq!(rt; keys.as_slice(), [1, 2].as_slice());
-    assert_eq!(rt; SmallSet::copy_key(rt.alloc(), &7)?, 7);
     assert!(rt; SmallSet::of(0).is_none());
     Ok(())
 }

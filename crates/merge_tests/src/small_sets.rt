@@ -115,10 +115,6 @@ impl Resolvable for SmallSet {
         Ok(keys)
     }
 
-    fn copy_key(_alloc: Global, key: &u32) -> Result<u32, Memory> {
-        Ok(*key)
-    }
-
     ghost match_laws = { meet_laws };
 
     ghost key_laws = { number_laws };
