@@ -21,6 +21,7 @@ use Rattle.field_merge.specs.KeptLaws.{id_total}
 use Rattle.swoosh_resolver.specs.Changes.{AreNumbers, AreOpened, number_at, view_of, without}
 use Rattle.swoosh_resolver.specs.Tables.{block_at, blocks_in, values_of}
 use Rattle.swoosh_resolver.proofs.Places.{number-from_block}
+use Rattle.swoosh_resolver.proofs.Views.{fits-same, view-same}
 use Rattle.work_clusters.specs.Works.{AreAfter, changed}
 use Rattle.work_clusters.proofs.MemberLaws.{changed-members, works_of-permutation}
 use Rattle.catalogue_editions.specs.EditionKeys.{work_key_by, work_pairs}
@@ -283,3 +284,15 @@ installed history entry homes blocks works k closed opened touched p within lets
     (subst (λ all. IsKept (history ++ entry ∷ []) all blocks' works') (sym found)
     (subst (λ names. IsKept (history ++ entry ∷ []) (housed_all (fold moved (fold admitted homes touched) (others homes touched)) opened numbers) blocks'
     (record { names = names; works = works'.works })) (sym same-names) whole))
+
+-- a plan is told by the values that it opens
+pub planned-same : {all : List Batch} {homes : MapOf Home} {blocks : List (Option Block)} {editions : MapOf Edition} {closed : List ℕ} (opened opened' : List Block) {touched : MapOf (Option Place)} → values_of opened ≡ values_of opened'
+    → IsPlanned all homes blocks editions closed opened touched → IsPlanned all homes blocks editions closed opened' touched
+planned-same {all} {homes} {blocks} {editions} {closed} opened opened' {touched} same planned = record {
+  stands = planned.stands;
+  ordered = planned.ordered;
+  single = planned.single;
+  touches = planned.touches;
+  fits = fits-same blocks closed opened opened' same planned.fits;
+  resolved = subst (IsResolution match join (values editions)) (view-same (blocks_in (without blocks closed)) opened opened' same) planned.resolved;
+}

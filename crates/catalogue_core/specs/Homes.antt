@@ -5,7 +5,6 @@ use Rattle.std.specs.BTreeMap.{is_at, insert_entry}
 use Rattle.std.specs.Map.{remove_entry}
 use Rattle.union_base.specs.SortedLists.{has}
 use Rattle.union_base.specs.declared.record_id.RecordId.{RecordId}
-use Rattle.match_features.specs.declared.keys.FeatureKey.{FeatureKey}
 use Rattle.field_merge.specs.Kept.{id_cmp}
 use Rattle.swoosh_resolver.specs.Tables.{Entry, block_at}
 use Rattle.catalogue_core.specs.Histories.{MapOf, at_id, is_current}
@@ -18,7 +17,7 @@ use Rattle.record_homes.specs.declared.place.Place.{Place}
 
 -- an edition as a block
 abbrev pub Block : Type 0
-Block = Entry Edition FeatureKey
+Block = Entry Edition ℕ
 
 -- whether the edition has that contributor
 abbrev pub has_contributor : RecordId → Edition → Bool

@@ -5,7 +5,6 @@ use Rattle.std.specs.List.Sorted.{IsPermutation}
 use Rattle.std.proofs.lemmas.List.Elements.{Contains-append_left, Contains-append_right, Contains-append_cases}
 use Rattle.std.proofs.Math.Decide.{dec_lt}
 use Rattle.std.proofs.lemmas.List.Sorted.{IsPermutation-sym, IsPermutation-map, Contains-permutation}
-use Rattle.match_features.specs.declared.keys.FeatureKey.{FeatureKey}
 use Rattle.merge_laws.specs.Resolution.{DoNotMatch, AreApart}
 use Rattle.merge_laws.proofs.Places.{Contains-head, Contains-tail, Contains-cases, AllPairs-permutation, AllPairs-first}
 use Rattle.swoosh_resolver.specs.Changes.{view_of, without}
@@ -16,7 +15,7 @@ use Rattle.catalogue_editions.specs.declared.edition.Edition.{Edition}
 
 -- an edition as a block
 abbrev pub Block : Type 0
-Block = Entry Edition FeatureKey
+Block = Entry Edition ℕ
 
 -- a block is among the blocks
 pub block-stands : (blocks : List (Option Block)) (n : ℕ) (e : Block) → block_at blocks n ≡ Some e → Contains (blocks_in blocks) e

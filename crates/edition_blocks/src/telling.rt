@@ -16,19 +16,19 @@ use std::alloc::Global;
 use std::cmp::Ordering;
 use swoosh_resolver::blocks::Blocks;
 use swoosh_resolver::change::Change;
-use swoosh_resolver::keyed::Keyed;
+use swoosh_resolver::keyed::Placed;
 use union_base::memory::Memory;
 
 /// The values of the opened blocks. Returns `Memory` if allocation fails.
 fn opened_editions<'a>(
     alloc: Global,
-    opened: &'a [Keyed<Edition>],
+    opened: &'a [Placed<Edition>],
 ) -> Result<Vec<&'a Edition>, Memory>
     ensures { IfOk result (λ found. map (λ e. e.now) found.items ≡ values_of opened.now) }
 {
     let mut found = Vec::with_capacity(alloc, opened.len())?;
-    for keyed in opened {
-        found.push(&keyed.value)?;
+    for placed in opened {
+        found.push(&placed.value)?;
     }
     Ok(found)
 }

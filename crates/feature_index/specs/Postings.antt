@@ -1,6 +1,6 @@
 -- A map from keys to lists of numbers, as the list of its entries. Keys are told apart by a test.
-use Rattle.std.specs.Prelude.{◌≡◌, ◌≢◌, ℕ, ◌<◌, ◌↔◌, ◌⊎◌, Bool, List, [], Contains, AllPairs, unwrap_or}
-use Rattle.std.specs.Map.{lookup}
+use Rattle.std.specs.Prelude.{◌≡◌, ◌≢◌, ℕ, ◌<◌, ◌↔◌, ◌⊎◌, Bool, List, [], Option, Some, Contains, AllPairs, slice_get, unwrap_or}
+use Rattle.std.specs.Map.{keys_of, lookup}
 
 -- each number is less than those after it
 abbrev pub Ascends : List ℕ → Type 0
@@ -34,3 +34,11 @@ numbers_of eq entries k = (posting_of eq entries k).numbers
 -- the room for more numbers under a key
 abbrev pub spare_of : {K : Type 0} → (K → K → Bool) → List (K × Posting) → K → ℕ
 spare_of eq entries k = (posting_of eq entries k).spare
+
+-- the key of the row at a place
+abbrev pub key_at : {K : Type 0} → List (K × Posting) → ℕ → Option K
+key_at entries place = slice_get (keys_of entries) place
+
+-- each row that there was stays at its place, under its key
+abbrev pub KeepsRows : {K : Type 0} → List (K × Posting) → List (K × Posting) → Type 0
+KeepsRows {K} old new = (place : ℕ) (k : K) → key_at old place ≡ Some k → key_at new place ≡ Some k

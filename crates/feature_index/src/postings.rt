@@ -1,6 +1,7 @@
 //! Postings: the numbers under each key.
-ghost use Rattle.std.specs.Prelude.{◌≡◌, ◌+◌, ◌<◌, ◌≤◌, [], false, OnOk, OnErr, Contains, count_by, if◌then◌else◌};
-ghost use Rattle.feature_index.specs.Postings.{Ascends, Exchanges, Gains, Loses, posting_of, numbers_of, spare_of};
+ghost use Rattle.std.specs.Prelude.{◌≡◌, ◌+◌, ◌<◌, ◌≤◌, [], Some, true, false, IsSome, IfOk, OnOk, OnErr, Contains, count_by, if◌then◌else◌};
+ghost use Rattle.std.specs.Map.{keys_of};
+ghost use Rattle.feature_index.specs.Postings.{Ascends, Exchanges, Gains, KeepsRows, Loses, key_at, posting_of, numbers_of, spare_of};
 
 use crate::row::Row;
 use indexmap::IndexMap;
@@ -36,6 +37,16 @@ impl<K: Eq + Hash + Drop> Postings<K> {
         }
     }
 
+    /// No numbers under any key, with room for that many keys, in a map that hashes keys by these numbers. Returns `Memory` if
+    /// allocation fails.
+    pub fn with_room(alloc: Global, hashing: Hashing, keys: usize) -> Result<Postings<K>, Memory>
+        ensures { IfOk result (λ postings. postings ≡ []) }
+    {
+        Ok(Postings {
+            rows: IndexMap::with_capacity_and_hasher(alloc, keys, hashing)?,
+        })
+    }
+
     /// The numbers by which the map hashes keys. Takes no memory.
     pub fn hashing(&self) -> Hashing {
         *self.rows.hasher()
@@ -52,94 +63,103 @@ impl<K: Eq + Hash + Drop> Postings<K> {
         }
     }
 
-    /// Makes the spare of each key at least the number of times that it stands in the list. The numbers stay, and no spare
-    /// falls. Returns `Memory` if allocation fails; then some spares may have risen.
-    pub fn make_room(&mut self, alloc: Global, keys: Vec<K>) -> Result<(), Memory>
+    /// The place of the key's row, which is added last and without numbers where there is none. What stands under each key stays,
+    /// and each row stays at its place. One look-up: the row that an equal key has is put back. Returns `Memory` if allocation
+    /// fails; then all stays.
+    pub fn row_of(&mut self, key: K) -> Result<usize, Memory>
+        ensures place { IfOk result (λ place. (k : K) × (key_at self.new place ≡ Some k)
+            × (K.eq key k ≡ true)) }
+        ensures postings { (k : K) → posting_of K.eq self.new k ≡ posting_of K.eq self.old k }
+        ensures rows { KeepsRows self.old self.new }
+    {
+        let (place, old) = self.rows.insert_full(key, Row::empty())?;
+        match old {
+            Some(row) => {
+                let (_, found) = self.rows.pair_mut(place);
+                *found = row;
+                Ok(place)
+            }
+            None => Ok(place),
+        }
+    }
+
+    /// Makes room for one number more under the key of the row at the place. Returns `Memory` if allocation fails; then all
+    /// stays.
+    pub fn make_room_at(&mut self, alloc: Global, place: usize) -> Result<(), Memory>
+        requires { IsSome (key_at self.old place) }
         ensures numbers { (k : K) → numbers_of K.eq self.new k ≡ numbers_of K.eq self.old k }
         ensures kept { (k : K) → spare_of K.eq self.old k ≤ spare_of K.eq self.new k }
-        ensures room { OnOk result ((k : K) → count_by (K.eq k) keys.items
-            ≤ spare_of K.eq self.new k) }
+        ensures room { OnOk result ((k : K) → key_at self.old place ≡ Some k
+            → spare_of K.eq self.old k + 1 ≤ spare_of K.eq self.new k) }
+        ensures rows { KeepsRows self.old self.new }
     {
-        for key in keys {
-            self.make_room_once(alloc, key)?;
-        }
-        Ok(())
+        let (_, found) = self.rows.pair_mut(place);
+        found.make_room(alloc)
     }
 
-    /// Makes room for one number more under the key. Returns `Memory` if allocation fails; then all stays.
-    pub fn make_room_once(&mut self, alloc: Global, key: K) -> Result<(), Memory>
-        ensures numbers { (k : K) → numbers_of K.eq self.new k ≡ numbers_of K.eq self.old k }
-        ensures kept { (k : K) → spare_of K.eq self.old k ≤ spare_of K.eq self.new k }
-        ensures room { OnOk result ((k : K) → spare_of K.eq self.old k +
-            (if K.eq k key then 1 else 0)
-            ≤ spare_of K.eq self.new k) }
-    {
-        self.rows
-            .entry(key)?
-            .or_insert(Row::empty())
-            .make_room(alloc)
-    }
-
-    /// Puts a number under the key, and makes the room for it. What stands under all other keys stays, and so does the spare.
-    /// Returns `Memory` if allocation fails; then all numbers stay.
-    pub fn put(&mut self, alloc: Global, key: K, number: u64) -> Result<(), Memory>
-        requires { Contains (numbers_of K.eq self.old key) number → ⊥ }
-        ensures numbers { OnOk result (Gains (numbers_of K.eq self.old key)
-            (numbers_of K.eq self.new key) number) }
-        ensures spare { spare_of K.eq self.old key ≤ spare_of K.eq self.new key }
-        ensures others { (k : K) → K.eq key k ≡ false
+    /// Puts a number under the key of the row at the place, in the room that was made. What stands under all other keys stays.
+    /// Takes no memory.
+    pub fn add_at(&mut self, place: usize, number: u64)
+        requires row { IsSome (key_at self.old place) }
+        requires spare { (k : K) → key_at self.old place ≡ Some k → 0 < spare_of K.eq self.old k }
+        requires absent { (k : K) → key_at self.old place ≡ Some k
+            → Contains (numbers_of K.eq self.old k) number → ⊥ }
+        ensures numbers { (k : K) → key_at self.old place ≡ Some k
+            → Gains (numbers_of K.eq self.old k) (numbers_of K.eq self.new k) number }
+        ensures used { (k : K) → key_at self.old place ≡ Some k
+            → spare_of K.eq self.new k + 1 ≡ spare_of K.eq self.old k }
+        ensures others { (j k : K) → key_at self.old place ≡ Some j → K.eq j k ≡ false
             → posting_of K.eq self.new k ≡ posting_of K.eq self.old k }
-        ensures refused { OnErr result (numbers_of K.eq self.new key
-            ≡ numbers_of K.eq self.old key) }
+        ensures rows { KeepsRows self.old self.new }
     {
-        let under_key = self.rows.entry(key)?.or_insert(Row::empty());
-        under_key.make_room(alloc)?;
-        under_key.add(number);
-        Ok(())
+        let (_, found) = self.rows.pair_mut(place);
+        found.add(number);
     }
 
-    /// Puts a number under the key, in the room that was made. What stands under all other keys stays. Takes no memory.
-    pub fn add(&mut self, key: &K, number: u64)
-        requires spare { 0 < spare_of K.eq self.old key.now }
-        requires absent { Contains (numbers_of K.eq self.old key.now) number → ⊥ }
-        ensures numbers { Gains (numbers_of K.eq self.old key.now)
-            (numbers_of K.eq self.new key.now) number }
-        ensures used { spare_of K.eq self.new key.now + 1 ≡ spare_of K.eq self.old key.now }
-        ensures others { (k : K) → K.eq key.now k ≡ false
+    /// Takes a number from under the key of the row at the place, whose spare stays. What stands under all other keys stays.
+    /// Takes no memory.
+    pub fn remove_at(&mut self, place: usize, number: u64)
+        requires row { IsSome (key_at self.old place) }
+        requires present { (k : K) → key_at self.old place ≡ Some k
+            → Contains (numbers_of K.eq self.old k) number }
+        ensures numbers { (k : K) → key_at self.old place ≡ Some k
+            → Loses (numbers_of K.eq self.old k) (numbers_of K.eq self.new k) number }
+        ensures spare { (k : K) → key_at self.old place ≡ Some k
+            → spare_of K.eq self.new k ≡ spare_of K.eq self.old k }
+        ensures others { (j k : K) → key_at self.old place ≡ Some j → K.eq j k ≡ false
             → posting_of K.eq self.new k ≡ posting_of K.eq self.old k }
+        ensures rows { KeepsRows self.old self.new }
     {
-        if let Some(row) = self.rows.get_mut(key) {
-            row.add(number);
-        }
+        let (_, found) = self.rows.pair_mut(place);
+        found.remove(number);
     }
 
-    /// Takes a number from under the key, whose spare stays. What stands under all other keys stays. Takes no memory.
-    pub fn remove(&mut self, key: &K, number: u64)
-        requires { Contains (numbers_of K.eq self.old key.now) number }
-        ensures numbers { Loses (numbers_of K.eq self.old key.now)
-            (numbers_of K.eq self.new key.now) number }
-        ensures spare { spare_of K.eq self.new key.now ≡ spare_of K.eq self.old key.now }
-        ensures others { (k : K) → K.eq key.now k ≡ false
+    /// Puts a number under the key of the row at the place instead of another, which is taken out. The spare stays, and what
+    /// stands under all other keys. Takes no memory.
+    pub fn renumber_at(&mut self, place: usize, from: u64, to: u64)
+        requires row { IsSome (key_at self.old place) }
+        requires present { (k : K) → key_at self.old place ≡ Some k
+            → Contains (numbers_of K.eq self.old k) from }
+        requires absent { (k : K) → key_at self.old place ≡ Some k
+            → Contains (numbers_of K.eq self.old k) to → ⊥ }
+        ensures numbers { (k : K) → key_at self.old place ≡ Some k
+            → Exchanges (numbers_of K.eq self.old k) (numbers_of K.eq self.new k) from to }
+        ensures spare { (k : K) → key_at self.old place ≡ Some k
+            → spare_of K.eq self.new k ≡ spare_of K.eq self.old k }
+        ensures others { (j k : K) → key_at self.old place ≡ Some j → K.eq j k ≡ false
             → posting_of K.eq self.new k ≡ posting_of K.eq self.old k }
+        ensures rows { KeepsRows self.old self.new }
     {
-        if let Some(row) = self.rows.get_mut(key) {
-            row.remove(number);
-        }
+        let (_, found) = self.rows.pair_mut(place);
+        found.renumber(from, to);
     }
 
-    /// Puts a number under the key in the place of another, which is taken out. The spare stays, and what stands under all
-    /// other keys. Takes no memory.
-    pub fn renumber(&mut self, key: &K, from: u64, to: u64)
-        requires present { Contains (numbers_of K.eq self.old key.now) from }
-        requires absent { Contains (numbers_of K.eq self.old key.now) to → ⊥ }
-        ensures numbers { Exchanges (numbers_of K.eq self.old key.now)
-            (numbers_of K.eq self.new key.now) from to }
-        ensures spare { spare_of K.eq self.new key.now ≡ spare_of K.eq self.old key.now }
-        ensures others { (k : K) → K.eq key.now k ≡ false
-            → posting_of K.eq self.new k ≡ posting_of K.eq self.old k }
+    /// The keys, in the order of the places of their rows. Returns `Memory` if allocation fails.
+    pub fn into_keys(self, alloc: Global) -> Result<Vec<K>, Memory>
+        ensures { IfOk result (λ keys. keys.items ≡ keys_of self) }
     {
-        if let Some(row) = self.rows.get_mut(key) {
-            row.renumber(from, to);
-        }
+        let Postings { rows } = self;
+        let keys: Vec<K> = rows.into_keys().collect(alloc)?;
+        Ok(keys)
     }
 }

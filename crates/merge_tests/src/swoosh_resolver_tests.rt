@@ -46,8 +46,8 @@ fn insert<L: Ledger>(
 ) -> Result<(), Memory> {
     for set in sets_of(alloc, masks)? {
         let change = blocks.plan_insert(alloc, blocks.start(), set, steps)?;
-        blocks.make_room(alloc, &change)?;
-        blocks.install(change);
+        let ready = blocks.make_room(alloc, change)?;
+        blocks.install(ready);
     }
     Ok(())
 }
@@ -64,8 +64,8 @@ fn split_alone<L: Ledger>(
     let parts = resolve_plain(sets_of(alloc, masks)?, steps)?;
     if blocks.count() == 1 && blocks.block(number).is_some() {
         let change = blocks.plan_split(alloc, blocks.start(), Place::Kept(number), parts)?;
-        blocks.make_room(alloc, &change)?;
-        blocks.install(change);
+        let ready = blocks.make_room(alloc, change)?;
+        blocks.install(ready);
     }
     Ok(())
 }
@@ -157,8 +157,9 @@ fn inserted_together<L: Ledger>(
         .member(&change, Place::Fresh(0))
         .ok_or("no member")?
         .mask();
-    let numbers = blocks.make_room(alloc, &change)?;
-    blocks.install(change);
+    let ready = blocks.make_room(alloc, change)?;
+    let numbers = ready.numbers.as_slice().to_vec(alloc)?;
+    blocks.install(ready);
     match blocks.with_key(&1).first() {
         Some(number) if numbers.as_slice() == [*number].as_slice() => Ok(
             blocks

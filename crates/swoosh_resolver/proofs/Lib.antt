@@ -3,9 +3,11 @@ mod Counting
 mod Keys
 mod Listing
 mod Looking
+mod Moving
 pub mod Places
 mod Numbering
 mod Opening
+mod Placing
 mod Unmerged
 pub mod Splitting
-mod Views
+pub mod Views

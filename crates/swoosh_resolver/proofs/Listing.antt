@@ -1,7 +1,9 @@
 -- Values in a row, and the index of their keys, when one is put last or taken out.
 use Rattle.std.proofs.Common.{◌≡◌, ℕ, zero, suc, ◌-◌, ◌<◌, ◌≤◌, Bool, true, List, [], ◌∷◌, ◌++◌, Option, None, Some, length, get_or, take, refl, sym, ◌∙◌, ap, subst, inl, inr, arith}
 use Rattle.std.specs.Prelude.{◌↔◌, ◌⊎◌, Contains, map, slice_set, swap_remove}
-use Rattle.std.proofs.lemmas.List.{map-append, length-map, length-set, get_or-set_same, get_or-set_other}
+use Rattle.std.proofs.lemmas.List.{map-append, length-map, length-set, get_or_default, get_or-set_same, get_or-set_other}
+use Rattle.std.proofs.lemmas.List.Sorted.{IsPermutation-sym, IsPermutation-swap_remove, Contains-permutation}
+use Rattle.merge_laws.proofs.Places.{Contains-tail}
 use Rattle.feature_index.specs.Postings.{Posting, numbers_of}
 use Rattle.swoosh_resolver.specs.Tables.{Entry, ArePosted, AreListed, block_at, blocks_in, put_block}
 use Rattle.swoosh_resolver.specs.Insertions.{passes}
@@ -76,14 +78,14 @@ module _ {X : Type 0} where
               ]
         ]
 
-module _ {R K : Type 0} {eq : K → K → Bool} {has_key : R → K → Type 0} where
-  posted-same : (L M : List (Option (Entry R K))) (p : List (K × Posting)) → ((n : ℕ) → block_at L n ≡ block_at M n) → ArePosted eq has_key L p → ArePosted eq has_key M p
+module _ {R P K : Type 0} {eq : K → K → Bool} {has_key : R → K → Type 0} where
+  posted-same : (L M : List (Option (Entry R P))) (p : List (K × Posting)) → ((n : ℕ) → block_at L n ≡ block_at M n) → ArePosted eq has_key L p → ArePosted eq has_key M p
   posted-same L M p same posted = record {
-    stands = λ k n. subst (λ o. Contains (numbers_of eq p k) n ↔ ((e : Entry R K) × (o ≡ Some e) × has_key e.value k)) (same n) (posted.stands k n);
+    stands = λ k n. subst (λ o. Contains (numbers_of eq p k) n ↔ ((e : Entry R P) × (o ≡ Some e) × has_key e.value k)) (same n) (posted.stands k n);
   }
 
   -- a value is put last
-  pub listed-pushed : (xs : List (Entry R K)) (e : Entry R K) (old new : List (K × Posting)) → AreListed eq has_key xs old
+  pub listed-pushed : (xs : List (Entry R P)) (e : Entry R P) (old new : List (K × Posting)) → AreListed eq has_key xs old
       → ((k : K) (m : ℕ) → Contains (numbers_of eq new k) m ↔ (Contains (numbers_of eq old k) m ⊎ (has_key e.value k × (m ≡ length xs))))
       → AreListed eq has_key (xs ++ e ∷ []) new
   listed-pushed xs e old new listed changed =
@@ -91,11 +93,11 @@ module _ {R K : Type 0} {eq : K → K → Bool} {has_key : R → K → Type 0} w
       let put' = posted-put (map Some xs) old listed new (length xs) e (listed-past xs (length xs) (omega arith)) (omega arith) changed in
       rw (map-append Some xs (e ∷ [])) (subst (λ L. ArePosted eq has_key L new) (put-past (map Some xs) (length xs) e (omega arith)) put')
 
-  module _ (xs : List (Entry R K)) (i : ℕ) (d : Entry R K) (m : ℕ) (len : length xs ≡ suc m) where
+  module _ (xs : List (Entry R P)) (i : ℕ) (d : Entry R P) (m : ℕ) (len : length xs ≡ suc m) where
     -- the last value is taken out
     pub unlisted-last : (p : List (K × Posting)) → i ≡ m → ArePosted eq has_key (slice_set (map Some xs) i None) p → AreListed eq has_key (swap_remove xs i d) p
     unlisted-last p same posted =
-        let mapped : length (map {B = Option (Entry R K)} Some xs) ≡ length xs = length-map xs Some in
+        let mapped : length (map {B = Option (Entry R P)} Some xs) ≡ length xs = length-map xs Some in
         let is : length xs - 1 ≡ m = omega arith in
         rw is (posted-same (slice_set (map Some xs) i None) _ p
         (λ n. subst (λ i. block_at (slice_set (map Some xs) i None) n ≡ block_at (map Some (take m (slice_set xs i (get_or xs m d)))) n) (sym same)
@@ -105,10 +107,19 @@ module _ {R K : Type 0} {eq : K → K → Bool} {has_key : R → K → Type 0} w
     -- another is taken out, and the last is put in its place
     pub unlisted-moved : (p : List (K × Posting)) → i < m → ArePosted eq has_key (put_block (slice_set (slice_set (map Some xs) i None) m None) i (get_or xs m d)) p → AreListed eq has_key (swap_remove xs i d) p
     unlisted-moved p less posted =
-        let mapped : length (map {B = Option (Entry R K)} Some xs) ≡ length xs = length-map xs Some in
+        let mapped : length (map {B = Option (Entry R P)} Some xs) ≡ length xs = length-map xs Some in
         let is : length xs - 1 ≡ m = omega arith in
         let one = length-set (map Some xs) i None in
         let two = length-set (slice_set (map Some xs) i None) m None in
         rw is (posted-same (slice_set (slice_set (slice_set (map Some xs) i None) m None) i (Some (get_or xs m d))) _ p
         (λ n. rewritten (map Some xs) m (get_or xs m d) (omega arith) i less n ∙ swapped-at m xs i d len (omega arith) n)
         (subst (λ L. ArePosted eq has_key L p) (put-within (slice_set (slice_set (map Some xs) i None) m None) i (get_or xs m d) (omega arith)) posted))
+
+-- what is left once a value is taken out was there before
+pub swapped-among : {X : Type 0} (xs : List X) (i : ℕ) (d x : X) → i < length xs → Contains (swap_remove xs i d) x → Contains xs x
+swapped-among xs i d x within there =
+    let y = get_or xs i d in
+    let is : y ≡ get_or xs i y = get_or_default xs i d y within in
+    let last : get_or xs (length xs - 1) d ≡ get_or xs (length xs - 1) y = get_or_default xs (length xs - 1) d y (omega arith) in
+    let there' : Contains (swap_remove xs i y) x = subst (λ z. Contains (take (length xs - 1) (slice_set xs i z)) x) last there in
+    Contains-permutation (y ∷ swap_remove xs i y) xs x (IsPermutation-sym xs (y ∷ swap_remove xs i y) (IsPermutation-swap_remove xs i y within is)) (Contains-tail y (swap_remove xs i y) x there')

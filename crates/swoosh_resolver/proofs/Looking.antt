@@ -14,27 +14,27 @@ use Rattle.swoosh_resolver.specs.Insertions.{passes}
 use Rattle.swoosh_resolver.proofs.Places.{block-from_open, number-from_block, passing-le, counted-more}
 
 -- the numbers are those of the blocks that are posted under one of the keys that the value seeks
-pub record IsLook {R K : Type 0} (is_posted seeks : R → K → Type 0) (blocks : List (Option (Entry R K))) (value : R) (keys : List K) (numbers : List ℕ) : Type 0 where
+pub record IsLook {R P K : Type 0} (is_posted seeks : R → K → Type 0) (blocks : List (Option (Entry R P))) (value : R) (keys : List K) (numbers : List ℕ) : Type 0 where
   pub keyed : AreSought seeks value keys
   pub ascending : Ascends numbers
-  pub members : (n : ℕ) → Contains numbers n ↔ ((k : K) × Contains keys k × ((e : Entry R K) × (block_at blocks n ≡ Some e) × is_posted e.value k))
+  pub members : (n : ℕ) → Contains numbers n ↔ ((k : K) × Contains keys k × ((e : Entry R P) × (block_at blocks n ≡ Some e) × is_posted e.value k))
 
-module _ {R K : Type 0} {match : R → R → Bool} {is_posted seeks : R → K → Type 0} {shares : R → R → Bool} (laws : SeekingLaws match is_posted seeks shares)
-    (blocks : List (Option (Entry R K))) (closed : List ℕ) (value : R) (keys : List K) (numbers : List ℕ) (look : IsLook is_posted seeks blocks value keys numbers) where
-  abbrev left : List (Option (Entry R K))
+module _ {R P K : Type 0} {match : R → R → Bool} {is_posted seeks : R → K → Type 0} {shares : R → R → Bool} (laws : SeekingLaws match is_posted seeks shares)
+    (blocks : List (Option (Entry R P))) (closed : List ℕ) (value : R) (keys : List K) (numbers : List ℕ) (look : IsLook is_posted seeks blocks value keys numbers) where
+  abbrev left : List (Option (Entry R P))
   left = without blocks closed
 
   -- the open block under one of the numbers shares a key with the value
-  shares-at : (n : ℕ) → Contains numbers n → (e : Entry R K) → block_at left n ≡ Some e → shares e.value value ≡ true
+  shares-at : (n : ℕ) → Contains numbers n → (e : Entry R P) → block_at left n ≡ Some e → shares e.value value ≡ true
   shares-at n c e at =
       let (k, ck, (f, there, has)) = (look.members n).0 c in
       let same : f ≡ e = let here = block-from_open closed blocks n e at in cc in
-      laws.near value e.value k ((look.keyed.members k).0 ck) (subst (λ (z : Entry R K). is_posted z.value k) same has)
+      laws.near value e.value k ((look.keyed.members k).0 ck) (subst (λ (z : Entry R P). is_posted z.value k) same has)
 
   cost-at : (n : ℕ) → Contains numbers n → cond {A = ℕ} (is_some (block_at left n)) 1 0 ≤ cond (passes (λ e. shares e.value value) (block_at left n)) 1 0
   cost-at n c = go (block_at left n) (λ e at. shares-at n c e at)
     where
-      go : (o : Option (Entry R K)) → ((e : Entry R K) → o ≡ Some e → shares e.value value ≡ true) → cond {A = ℕ} (is_some o) 1 0 ≤ cond (passes (λ e. shares e.value value) o) 1 0
+      go : (o : Option (Entry R P)) → ((e : Entry R P) → o ≡ Some e → shares e.value value ≡ true) → cond {A = ℕ} (is_some o) 1 0 ≤ cond (passes (λ e. shares e.value value) o) 1 0
       go None h = omega arith
       go (Some e) h = rw (h e refl) (omega arith)
 
@@ -66,7 +66,7 @@ module _ {R K : Type 0} {match : R → R → Bool} {is_posted seeks : R → K �
       none : (n : ℕ) → Contains numbers n → passes (λ e. match value e.value) (block_at left n) ≡ false
       none n (j, jl, e) = subst (λ m. passes (λ e. match value e.value) (block_at left m) ≡ false) e (within j n (omega arith) (omega arith))
 
-      one : (e : Entry R K) → Contains (blocks_in left) e → match value e.value ≡ false
+      one : (e : Entry R P) → Contains (blocks_in left) e → match value e.value ≡ false
       one e c =
           let (n, at) = number-from_block left e c in
           elim (match value e.value) as (λ b. match value e.value ≡ b → match value e.value ≡ false) [

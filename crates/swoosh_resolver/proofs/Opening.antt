@@ -10,7 +10,7 @@ use Rattle.std.proofs.lemmas.List.Sums.{sum_by-append}
 use Rattle.std.proofs.lemmas.List.Elements.{Contains-get_or, filter_map-append}
 use Rattle.std.proofs.lemmas.List.Sorted.{IsPermutation-refl, IsPermutation-sym, IsPermutation-cons, IsPermutation-trans, IsPermutation-middle, IsPermutation-to_front}
 use Rattle.feature_index.specs.Postings.{Posting, numbers_of}
-use Rattle.swoosh_resolver.specs.Tables.{Entry, ArePosted, block_at, blocks_in, put_block}
+use Rattle.swoosh_resolver.specs.Tables.{Entry, ArePosted, block_at, blocks_in, keys_at, put_block}
 use Rattle.swoosh_resolver.specs.Changes.{AreNumbers, AreOpened, keys_in, number_at, without}
 use Rattle.swoosh_resolver.proofs.Places.{block-kept}
 
@@ -58,21 +58,21 @@ one_or_not m n = elim (dec_lt m n) as (λ _. (m ≡ n) ⊎ (m ≢ n)) [
   | no h ↦ elim (dec_lt n m) as (λ _. (m ≡ n) ⊎ (m ≢ n)) [ yes h' ↦ inr (λ e. omega arith) | no h' ↦ inl (omega arith) ]
 ]
 
-module _ {R K : Type 0} {eq : K → K → Bool} {has_key : R → K → Type 0} (blocks : List (Option (Entry R K))) (old : List (K × Posting)) (posted : ArePosted eq has_key blocks old) (new : List (K × Posting)) (n : ℕ) where
+module _ {R P K : Type 0} {eq : K → K → Bool} {has_key : R → K → Type 0} (blocks : List (Option (Entry R P))) (old : List (K × Posting)) (posted : ArePosted eq has_key blocks old) (new : List (K × Posting)) (n : ℕ) where
   -- a number with no block stands under no key
   pub unposted-free : block_at blocks n ≡ None → (k : K) → Contains (numbers_of eq old k) n → ⊥
   unposted-free free k c = let (e, at, has) = (posted.stands k n).0 c in absurd cc
 
   -- a number with a block stands under each of its keys
-  pub posted-block : (e : Entry R K) → block_at blocks n ≡ Some e → (k : K) → has_key e.value k → Contains (numbers_of eq old k) n
+  pub posted-block : (e : Entry R P) → block_at blocks n ≡ Some e → (k : K) → has_key e.value k → Contains (numbers_of eq old k) n
   posted-block e at k has = (posted.stands k n).1 (e, at, has)
 
-  pub posted-put : (e : Entry R K) → block_at blocks n ≡ None → n ≤ length blocks
+  pub posted-put : (e : Entry R P) → block_at blocks n ≡ None → n ≤ length blocks
       → ((k : K) (m : ℕ) → Contains (numbers_of eq new k) m ↔ (Contains (numbers_of eq old k) m ⊎ (has_key e.value k × (m ≡ n))))
       → ArePosted eq has_key (put_block blocks n e) new
   posted-put e free le changed = record {
     stands = λ k m. (
-      λ c. elim ((changed k m).0 c) as (λ _. (f : Entry R K) × (block_at (put_block blocks n e) m ≡ Some f) × has_key f.value k) [
+      λ c. elim ((changed k m).0 c) as (λ _. (f : Entry R P) × (block_at (put_block blocks n e) m ≡ Some f) × has_key f.value k) [
         | inl there ↦
             (let (f, at, has) = (posted.stands k m).0 there in
             (f, put-other blocks n e le m (λ (same : m ≡ n). let none : block_at blocks m ≡ None = subst (λ z. block_at blocks z ≡ None) (sym same) free in absurd cc) ∙ at, has))
@@ -82,13 +82,13 @@ module _ {R K : Type 0} {eq : K → K → Bool} {has_key : R → K → Type 0} (
         | inl same ↦
             (let here : block_at (put_block blocks n e) m ≡ Some e = subst (λ z. block_at (put_block blocks n e) z ≡ Some e) (sym same) (put-at blocks n e le) in
             let one : f ≡ e = cc in
-            (changed k m).1 (inr (subst (λ (z : Entry R K). has_key z.value k) one has, same)))
+            (changed k m).1 (inr (subst (λ (z : Entry R P). has_key z.value k) one has, same)))
         | inr ne ↦ (changed k m).1 (inl ((posted.stands k m).1 (f, sym (put-other blocks n e le m ne) ∙ at, has)))
       ],
     );
   }
 
-  pub posted-closed : (e : Entry R K) → block_at blocks n ≡ Some e
+  pub posted-closed : (e : Entry R P) → block_at blocks n ≡ Some e
       → ((k : K) (m : ℕ) → Contains (numbers_of eq new k) m ↔ (Contains (numbers_of eq old k) m × (has_key e.value k → m ≢ n)))
       → ArePosted eq has_key (slice_set blocks n None) new
   posted-closed e at changed =
@@ -102,7 +102,7 @@ module _ {R K : Type 0} {eq : K → K → Bool} {has_key : R → K → Type 0} (
                 f,
                 get_or-set_other blocks n m None None (λ (same : m ≡ n).
                     (let one : f ≡ e = let at' : block_at blocks m ≡ Some e = subst (λ z. block_at blocks z ≡ Some e) (sym same) at in cc in
-                    apart (subst (λ (z : Entry R K). has_key z.value k) one has) same)) ∙ here,
+                    apart (subst (λ (z : Entry R P). has_key z.value k) one has) same)) ∙ here,
                 has,
               ),
           λ (f, here, has).
@@ -112,7 +112,7 @@ module _ {R K : Type 0} {eq : K → K → Bool} {has_key : R → K → Type 0} (
       }
 
   -- the block is moved to a number with none
-  pub posted-moved : (e : Entry R K) (to : ℕ) → block_at blocks n ≡ Some e → block_at blocks to ≡ None → to ≤ length blocks
+  pub posted-moved : (e : Entry R P) (to : ℕ) → block_at blocks n ≡ Some e → block_at blocks to ≡ None → to ≤ length blocks
       → ((k : K) (m : ℕ) → Contains (numbers_of eq new k) m ↔ ((Contains (numbers_of eq old k) m × (has_key e.value k → m ≢ n)) ⊎ (has_key e.value k × (m ≡ to))))
       → ArePosted eq has_key (put_block (slice_set blocks n None) to e) new
   posted-moved e to at free le changed =
@@ -123,13 +123,13 @@ module _ {R K : Type 0} {eq : K → K → Bool} {has_key : R → K → Type 0} (
       let here : block_at (put_block (slice_set blocks n None) to e) to ≡ Some e = put-at (slice_set blocks n None) to e le' in
       record {
         stands = λ k m. (
-          λ c. elim ((changed k m).0 c) as (λ _. (f : Entry R K) × (block_at (put_block (slice_set blocks n None) to e) m ≡ Some f) × has_key f.value k) [
+          λ c. elim ((changed k m).0 c) as (λ _. (f : Entry R P) × (block_at (put_block (slice_set blocks n None) to e) m ≡ Some f) × has_key f.value k) [
             | inl (there, apart) ↦
                 (let (f, at', has) = (posted.stands k m).0 there in
                 let other : m ≢ to = λ same. (let none : block_at blocks m ≡ None = subst (λ z. block_at blocks z ≡ None) (sym same) free in absurd cc) in
                 let left : m ≢ n = λ same.
                 (let one : f ≡ e = let at'' : block_at blocks m ≡ Some e = subst (λ z. block_at blocks z ≡ Some e) (sym same) at in cc in
-                apart (subst (λ (z : Entry R K). has_key z.value k) one has) same) in
+                apart (subst (λ (z : Entry R P). has_key z.value k) one has) same) in
                 (f, put-other (slice_set blocks n None) to e le' m other ∙ (get_or-set_other blocks n m None None left ∙ at'), has))
             | inr (has, same) ↦ (e, subst (λ z. block_at (put_block (slice_set blocks n None) to e) z ≡ Some e) (sym same) here, has)
           ],
@@ -137,7 +137,7 @@ module _ {R K : Type 0} {eq : K → K → Bool} {has_key : R → K → Type 0} (
             | inl same ↦
                 (let here' : block_at (put_block (slice_set blocks n None) to e) m ≡ Some e = subst (λ z. block_at (put_block (slice_set blocks n None) to e) z ≡ Some e) (sym same) here in
                 let one : f ≡ e = cc in
-                (changed k m).1 (inr (subst (λ (z : Entry R K). has_key z.value k) one has, same)))
+                (changed k m).1 (inr (subst (λ (z : Entry R P). has_key z.value k) one has, same)))
             | inr ne ↦
                 (let stays : block_at (slice_set blocks n None) m ≡ Some f = sym (put-other (slice_set blocks n None) to e le' m ne) ∙ at' in
                 let left : m ≢ n = λ same. (let none : block_at (slice_set blocks n None) m ≡ None = subst (λ z. block_at (slice_set blocks n None) z ≡ None) (sym same) emptied in absurd cc) in
@@ -286,17 +286,18 @@ module _ {X : Type 0} (start : List (Option X)) (closed : List ℕ) where
             ]
 
 -- the keys of one entry among those of more
-pub count-keys : {R K : Type 0} (eq : K → K → Bool) (k : K) (done : List (Entry R K)) (e : Entry R K) (rest : List (Entry R K)) → count_by (eq k) (keys_in (done ++ (e ∷ rest))) ≡ count_by (eq k) (keys_in done) + (count_by (eq k) e.keys + count_by (eq k) (keys_in rest))
-count-keys eq k done e rest =
-    let split = flat_map-append (λ (e : Entry _ _). e.keys) done (e ∷ rest) in
-    let two = sum_by-append (λ x. cond (eq k x) 1 0) (keys_in done) (e.keys ++ keys_in rest) in
-    let more = sum_by-append (λ x. cond (eq k x) 1 0) e.keys (keys_in rest) in
+pub count-keys : {R K : Type 0} (eq : K → K → Bool) (postings : List (K × Posting)) (k : K) (done : List (Entry R ℕ)) (e : Entry R ℕ) (rest : List (Entry R ℕ))
+    → count_by (eq k) (keys_in postings (done ++ (e ∷ rest))) ≡ count_by (eq k) (keys_in postings done) + (count_by (eq k) (keys_at postings e.keys) + count_by (eq k) (keys_in postings rest))
+count-keys {R} eq postings k done e rest =
+    let split = flat_map-append (λ (e : Entry R ℕ). keys_at postings e.keys) done (e ∷ rest) in
+    let two = sum_by-append (λ x. cond (eq k x) 1 0) (keys_in postings done) (keys_at postings e.keys ++ keys_in postings rest) in
+    let more = sum_by-append (λ x. cond (eq k x) 1 0) (keys_at postings e.keys) (keys_in postings rest) in
     rw split (omega arith)
 
 -- the postings of the blocks stay theirs while their numbers stay
-pub reposted : {R K : Type 0} {eq : K → K → Bool} {has_key : R → K → Type 0} (blocks : List (Option (Entry R K))) (old new : List (K × Posting)) → ((k : K) → numbers_of eq new k ≡ numbers_of eq old k) → ArePosted eq has_key blocks old → ArePosted eq has_key blocks new
-reposted {R} {K} {eq} {has_key} blocks old new same posted = record {
-  stands = λ k n. subst (λ numbers. Contains numbers n ↔ ((e : Entry R K) × (block_at blocks n ≡ Some e) × has_key e.value k)) (sym (same k)) (posted.stands k n);
+pub reposted : {R P K : Type 0} {eq : K → K → Bool} {has_key : R → K → Type 0} (blocks : List (Option (Entry R P))) (old new : List (K × Posting)) → ((k : K) → numbers_of eq new k ≡ numbers_of eq old k) → ArePosted eq has_key blocks old → ArePosted eq has_key blocks new
+reposted {R} {P} {K} {eq} {has_key} blocks old new same posted = record {
+  stands = λ k n. subst (λ numbers. Contains numbers n ↔ ((e : Entry R P) × (block_at blocks n ≡ Some e) × has_key e.value k)) (sym (same k)) (posted.stands k n);
 }
 
 module _ (closed : List ℕ) (first opened : ℕ) (numbers : List ℕ) (are : AreNumbers closed first opened numbers) where

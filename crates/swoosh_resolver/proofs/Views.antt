@@ -2,14 +2,14 @@
 use Rattle.std.proofs.Common.{◌≡◌, ◌≢◌, ℕ, ◌+◌, ◌<◌, ◌≤◌, Bool, cond, IsTrue, List, [], ◌∷◌, ◌++◌, Option, None, Some, length, get_or, append_assoc, refl, sym, ◌∙◌, ap, subst, inl, inr, arith}
 use Rattle.std.specs.Prelude.{All, Contains, IsSome, count_by, swap_remove}
 use Rattle.std.specs.List.Sorted.{IsPermutation}
-use Rattle.std.proofs.lemmas.List.{map-append}
+use Rattle.std.proofs.lemmas.List.{append-nil, map-append}
 use Rattle.std.proofs.lemmas.List.Elements.{All-append, All-map, Contains-get_or, Contains-push_cases}
 use Rattle.std.proofs.lemmas.List.Quantifiers.{all_pairs_push}
 use Rattle.std.proofs.lemmas.List.Sorted.{IsPermutation-append_left, IsPermutation-append_right, IsPermutation-trans, IsPermutation-middle, IsPermutation-map, IsPermutation-swap_remove}
 use Rattle.std.proofs.lemmas.List.Sums.{sum_by-cons, sum_by-append}
 use Rattle.merge_laws.specs.Resolution.{JoinLaws, MatchLaws, IsDominated, AreApart, DoNotMatch}
 use Rattle.merge_laws.specs.Reach.{near}
-use Rattle.merge_laws.proofs.Places.{AllPairs-permutation, AllPairs-rest}
+use Rattle.merge_laws.proofs.Places.{AllPairs-none, AllPairs-permutation, AllPairs-rest}
 use Rattle.merge_laws.proofs.Resolutions.{IsDominated-left}
 use Rattle.swoosh_resolver.specs.Tables.{Entry, block_at, blocks_in, values_of}
 use Rattle.swoosh_resolver.specs.Changes.{without, view_of, Fits}
@@ -127,3 +127,23 @@ module _ {R K : Type 0} (blocks : List (Option (Entry R K))) (closed : List ℕ)
     named = fits.named;
     apart = subst (AreApart match) (sym (view-push e)) apart;
   }
+
+-- a view is told by the values that are opened
+pub view-same : {R P : Type 0} (left : List (Entry R P)) (opened opened' : List (Entry R P)) → values_of opened ≡ values_of opened' → values_of (left ++ opened) ≡ values_of (left ++ opened')
+view-same {R} {P} left opened opened' same =
+    map-append (λ (e : Entry R P). e.value) left opened ∙ ap (λ vs. values_of left ++ vs) same ∙ sym (map-append (λ (e : Entry R P). e.value) left opened')
+
+pub fits-same : {R P : Type 0} {match : R → R → Bool} (blocks : List (Option (Entry R P))) (closed : List ℕ) (opened opened' : List (Entry R P)) → values_of opened ≡ values_of opened' → Fits match blocks closed opened → Fits match blocks closed opened'
+fits-same {R} {P} {match} blocks closed opened opened' same fits = record {
+  distinct = fits.distinct;
+  named = fits.named;
+  apart = subst (AreApart match) (view-same (blocks_in (without blocks closed)) opened opened' same) fits.apart;
+}
+
+-- a change of nothing fits
+pub fits-none : {R P : Type 0} {match : R → R → Bool} (blocks : List (Option (Entry R P))) → AreApart match (values_of (blocks_in blocks)) → Fits match blocks [] []
+fits-none {match} blocks apart = record {
+  distinct = AllPairs-none (λ m n. m ≢ n);
+  named = λ n c. let none = c.1 in absurd (omega arith);
+  apart = subst (AreApart match) (sym (ap values_of (append-nil (blocks_in blocks)))) apart;
+}

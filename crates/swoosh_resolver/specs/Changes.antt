@@ -1,9 +1,9 @@
 -- Changes of blocks that are planned: their view, the room that they want, and what they make of the blocks.
 use Rattle.std.specs.Prelude.{◌≡◌, ◌≢◌, ℕ, ◌+◌, ◌-◌, ◌<◌, ◌≤◌, ◌++◌, nat_lt, if◌then◌else◌, Bool, List, Option, None, Some, IsSome, length, slice_set, slice_index, slice_index_or, count_by, Contains, AllPairs}
 use Rattle.std.specs.List.{fold, flat_map}
-use Rattle.feature_index.specs.Postings.{spare_of}
+use Rattle.feature_index.specs.Postings.{Posting, spare_of}
 use Rattle.merge_laws.specs.Resolution.{AreApart}
-use Rattle.swoosh_resolver.specs.Tables.{Entry, Table, block_at, blocks_in, values_of}
+use Rattle.swoosh_resolver.specs.Tables.{Entry, Table, ArePlaced, block_at, blocks_in, keys_at, values_of}
 
 -- the blocks but those under the numbers
 abbrev pub without : {X : Type 0} → List (Option X) → List ℕ → List (Option X)
@@ -20,13 +20,14 @@ pub record Fits {R K : Type 0} (match : R → R → Bool) (blocks : List (Option
   pub apart : AreApart match (view_of blocks closed opened)
 
 -- the keys of the entries, one entry after another
-abbrev pub keys_in : {R K : Type 0} → List (Entry R K) → List K
-keys_in entries = flat_map (λ e. e.keys) entries
+abbrev pub keys_in : {R K : Type 0} → List (K × Posting) → List (Entry R ℕ) → List K
+keys_in postings entries = flat_map (λ e. keys_at postings e.keys) entries
 
--- a number for each opened value, without taking memory, and room under each of its keys
-pub record HasRoom {R K : Type 0} (eq : K → K → Bool) (table : Table R K) (closed : List ℕ) (opened : List (Entry R K)) : Type 0 where
+-- a number for each opened value, without taking memory, and room under each of its keys, whose places in the index it has
+pub record HasRoom {R K : Type 0} (eq : K → K → Bool) (has_key : R → K → Type 0) (table : Table R K) (closed : List ℕ) (opened : List (Entry R ℕ)) : Type 0 where
   pub places : length opened ≤ length closed + table.room
-  pub spares : (k : K) → count_by (eq k) (keys_in opened) ≤ spare_of eq table.postings k
+  pub spares : (k : K) → count_by (eq k) (keys_in table.postings opened) ≤ spare_of eq table.postings k
+  pub placed : ArePlaced has_key table.postings opened
 
 -- the number of the opened value at this place: first the closed numbers are given again, and then new ones
 abbrev pub number_at : List ℕ → ℕ → ℕ → ℕ

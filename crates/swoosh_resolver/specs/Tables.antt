@@ -1,10 +1,9 @@
 -- Blocks under numbers, with the postings of their keys.
-use Rattle.std.specs.Prelude.{◌≡◌, ◌≢◌, ℕ, ◌↔◌, ◌++◌, ◌∷◌, nat_lt, if◌then◌else◌, Bool, List, [], Option, None, Some, length, map, slice_set, slice_index_or, Contains, AllPairs}
-use Rattle.feature_index.specs.Postings.{Posting, numbers_of}
+use Rattle.std.specs.Prelude.{◌≡◌, ◌≢◌, ℕ, ◌↔◌, ◌++◌, ◌∷◌, nat_lt, if◌then◌else◌, Bool, List, [], Option, None, Some, length, map, filter_map, slice_set, slice_index, slice_index_or, Contains, AllPairs, IsSome}
+use Rattle.feature_index.specs.Postings.{Posting, key_at, numbers_of}
 use Rattle.merge_laws.specs.Resolution.{AreApart}
-use Rattle.std.specs.List.{filter_map}
 
--- a value and its index keys
+-- a value with its index keys, or with the places of their rows in an index
 pub record Entry (R K : Type 0) : Type 0 where
   pub value : R
   pub keys : List K
@@ -24,7 +23,7 @@ pub record AreSought {R K : Type 0} (seeks : R → K → Type 0) (value : R) (ke
 
 -- the blocks, where the place in the list is the number; how many more numbers have room; and the numbers under each key
 pub record Table (R K : Type 0) : Type 0 where
-  pub blocks : List (Option (Entry R K))
+  pub blocks : List (Option (Entry R ℕ))
   pub room : ℕ
   pub postings : List (K × Posting)
 
@@ -45,15 +44,39 @@ abbrev pub values_of : {R K : Type 0} → List (Entry R K) → List R
 values_of entries = map (λ e. e.value) entries
 
 -- under each key stand the numbers of the blocks that have it, and no others
-pub record ArePosted {R K : Type 0} (eq : K → K → Bool) (has_key : R → K → Type 0) (blocks : List (Option (Entry R K))) (postings : List (K × Posting)) : Type 0 where
-  pub stands : (k : K) (n : ℕ) → Contains (numbers_of eq postings k) n ↔ ((e : Entry R K) × (block_at blocks n ≡ Some e) × has_key e.value k)
+pub record ArePosted {R P K : Type 0} (eq : K → K → Bool) (has_key : R → K → Type 0) (blocks : List (Option (Entry R P))) (postings : List (K × Posting)) : Type 0 where
+  pub stands : (k : K) (n : ℕ) → Contains (numbers_of eq postings k) n ↔ ((e : Entry R P) × (block_at blocks n ≡ Some e) × has_key e.value k)
 
 -- under each key stand the places of the entries that have it, and no others
-abbrev pub AreListed : {R K : Type 0} → (K → K → Bool) → (R → K → Type 0) → List (Entry R K) → List (K × Posting) → Type 0
+abbrev pub AreListed : {R P K : Type 0} → (K → K → Bool) → (R → K → Type 0) → List (Entry R P) → List (K × Posting) → Type 0
 AreListed eq has_key items postings = ArePosted eq has_key (map Some items) postings
 
--- no two blocks match, the postings are those of the blocks, and the count is how many blocks there are
-pub record AreBlocks {R K : Type 0} (match : R → R → Bool) (eq : K → K → Bool) (has_key : R → K → Type 0) (blocks : List (Option (Entry R K))) (postings : List (K × Posting)) (count : ℕ) : Type 0 where
+-- the keys of the rows at the places
+abbrev pub keys_at : {K : Type 0} → List (K × Posting) → List ℕ → List K
+keys_at postings places = filter_map (key_at postings) places
+
+-- the entry has the places of the rows of its value's keys, each once
+pub record IsPlaced {R K : Type 0} (has_key : R → K → Type 0) (postings : List (K × Posting)) (entry : Entry R ℕ) : Type 0 where
+  pub rows : (place : ℕ) → Contains entry.keys place → IsSome (key_at postings place)
+  pub keys : AreKeys has_key entry.value (keys_at postings entry.keys)
+
+-- so has each of the entries
+abbrev pub ArePlaced : {R K : Type 0} → (R → K → Type 0) → List (K × Posting) → List (Entry R ℕ) → Type 0
+ArePlaced {R} has_key postings entries = (e : Entry R ℕ) → Contains entries e → IsPlaced has_key postings e
+
+-- the entry, with the places that the rows list at its places
+abbrev pub at_rows : {R : Type 0} → List ℕ → Entry R ℕ → Entry R ℕ
+at_rows rows entry = record { value = entry.value; keys = map (λ place. slice_index rows place) entry.keys }
+
+-- the postings are those of the entries in a row, which have the places of their keys
+pub record AreListedAt {R K : Type 0} (eq : K → K → Bool) (has_key : R → K → Type 0) (items : List (Entry R ℕ)) (postings : List (K × Posting)) : Type 0 where
+  pub listed : AreListed eq has_key items postings
+  pub placed : ArePlaced has_key postings items
+
+-- no two blocks match, the postings are those of the blocks, which have the places of their keys, and the count is how many
+-- blocks there are
+pub record AreBlocks {R K : Type 0} (match : R → R → Bool) (eq : K → K → Bool) (has_key : R → K → Type 0) (blocks : List (Option (Entry R ℕ))) (postings : List (K × Posting)) (count : ℕ) : Type 0 where
   pub apart : AreApart match (values_of (blocks_in blocks))
   pub posted : ArePosted eq has_key blocks postings
+  pub placed : ArePlaced has_key postings (blocks_in blocks)
   pub counted : count ≡ length (blocks_in blocks)

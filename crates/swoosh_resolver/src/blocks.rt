@@ -5,7 +5,7 @@ ghost use Rattle.swoosh_resolver.specs.Tables.{Entry, block_at, blocks_in, value
 ghost use Rattle.swoosh_resolver.specs.Changes.{Fits, without};
 
 use crate::change::Change;
-use crate::keyed::Keyed;
+use crate::keyed::Placed;
 use crate::opened::Opened;
 use feature_index::postings::Postings;
 use key_hashing::hashing::Hashing;
@@ -15,10 +15,10 @@ use std::marker::Model;
 use union_base::memory::Memory;
 
 /// Values of which no two match, each under a number, with an index of their keys. Each number stands in the postings of
-/// each key of its block, and in no others.
+/// each key of its block, and in no others. The index has each key once, and a block has the places of its keys there.
 #[derive(Drop)]
 pub struct Blocks<R: Resolvable> {
-    pub(crate) blocks: Vec<Option<Keyed<R>>>,
+    pub(crate) blocks: Vec<Option<Placed<R>>>,
     pub(crate) postings: Postings<R::Key>,
     pub(crate) count: usize,
 }
@@ -59,6 +59,21 @@ impl<R: Resolvable> Blocks<R> {
         }
     }
 
+    /// The change that changes nothing, with room for that many keys of the values that it will open. Returns `Memory` if
+    /// allocation fails.
+    pub fn start_with_room(&self, keys: usize) -> Result<Change<R>, Memory>
+        ensures closed { IfOk result (λ change. change.closed.items ≡ []) }
+        ensures opened { IfOk result (λ change. change.opened.items ≡ []) }
+        ensures fits { IfOk result (λ change. Fits R.meets self.now.blocks change.closed.items
+            change.opened.items) }
+    {
+        let alloc = *self.blocks.allocator();
+        Ok(Change {
+            closed: Vec::new(alloc),
+            opened: Opened::with_room(alloc, self.postings.hashing(), keys)?,
+        })
+    }
+
     /// How many blocks there are. Takes no memory.
     pub fn count(&self) -> usize
         ensures { result ≡ length (blocks_in self.now.blocks) }
@@ -73,8 +88,8 @@ impl<R: Resolvable> Blocks<R> {
     {
         let mut found = Vec::with_capacity(alloc, self.count)?;
         for block in self.blocks.as_slice() {
-            if let Some(keyed) = block {
-                found.push(&keyed.value)?;
+            if let Some(placed) = block {
+                found.push(&placed.value)?;
             }
         }
         Ok(found)
@@ -84,7 +99,7 @@ impl<R: Resolvable> Blocks<R> {
     pub fn with_key(&self, key: &R::Key) -> &[u64]
         ensures ascending { Ascends result.now }
         ensures members { (n : ℕ) → Contains result.now n
-            ↔ ((e : Entry R R.Key) × (block_at self.now.blocks n ≡ Some e)
+            ↔ ((e : Entry R ℕ) × (block_at self.now.blocks n ≡ Some e)
             × R.is_posted e.value key.now) }
     {
         self.postings.of(key)
@@ -96,7 +111,7 @@ impl<R: Resolvable> Blocks<R> {
             (block_at self.now.blocks number) }
     {
         match self.blocks.get(number as usize) {
-            Some(Some(keyed)) => Some(&keyed.value),
+            Some(Some(placed)) => Some(&placed.value),
             _ => None,
         }
     }

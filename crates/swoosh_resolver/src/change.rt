@@ -2,7 +2,7 @@
 ghost use Rattle.std.specs.Prelude.{◌≡◌, IfOk};
 ghost use Rattle.swoosh_resolver.specs.Tables.{values_of};
 
-use crate::keyed::Keyed;
+use crate::keyed::Placed;
 use crate::opened::Opened;
 use merge_laws::resolvable::Resolvable;
 use union_base::memory::Memory;
@@ -12,6 +12,15 @@ use union_base::memory::Memory;
 pub struct Change<R: Resolvable> {
     pub closed: Vec<u64>,
     pub opened: Opened<R>,
+}
+
+/// A change for which blocks have room: the numbers of the blocks that it closes, the values that it opens, with their places in
+/// the index of the blocks, and the numbers under which these will stand, in the same order.
+#[derive(Drop)]
+pub struct Ready<R: Resolvable> {
+    pub closed: Vec<u64>,
+    pub opened: Vec<Placed<R>>,
+    pub numbers: Vec<u64>,
 }
 
 impl<R: Resolvable> Change<R> {
@@ -25,12 +34,12 @@ impl<R: Resolvable> Change<R> {
 }
 
 /// The values alone, in their order. Returns `Memory` if allocation fails.
-fn values_in<R: Resolvable>(entries: Vec<Keyed<R>>) -> Result<Vec<R>, Memory>
+fn values_in<R: Resolvable>(entries: Vec<Placed<R>>) -> Result<Vec<R>, Memory>
     ensures { IfOk result (λ values. values.items ≡ values_of entries.items) }
 {
     let mut values = Vec::with_capacity(*entries.allocator(), entries.len())?;
     for entry in entries {
-        let Keyed { value, keys: _ } = entry;
+        let Placed { value, places: _ } = entry;
         values.push(value)?;
     }
     Ok(values)

@@ -1,4 +1,4 @@
-//! Values with the keys under which an index has them, or with the keys that they seek.
+//! Values with the keys under which an index has them, with the places of these keys in an index, or with the keys that they seek.
 ghost use Rattle.std.specs.Prelude.{◌≡◌, IfOk};
 ghost use Rattle.swoosh_resolver.specs.Tables.{AreKeys, AreSought};
 
@@ -7,11 +7,28 @@ use std::alloc::Global;
 use std::marker::Model;
 use union_base::memory::Memory;
 
+/// A value, and the places of the rows of an index under whose keys the index has it. What the places are right for is said
+/// where the index is.
+#[derive(Drop)]
+pub struct Placed<R: Resolvable> {
+    pub value: R,
+    pub places: Vec<usize>,
+}
+
+impl<R: Resolvable> Model for Placed<R> {
+    ghost use Rattle.std.specs.Prelude.{ℕ};
+    ghost use Rattle.swoosh_resolver.specs.Tables.{Entry};
+
+    ghost Value = { Entry R ℕ };
+
+    ghost view = { λ p. record { value = p.value; keys = p.places.items } };
+}
+
 /// A value, and the keys under which an index has it, each once.
 #[derive(Drop)]
-pub struct Keyed<R: Resolvable> {
-    pub value: R,
-    pub keys: Vec<R::Key>,
+pub(crate) struct Keyed<R: Resolvable> {
+    pub(crate) value: R,
+    pub(crate) keys: Vec<R::Key>,
 }
 
 impl<R: Resolvable> Model for Keyed<R> {
@@ -26,7 +43,7 @@ impl<R: Resolvable> Model for Keyed<R> {
 
 impl<R: Resolvable> Keyed<R> {
     /// The value with its keys. Returns `Memory` if allocation fails.
-    pub fn of(alloc: Global, value: R) -> Result<Keyed<R>, Memory>
+    pub(crate) fn of(alloc: Global, value: R) -> Result<Keyed<R>, Memory>
         ensures { IfOk result (λ k. k.value ≡ value) }
     {
         let keys = value.posted_keys(alloc)?;

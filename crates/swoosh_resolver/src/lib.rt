@@ -5,7 +5,8 @@
 //! cannot stop half way. A member of a plan's view can be taken apart, and then the parts stand in its place. Cost: an
 //! insertion tests only values that are posted under a key that the value at hand seeks, at most the reach of the insertion in
 //! all (specs/Reach.antt of merge_laws), whatever the number of blocks. The values that a plan opens have an index of their own,
-//! so it asks one look-up a key of these too. A split tests nothing. The definitions are in specs/.
+//! so it asks one look-up a key of these too. A key is moved into an index and not copied, and a value has the places of its keys
+//! there, by which its number is put in and taken out without a look-up. A split tests nothing. The definitions are in specs/.
 #![tactic(auto)]
 
 pub mod blocks;

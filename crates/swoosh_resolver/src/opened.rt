@@ -1,11 +1,11 @@
 //! The opened values of a change.
-ghost use Rattle.std.specs.Prelude.{◌≡◌, ◌+◌, ◌<◌, ◌≤◌, ◌++◌, ◌∷◌, [], Some, false, IsTrue, is_some, map, if◌then◌else◌};
+ghost use Rattle.std.specs.Prelude.{◌≡◌, ℕ, ◌+◌, ◌<◌, ◌≤◌, ◌++◌, ◌∷◌, [], Some, false, IsTrue, is_some, map, if◌then◌else◌};
 ghost use Rattle.std.specs.Prelude.{IfOk, IfSome, IfNone, All, length, slice_index_or, swap_remove, count_by};
-ghost use Rattle.swoosh_resolver.specs.Tables.{Entry, AreListed, block_at};
+ghost use Rattle.swoosh_resolver.specs.Tables.{Entry, AreListedAt, ArePlaced, block_at};
 ghost use Rattle.swoosh_resolver.specs.Insertions.{passes};
 
-use crate::keyed::{Keyed, Seeker};
-use crate::posting::{candidates, post_copies, repost, unpost};
+use crate::keyed::{Keyed, Placed, Seeker};
+use crate::posting::{candidates, make_room_for, post, repost, unpost, with_places};
 use feature_index::postings::Postings;
 use key_hashing::hashing::Hashing;
 use merge_laws::resolvable::Resolvable;
@@ -15,34 +15,35 @@ use std::marker::Model;
 use std::sync::ledger::Ledger;
 use union_base::memory::Memory;
 
-/// Values in a row, with an index of their keys: the places of the values that have a key are found by one look-up.
+/// Values in a row, with an index of their keys: which of the values have a key is found by one look-up.
 #[derive(Drop)]
 pub struct Opened<R: Resolvable> {
-    values: Vec<Keyed<R>>,
-    places: Postings<R::Key>,
+    values: Vec<Placed<R>>,
+    postings: Postings<R::Key>,
 }
 
 impl<R: Resolvable> Model for Opened<R> {
-    ghost use Rattle.swoosh_resolver.specs.Tables.{Listed, AreListed};
+    ghost use Rattle.std.specs.Prelude.{ℕ};
+    ghost use Rattle.swoosh_resolver.specs.Tables.{Listed, AreListedAt};
 
-    ghost Value = { Listed R R.Key };
+    ghost Value = { Listed R ℕ };
 
     ghost view = { λ o. record { items = o.values.items } };
 
-    ghost invariant = { λ o. AreListed R.Key.eq R.is_posted o.values.items o.places };
+    ghost invariant = { λ o. AreListedAt R.Key.eq R.is_posted o.values.items o.postings };
 }
 
 /// Makes the index one of the values without that at the place, whose place the last one takes. Takes no memory.
-fn unlist<R: Resolvable>(places: &mut Postings<R::Key>, values: &[Keyed<R>], place: usize)
+fn unlist<R: Resolvable>(postings: &mut Postings<R::Key>, values: &[Placed<R>], place: usize)
     requires within { place < length values.now }
-    requires listed { AreListed R.Key.eq R.is_posted values.now places.old }
-    ensures { (d : Entry R R.Key) → AreListed R.Key.eq R.is_posted (swap_remove values.now place d)
-        places.new }
+    requires listed { AreListedAt R.Key.eq R.is_posted values.now postings.old }
+    ensures { (d : Entry R ℕ) → AreListedAt R.Key.eq R.is_posted (swap_remove values.now place d)
+        postings.new }
 {
     let last = values.len() - 1;
-    unpost(places, &values[place], place as u64);
+    unpost(postings, &values[place], place as u64);
     if place < last {
-        repost(places, &values[last], last as u64, place as u64);
+        repost(postings, &values[last], last as u64, place as u64);
     }
 }
 
@@ -53,12 +54,26 @@ impl<R: Resolvable> Opened<R> {
     {
         Opened {
             values: Vec::new(alloc),
-            places: Postings::empty(alloc, hashing),
+            postings: Postings::empty(alloc, hashing),
         }
     }
 
+    /// No values, whose index has room for that many keys and hashes them by these numbers. Returns `Memory` if allocation fails.
+    pub(crate) fn with_room(
+        alloc: Global,
+        hashing: Hashing,
+        keys: usize,
+    ) -> Result<Opened<R>, Memory>
+        ensures { IfOk result (λ o. o.items ≡ []) }
+    {
+        Ok(Opened {
+            values: Vec::new(alloc),
+            postings: Postings::with_room(alloc, hashing, keys)?,
+        })
+    }
+
     /// The values, in their order. Takes no memory.
-    pub fn as_slice(&self) -> &[Keyed<R>]
+    pub fn as_slice(&self) -> &[Placed<R>]
         ensures value { result.now ≡ self.now.items }
     {
         self.values.as_slice()
@@ -72,32 +87,47 @@ impl<R: Resolvable> Opened<R> {
     }
 
     /// The values, in their order. Takes no memory.
-    pub(crate) fn into_values(self) -> Vec<Keyed<R>>
+    pub(crate) fn into_values(self) -> Vec<Placed<R>>
         ensures { result.items ≡ self.items }
     {
-        let Opened { values, places: _ } = self;
+        let Opened {
+            values,
+            postings: _,
+        } = self;
         values
     }
 
-    /// The values, and the given one last. Returns `Memory` if allocation fails.
-    pub(crate) fn with_last(self, alloc: Global, keyed: Keyed<R>) -> Result<Opened<R>, Memory>
-        ensures { IfOk result (λ o. o.items ≡ self.items ++ keyed ∷ []) }
+    /// The values, in their order, and the index in which they have their places. Takes no memory.
+    pub(crate) fn into_parts(self) -> (Vec<Placed<R>>, Postings<R::Key>)
+        ensures values { result.0.items ≡ self.items }
+        ensures placed { ArePlaced R.is_posted result.1 self.items }
     {
-        let Opened { values, places } = self;
+        let Opened { values, postings } = self;
+        (values, postings)
+    }
+
+    /// The values, and the given one last. Its keys are moved into the index. Returns `Memory` if allocation fails.
+    pub(crate) fn with_last(self, alloc: Global, keyed: Keyed<R>) -> Result<Opened<R>, Memory>
+        ensures { IfOk result (λ o. (e : Entry R ℕ) × (o.items ≡ self.items ++ e ∷ [])
+            × (e.value ≡ keyed.value)) }
+    {
+        let Opened { values, postings } = self;
         let mut values = values;
-        let mut places = places;
-        post_copies(alloc, &mut places, &keyed, values.len() as u64)?;
-        values.push(keyed)?;
-        Ok(Opened { values, places })
+        let mut postings = postings;
+        let last = with_places(alloc, &mut postings, keyed)?;
+        make_room_for::<R>(alloc, &mut postings, last.places.as_slice())?;
+        post(&mut postings, &last, values.len() as u64);
+        values.push(last)?;
+        Ok(Opened { values, postings })
     }
 
     /// Takes the value at the place out, and the last value takes its place. Takes no memory.
-    pub(crate) fn swap_remove(&mut self, place: usize) -> Keyed<R>
+    pub(crate) fn swap_remove(&mut self, place: usize) -> Placed<R>
         requires { place < length self.old.items }
         ensures value { result ≡ slice_index_or self.old.items place result }
         ensures items { self.new.items ≡ swap_remove self.old.items place result }
     {
-        unlist(&mut self.places, self.values.as_slice(), place);
+        unlist(&mut self.postings, self.values.as_slice(), place);
         self.values.swap_remove(place)
     }
 
@@ -124,14 +154,14 @@ impl<R: Resolvable> Opened<R> {
     ) -> Result<Option<usize>, Memory>
         ensures within { IfOk result (λ o. IfSome o (λ i. i < length self.now.items)) }
         ensures found { IfOk result (λ o. IfSome o
-            (λ i. (d : Entry R R.Key) → IsTrue (R.meets value.now.value
+            (λ i. (d : Entry R ℕ) → IsTrue (R.meets value.now.value
             (slice_index_or self.now.items i d).value))) }
         ensures none { IfOk result (λ o. IfNone o
             (All (λ e. R.meets value.now.value e.value ≡ false) self.now.items)) }
         ensures cost { steps.new ≤ steps.old + count_by (λ e. R.shares e.value value.now.value)
             self.now.items }
     {
-        let numbers = candidates::<R>(alloc, &self.places, value.sought.as_slice())?;
+        let numbers = candidates::<R>(alloc, &self.postings, value.sought.as_slice())?;
         for number in numbers.iter() {
             if self.matches_at(*number, value, steps) {
                 return Ok(Some(*number as usize));

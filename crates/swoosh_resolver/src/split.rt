@@ -40,7 +40,7 @@ impl<R: Resolvable> Blocks<R> {
         match at {
             Place::Kept(number) => self.open_block(change.closed.as_slice(), number),
             Place::Fresh(place) => match change.opened.as_slice().get(place as usize) {
-                Some(keyed) => Some(&keyed.value),
+                Some(placed) => Some(&placed.value),
                 None => None,
             },
         }

@@ -19,7 +19,7 @@ use record_homes::home::Home;
 use record_homes::place::Place;
 use record_homes::table::HomeTable;
 use std::alloc::Global;
-use swoosh_resolver::keyed::Keyed;
+use swoosh_resolver::keyed::Placed;
 use union_base::copied::Copied;
 use union_base::memory::Memory;
 use union_base::record_id::RecordId;
@@ -140,14 +140,14 @@ fn house(homes: &mut HomeTable, ids: &[RecordId], number: u64)
 }
 
 /// Sets the block in the home of each contributor of an opened block to the number of that block. Takes no memory.
-pub fn house_all(homes: &mut HomeTable, opened: &[Keyed<Edition>], numbers: &[u64])
+pub fn house_all(homes: &mut HomeTable, opened: &[Placed<Edition>], numbers: &[u64])
     requires { length opened.now ≤ length numbers.now }
     ensures { homes.new.entries ≡ housed_all homes.old.entries opened.now numbers.now }
 {
-    for (place, keyed) in opened.iter().enumerate() {
+    for (place, placed) in opened.iter().enumerate() {
         house(
             homes,
-            keyed.value.content().contributors.as_slice(),
+            placed.value.content().contributors.as_slice(),
             numbers[place],
         );
     }

@@ -26,7 +26,7 @@ use record_homes::table::HomeTable;
 use std::alloc::Global;
 use swoosh_resolver::blocks::Blocks;
 use swoosh_resolver::change::Change;
-use swoosh_resolver::keyed::Keyed;
+use swoosh_resolver::keyed::Placed;
 use union_base::bytes::Bytes;
 use union_base::memory::Memory;
 use union_base::record_id::RecordId;
@@ -56,13 +56,13 @@ fn closed_pairs(
 fn opened_pairs(
     alloc: Global,
     names: &NameTable,
-    opened: &[Keyed<Edition>],
+    opened: &[Placed<Edition>],
 ) -> Result<Vec<(Bytes, RecordId)>, Memory>
     ensures { IfOk result (λ pairs. pairs.items ≡ work_pairs names.now (values_of opened.now)) }
 {
     let mut pairs = Vec::with_capacity(alloc, opened.len())?;
-    for keyed in opened {
-        pairs.push(work_pair(alloc, names, &keyed.value)?)?;
+    for placed in opened {
+        pairs.push(work_pair(alloc, names, &placed.value)?)?;
     }
     Ok(pairs)
 }
@@ -150,13 +150,13 @@ pub fn install(
 {
     let Plan { change, touched } = plan;
     let regrouped = make_room_in_kept(alloc, blocks, &works.names, &mut works.works, &change)?;
-    let numbers = blocks.make_room(alloc, &change)?;
+    let ready = blocks.make_room(alloc, change)?;
     history.reserve(1)?;
     let touched = touched.into_list(alloc)?;
     let rest = admit(alloc, homes, &touched)?;
     move_all(homes, rest);
-    house_all(homes, change.opened.as_slice(), numbers.as_slice());
-    blocks.install(change);
+    house_all(homes, ready.opened.as_slice(), ready.numbers.as_slice());
+    blocks.install(ready);
     regroup(&mut works.works, regrouped);
     let _ = history.push(entry);
     Ok(())

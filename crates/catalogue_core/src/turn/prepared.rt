@@ -49,6 +49,9 @@ use union_base::library_code::LibraryCode;
 use union_base::memory::Memory;
 use union_base::record_id::RecordId;
 
+/// Room is made for so many keys of each operation's record before the turn. Few records have more.
+const KEYS_OF_A_RECORD: usize = 5;
+
 /// The id of the library's record that the operation loads or withdraws. Returns `Memory` if allocation fails.
 fn named(alloc: Global, library: &LibraryCode, op: &Op) -> Result<RecordId, Memory>
     ensures { IfOk result (λ id. id ≡ id_of library.now op.now) }
@@ -160,9 +163,8 @@ fn any_leaves(outcomes: &[Outcome]) -> bool
 }
 
 /// The plan that withdraws each current record which the batch loads or withdraws, and inserts nothing yet. `found` has the outcomes
-/// of the batch's operations: if none is that a record was replaced or removed, the operations are not looked at, and the plan takes
-/// no memory. Else its `touched` notes the records withdrawn so far, so that each is withdrawn once. Counts the match tests. Returns
-/// `Memory` if allocation fails.
+/// of the batch's operations: if none is that a record was replaced or removed, the operations are not looked at. Else its `touched`
+/// notes the records withdrawn so far, so that each is withdrawn once. Counts the match tests. Returns `Memory` if allocation fails.
 fn without_named<L: Ledger>(
     alloc: Global,
     context: &Context<'_>,
@@ -183,14 +185,16 @@ fn without_named<L: Ledger>(
         (current context.now.history.now) context.now.batch.now.ops number
         → steps.new ≤ steps.old + number }
 {
+    let ops = context.batch.ops.as_slice();
+    let room = ops.len().saturating_mul(KEYS_OF_A_RECORD);
+    let change = context.blocks.start_with_room(room)?;
     let mut plan = Plan {
-        change: context.blocks.start(),
+        change,
         touched: Touched::new(alloc),
     };
     if !any_leaves(found) {
         return Ok(plan);
     }
-    let ops = context.batch.ops.as_slice();
     for op in ops {
         plan = withdraw_named(alloc, context, plan, op, steps)?;
     }

@@ -1,4 +1,4 @@
-use Rattle.std.proofs.Common.{◌≡◌, List, [], ◌∷◌, ◌++◌, Option, sym, ◌∙◌, ap, subst, append_assoc, append-nil}
+use Rattle.std.proofs.Common.{◌≡◌, ℕ, List, [], ◌∷◌, ◌++◌, Option, sym, ◌∙◌, ap, subst, append_assoc, append-nil}
 use Rattle.std.proofs.lemmas.List.{nil_from_length}
 use Rattle.std.proofs.lemmas.Result.{IfOk-weaker}
 use Rattle.merge_laws.specs.Resolution.{IsResolution}
@@ -36,7 +36,7 @@ returns g c =
     let none : c.loop-value.value-iterator.rest.items ≡ [] = nil_from_length _ (sym c.loop-value.value-iterator.rest.ok.0 ∙ c.in-None.ensures.steps.0) in
     let all : c.args.list.items ≡ c.loop-value.yielded = c.loop-value.invariant.all ∙ ap (λ xs. c.loop-value.yielded ++ xs) none ∙ append-nil c.loop-value.yielded in
     let view : view_of c.args.none.now.blocks closed opened ≡ values_of opened =
-    ap (λ (blocks : List (Option (Entry g.row.R.Denot g.row.R-Key.Denot))). view_of blocks closed opened) c.requires ∙ view-of_none closed opened in
+    ap (λ (blocks : List (Option (Entry g.row.R.Denot ℕ))). view_of blocks closed opened) c.requires ∙ view-of_none closed opened in
     IfOk-weaker c.into_opened.result (λ done. done.items ≡ values_of opened) (λ done. IsResolution match merge c.args.list.items done.items)
     (λ done is. subst (λ (values : List g.row.R.Denot). IsResolution match merge values done.items) (sym all)
     (subst (IsResolution match merge c.loop-value.yielded) (view ∙ sym is) c.loop-value.invariant.resolved))

@@ -21,6 +21,8 @@ loop-number-preserved g c =
     record {
       blocks = rw (longer, without-push c.args.blocks.now.items (take i closed) (get_or closed i 0)) (c.close.ensures.blocks ∙ ap (λ b. slice_set b (get_or closed i 0) None) c.loop-number.invariant.blocks);
       posted = c.close.ensures.posted;
+      placed = c.close.ensures.placed;
+      rows = λ place k at. c.close.ensures.rows place k (c.loop-number.invariant.rows place k at);
       spares = λ k. c.close.ensures.spares k ∙ c.loop-number.invariant.spares k;
       capacity = c.close.ensures.capacity ∙ c.loop-number.invariant.capacity;
     }

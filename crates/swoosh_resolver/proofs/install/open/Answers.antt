@@ -8,13 +8,13 @@ post-requires-clause-absent g c k has = unposted-free c.args.blocks.now.items c.
 
 pub returns-then-place-len-clause-posted : goal.returns-then-place-len-clause-posted
 returns-then-place-len-clause-posted g c =
-    subst (λ b. ArePosted g.R.Key.PartialEq.eq g.R.Resolvable.is_posted b c.post.new.postings) (put-within c.args.blocks.now.items c.args.number c.args.keyed (omega arith))
-    (posted-put c.args.blocks.now.items c.args.postings.now c.requires.posted c.post.new.postings c.args.number c.args.keyed c.requires.free c.requires.within c.post.ensures.numbers)
+    subst (λ b. ArePosted g.R.Key.PartialEq.eq g.R.Resolvable.is_posted b c.post.new.postings) (put-within c.args.blocks.now.items c.args.number c.args.placed (omega arith))
+    (posted-put c.args.blocks.now.items c.args.postings.now c.requires.posted c.post.new.postings c.args.number c.args.placed c.requires.free c.requires.within c.post.ensures.numbers)
 
 pub returns-else-place-len-clause-posted : goal.returns-else-place-len-clause-posted
 returns-else-place-len-clause-posted g c =
     let fits : is_ok c.push.result ≡ true = c.push.ensures.succeeds (omega arith) in
-    let items : c.push.new.self.items ≡ c.args.blocks.now.items ++ Some c.args.keyed ∷ [] = rw fits at c.push.ensures.items in
+    let items : c.push.new.self.items ≡ c.args.blocks.now.items ++ Some c.args.placed ∷ [] = rw fits at c.push.ensures.items in
     rw items
-    (subst (λ b. ArePosted g.R.Key.PartialEq.eq g.R.Resolvable.is_posted b c.post.new.postings) (put-past c.args.blocks.now.items c.args.number c.args.keyed (omega arith))
-    (posted-put c.args.blocks.now.items c.args.postings.now c.requires.posted c.post.new.postings c.args.number c.args.keyed c.requires.free c.requires.within c.post.ensures.numbers))
+    (subst (λ b. ArePosted g.R.Key.PartialEq.eq g.R.Resolvable.is_posted b c.post.new.postings) (put-past c.args.blocks.now.items c.args.number c.args.placed (omega arith))
+    (posted-put c.args.blocks.now.items c.args.postings.now c.requires.posted c.post.new.postings c.args.number c.args.placed c.requires.free c.requires.within c.post.ensures.numbers))

@@ -1,18 +1,19 @@
 -- the values so far are opened
 use Rattle.std.proofs.Common.{◌≡◌, ◌≤◌, ◌+◌, ◌++◌, length}
 use Rattle.std.specs.Prelude.{count_by, vec_capacity}
-use Rattle.feature_index.specs.Postings.{spare_of}
+use Rattle.feature_index.specs.Postings.{KeepsRows, spare_of}
 use Rattle.swoosh_resolver.specs.Tables.{ArePosted}
 use Rattle.swoosh_resolver.specs.Changes.{keys_in}
 use Rattle.swoosh_resolver.proofs.Opening.{IsOpening}
 use Rattle.swoosh_resolver.proofs.install.open_all.Given as goal
 
-abbrev pub invariant-loop-keyed : goal.invariant-loop-keyed
-invariant-loop-keyed g l = record {
+abbrev pub invariant-loop-placed : goal.invariant-loop-placed
+invariant-loop-placed g l = record {
   place : l.place ≡ length l.yielded;
-  rest : l.yielded ++ l.keyed-iterator.rest.items ≡ l.fn.opened.items;
+  rest : l.yielded ++ l.placed-iterator.rest.items ≡ l.fn.opened.items;
   opening : IsOpening l.fn.blocks.items l.closed l.yielded l.blocks.items;
   posted : ArePosted g.R.Key.PartialEq.eq g.R.Resolvable.is_posted l.blocks.items l.postings;
-  spares : (k : g.row.R-Key.Denot) → spare_of g.R.Key.PartialEq.eq l.fn.postings k ≤ spare_of g.R.Key.PartialEq.eq l.postings k + count_by (g.R.Key.PartialEq.eq k) (keys_in l.yielded);
+  spares : (k : g.row.R-Key.Denot) → spare_of g.R.Key.PartialEq.eq l.fn.postings k ≤ spare_of g.R.Key.PartialEq.eq l.postings k + count_by (g.R.Key.PartialEq.eq k) (keys_in l.fn.postings l.yielded);
+  rows : KeepsRows l.fn.postings l.postings;
   capacity : vec_capacity l.fn.blocks ≤ vec_capacity l.blocks;
 }

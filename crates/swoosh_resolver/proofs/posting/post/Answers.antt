@@ -1,43 +1,106 @@
-use Rattle.std.proofs.Common.{◌≡◌, ◌+◌, ◌∷◌, ◌++◌, [], take, sym, ◌∙◌, ap, subst, inl, inr, arith}
-use Rattle.std.proofs.lemmas.List.{take_more, take_all}
-use Rattle.swoosh_resolver.specs.Tables.{Entry, AreKeys}
+use Rattle.std.proofs.Common.{◌≡◌, ℕ, refl, ◌<◌, ◌≤◌, true, Some, get_or, take, sym, ◌∙◌, ap, subst, inl, inr, arith}
+use Rattle.std.specs.Prelude.{Contains, IsSome, count_by}
+use Rattle.std.proofs.lemmas.List.{take_all}
+use Rattle.feature_index.specs.Postings.{key_at, numbers_of, spare_of}
+use Rattle.swoosh_resolver.specs.Tables.{Entry, AreKeys, keys_at}
 use Rattle.swoosh_resolver.proofs.Numbering.{IsPosted, posted_none, posted_more}
-use Rattle.swoosh_resolver.proofs.Places.{not-before}
+use Rattle.swoosh_resolver.proofs.Placing.{key-of}
 use Rattle.swoosh_resolver.proofs.posting.post.Goals as goal
 
-pub loop-key-init : goal.loop-key-init
-loop-key-init g c = posted_none g.met.R.Key.Eq.laws g.met.R.Resolvable.exact_keys c.args.postings.now c.args.number
+pub loop-place-init : goal.loop-place-init
+loop-place-init g c =
+    record { done = posted_none g.met.R.Key.Eq.laws g.met.R.Resolvable.exact_keys c.args.postings.now c.args.number; rows = λ place k at. at }
 
-pub add-requires-clause-absent : goal.add-requires-clause-absent
-add-requires-clause-absent g c there =
-    let keys = c.deref-key-items.result.now in
-    let keyed : AreKeys g.R.Resolvable.is_posted c.args.keyed.now.value keys =
-    subst (λ v. AreKeys g.R.Resolvable.is_posted v keys) (ap (λ (e : Entry g.row.R.Denot g.row.R-Key.Denot). e.value) c.keyed.view_is) (rw c.deref-key-items.ensures.value c.keyed.invariant) in
-    let key = c.key-item.result in
-    let i = c.loop-key.key-index in
-    elim ((c.loop-key.invariant.numbers key c.args.number).0 there) as (λ _. ⊥) [
-      | inl old ↦ c.requires.absent key ((keyed.members key).0 (i, omega arith, sym c.key-item.is)) old
-      | inr (before, e) ↦ not-before keys keyed.once i key (omega arith) c.key-item.is before
+pub add_at-requires-clause-row : goal.add_at-requires-clause-row
+add_at-requires-clause-row g c =
+    let places = c.deref-place-items.result.now in
+    let is : places ≡ c.args.placed.now.keys = c.deref-place-items.ensures.value ∙ ap (λ (e : Entry g.row.R.Denot ℕ). e.keys) c.placed.view_is in
+    let old = c.args.postings.now in
+    let rows : (place : ℕ) → Contains places place → IsSome (key_at old place) = rw is c.requires.placed.rows in
+    let keys : AreKeys g.R.Resolvable.is_posted c.args.placed.now.value (keys_at old places) = rw is c.requires.placed.keys in
+    let now = c.loop-place.postings in
+    let i = c.loop-place.place-index in
+    let (k, here) = key-of old places rows i (omega arith) in
+    let at : key_at now (get_or places i 0) ≡ Some k = c.loop-place.invariant.rows (get_or places i 0) k here.at in
+    let eq = g.R.Key.PartialEq.eq in
+    rw at refl
+
+pub add_at-requires-clause-spare : goal.add_at-requires-clause-spare
+add_at-requires-clause-spare g c j at' =
+    let places = c.deref-place-items.result.now in
+    let is : places ≡ c.args.placed.now.keys = c.deref-place-items.ensures.value ∙ ap (λ (e : Entry g.row.R.Denot ℕ). e.keys) c.placed.view_is in
+    let old = c.args.postings.now in
+    let rows : (place : ℕ) → Contains places place → IsSome (key_at old place) = rw is c.requires.placed.rows in
+    let keys : AreKeys g.R.Resolvable.is_posted c.args.placed.now.value (keys_at old places) = rw is c.requires.placed.keys in
+    let now = c.loop-place.postings in
+    let i = c.loop-place.place-index in
+    let (k, here) = key-of old places rows i (omega arith) in
+    let at : key_at now (get_or places i 0) ≡ Some k = c.loop-place.invariant.rows (get_or places i 0) k here.at in
+    let eq = g.R.Key.PartialEq.eq in
+    let same : k ≡ j = cc in
+    let room : count_by (eq k) (keys_at old places) ≤ spare_of eq old k = subst (λ ps. count_by (eq k) (keys_at old ps) ≤ spare_of eq old k) (sym is) (c.requires.room k) in
+    let counted = here.counted (eq k) in
+    let itself : eq k k ≡ true = g.met.R.Key.Eq.laws.refl k in
+    let counted' = rw itself at counted in
+    let used = c.loop-place.invariant.done.spares k in
+    subst (λ z. 0 < spare_of eq now z) same (omega arith)
+
+pub add_at-requires-clause-absent : goal.add_at-requires-clause-absent
+add_at-requires-clause-absent g c j at' there =
+    let places = c.deref-place-items.result.now in
+    let is : places ≡ c.args.placed.now.keys = c.deref-place-items.ensures.value ∙ ap (λ (e : Entry g.row.R.Denot ℕ). e.keys) c.placed.view_is in
+    let old = c.args.postings.now in
+    let rows : (place : ℕ) → Contains places place → IsSome (key_at old place) = rw is c.requires.placed.rows in
+    let keys : AreKeys g.R.Resolvable.is_posted c.args.placed.now.value (keys_at old places) = rw is c.requires.placed.keys in
+    let now = c.loop-place.postings in
+    let i = c.loop-place.place-index in
+    let (k, here) = key-of old places rows i (omega arith) in
+    let at : key_at now (get_or places i 0) ≡ Some k = c.loop-place.invariant.rows (get_or places i 0) k here.at in
+    let eq = g.R.Key.PartialEq.eq in
+    let same : k ≡ j = cc in
+    elim ((c.loop-place.invariant.done.numbers k c.args.number).0 (subst (λ z. Contains (numbers_of eq now z) c.args.number) (sym same) there)) as (λ _. ⊥) [
+      | inl before ↦ c.requires.absent k ((keys.members k).0 here.among) before
+      | inr (before, e) ↦ here.new keys.once before
     ]
 
-pub loop-key-preserved : goal.loop-key-preserved
-loop-key-preserved g c =
-    let keys = c.deref-key-items.result.now in
-    let key = c.key-item.result in
-    let i = c.loop-key.key-index in
-    let longer : take (i + 1) keys ≡ take i keys ++ key ∷ [] = take_more keys i key (omega arith) ∙ ap (λ k. take i keys ++ k ∷ []) (sym c.key-item.is) in
-    rw longer
-    (posted_more g.met.R.Key.Eq.laws g.met.R.Resolvable.exact_keys c.args.postings.now c.loop-key.postings c.add.new.self (take i keys) c.args.number key
-    c.loop-key.invariant c.add.ensures.numbers (let used = c.add.ensures.used in omega arith) c.add.ensures.others)
+pub loop-place-preserved : goal.loop-place-preserved
+loop-place-preserved g c =
+    let places = c.deref-place-items.result.now in
+    let is : places ≡ c.args.placed.now.keys = c.deref-place-items.ensures.value ∙ ap (λ (e : Entry g.row.R.Denot ℕ). e.keys) c.placed.view_is in
+    let old = c.args.postings.now in
+    let rows : (place : ℕ) → Contains places place → IsSome (key_at old place) = rw is c.requires.placed.rows in
+    let keys : AreKeys g.R.Resolvable.is_posted c.args.placed.now.value (keys_at old places) = rw is c.requires.placed.keys in
+    let now = c.loop-place.postings in
+    let i = c.loop-place.place-index in
+    let (k, here) = key-of old places rows i (omega arith) in
+    let at : key_at now (get_or places i 0) ≡ Some k = c.loop-place.invariant.rows (get_or places i 0) k here.at in
+    let eq = g.R.Key.PartialEq.eq in
+    record {
+      done = rw here.longer (posted_more g.met.R.Key.Eq.laws g.met.R.Resolvable.exact_keys old now c.add_at.new.self (keys_at old (take i places)) c.args.number k
+          c.loop-place.invariant.done (c.add_at.ensures.numbers k at) (let used = c.add_at.ensures.used k at in omega arith) (λ j apart. c.add_at.ensures.others k j at apart));
+      rows = λ place j at'. c.add_at.ensures.rows place j (c.loop-place.invariant.rows place j at');
+    }
 
 pub returns-clause-numbers : goal.returns-clause-numbers
-returns-clause-numbers g c =
-    let keys = c.deref-key-items.result.now in
-    let keyed : AreKeys g.R.Resolvable.is_posted c.args.keyed.now.value keys =
-    subst (λ v. AreKeys g.R.Resolvable.is_posted v keys) (ap (λ (e : Entry g.row.R.Denot g.row.R-Key.Denot). e.value) c.keyed.view_is) (rw c.deref-key-items.ensures.value c.keyed.invariant) in
-    let all : take c.loop-key.key-index keys ≡ keys = take_all c.loop-key.key-index keys (omega arith) in
-    let posted : IsPosted g.R.Key.PartialEq.eq c.args.postings.now keys c.args.number c.loop-key.postings = rw all at c.loop-key.invariant in
-    λ k n. (
-      λ there. elim ((posted.numbers k n).0 there) [ inl old ↦ inl old | inr (ck, e) ↦ inr ((keyed.members k).0 ck, e) ],
-      λ h. (posted.numbers k n).1 (elim h [ inl old ↦ inl old | inr (has, e) ↦ inr ((keyed.members k).1 has, e) ]),
+returns-clause-numbers g c k n =
+    let places = c.deref-place-items.result.now in
+    let is : places ≡ c.args.placed.now.keys = c.deref-place-items.ensures.value ∙ ap (λ (e : Entry g.row.R.Denot ℕ). e.keys) c.placed.view_is in
+    let old = c.args.postings.now in
+    let rows : (place : ℕ) → Contains places place → IsSome (key_at old place) = rw is c.requires.placed.rows in
+    let keys : AreKeys g.R.Resolvable.is_posted c.args.placed.now.value (keys_at old places) = rw is c.requires.placed.keys in
+    let all : take c.loop-place.place-index places ≡ places = take_all c.loop-place.place-index places (omega arith) in
+    let posted : IsPosted g.R.Key.PartialEq.eq old (keys_at old places) c.args.number c.loop-place.postings = rw all at c.loop-place.invariant.done in (
+      λ there. elim ((posted.numbers k n).0 there) [ inl before ↦ inl before | inr (ck, e) ↦ inr ((keys.members k).0 ck, e) ],
+      λ h. (posted.numbers k n).1 (elim h [ inl before ↦ inl before | inr (has, e) ↦ inr ((keys.members k).1 has, e) ]),
     )
+
+pub returns-clause-spares : goal.returns-clause-spares
+returns-clause-spares g c k =
+    let places = c.deref-place-items.result.now in
+    let is : places ≡ c.args.placed.now.keys = c.deref-place-items.ensures.value ∙ ap (λ (e : Entry g.row.R.Denot ℕ). e.keys) c.placed.view_is in
+    let old = c.args.postings.now in
+    let rows : (place : ℕ) → Contains places place → IsSome (key_at old place) = rw is c.requires.placed.rows in
+    let keys : AreKeys g.R.Resolvable.is_posted c.args.placed.now.value (keys_at old places) = rw is c.requires.placed.keys in
+    let all : take c.loop-place.place-index places ≡ places = take_all c.loop-place.place-index places (omega arith) in
+    let posted : IsPosted g.R.Key.PartialEq.eq old (keys_at old places) c.args.number c.loop-place.postings = rw all at c.loop-place.invariant.done in
+    rw (← is) (posted.spares k)

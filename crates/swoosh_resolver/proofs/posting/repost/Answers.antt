@@ -1,55 +1,93 @@
-use Rattle.std.proofs.Common.{◌≡◌, ◌+◌, ◌∷◌, ◌++◌, [], take, sym, ◌∙◌, ap, subst, inl, inr, arith}
-use Rattle.std.proofs.lemmas.List.{take_more, take_all}
-use Rattle.swoosh_resolver.specs.Tables.{Entry, AreKeys}
+use Rattle.std.proofs.Common.{◌≡◌, ℕ, refl, Some, get_or, take, sym, ◌∙◌, ap, subst, inl, inr, arith}
+use Rattle.std.specs.Prelude.{Contains, IsSome}
+use Rattle.std.proofs.lemmas.List.{take_all}
+use Rattle.feature_index.specs.Postings.{key_at, numbers_of}
+use Rattle.swoosh_resolver.specs.Tables.{Entry, AreKeys, keys_at}
 use Rattle.swoosh_resolver.proofs.Numbering.{IsRenumbered, renumbered_none, renumbered_more}
-use Rattle.swoosh_resolver.proofs.Places.{not-before}
+use Rattle.swoosh_resolver.proofs.Placing.{key-of}
 use Rattle.swoosh_resolver.proofs.posting.repost.Goals as goal
 
-pub loop-key-init : goal.loop-key-init
-loop-key-init g c = renumbered_none g.met.R.Key.Eq.laws g.met.R.Resolvable.exact_keys c.args.postings.now c.args.from c.args.to
+pub loop-place-init : goal.loop-place-init
+loop-place-init g c =
+    record { done = renumbered_none g.met.R.Key.Eq.laws g.met.R.Resolvable.exact_keys c.args.postings.now c.args.from c.args.to; rows = λ place k at. at }
 
-pub renumber-requires-clause-present : goal.renumber-requires-clause-present
-renumber-requires-clause-present g c =
-    let keys = c.deref-key-items.result.now in
-    let keyed : AreKeys g.R.Resolvable.is_posted c.args.keyed.now.value keys =
-    subst (λ v. AreKeys g.R.Resolvable.is_posted v keys) (ap (λ (e : Entry g.row.R.Denot g.row.R-Key.Denot). e.value) c.keyed.view_is) (rw c.deref-key-items.ensures.value c.keyed.invariant) in
-    let key = c.key-item.result in
-    let i = c.loop-key.key-index in
-    (c.loop-key.invariant.numbers key c.args.from).1 (inl (
-      c.requires.present key ((keyed.members key).0 (i, omega arith, sym c.key-item.is)),
-      λ before. absurd (not-before keys keyed.once i key (omega arith) c.key-item.is before),
-    ))
+pub renumber_at-requires-clause-row : goal.renumber_at-requires-clause-row
+renumber_at-requires-clause-row g c =
+    let places = c.deref-place-items.result.now in
+    let is : places ≡ c.args.placed.now.keys = c.deref-place-items.ensures.value ∙ ap (λ (e : Entry g.row.R.Denot ℕ). e.keys) c.placed.view_is in
+    let old = c.args.postings.now in
+    let rows : (place : ℕ) → Contains places place → IsSome (key_at old place) = rw is c.requires.placed.rows in
+    let keys : AreKeys g.R.Resolvable.is_posted c.args.placed.now.value (keys_at old places) = rw is c.requires.placed.keys in
+    let now = c.loop-place.postings in
+    let i = c.loop-place.place-index in
+    let (k, here) = key-of old places rows i (omega arith) in
+    let at : key_at now (get_or places i 0) ≡ Some k = c.loop-place.invariant.rows (get_or places i 0) k here.at in
+    let eq = g.R.Key.PartialEq.eq in
+    rw at refl
 
-pub renumber-requires-clause-absent : goal.renumber-requires-clause-absent
-renumber-requires-clause-absent g c there =
-    let keys = c.deref-key-items.result.now in
-    let keyed : AreKeys g.R.Resolvable.is_posted c.args.keyed.now.value keys =
-    subst (λ v. AreKeys g.R.Resolvable.is_posted v keys) (ap (λ (e : Entry g.row.R.Denot g.row.R-Key.Denot). e.value) c.keyed.view_is) (rw c.deref-key-items.ensures.value c.keyed.invariant) in
-    let key = c.key-item.result in
-    let i = c.loop-key.key-index in
-    elim ((c.loop-key.invariant.numbers key c.args.to).0 there) as (λ _. ⊥) [
-      | inl (old, ne) ↦ c.requires.absent key ((keyed.members key).0 (i, omega arith, sym c.key-item.is)) old
-      | inr (before, e) ↦ not-before keys keyed.once i key (omega arith) c.key-item.is before
+pub renumber_at-requires-clause-present : goal.renumber_at-requires-clause-present
+renumber_at-requires-clause-present g c j at' =
+    let places = c.deref-place-items.result.now in
+    let is : places ≡ c.args.placed.now.keys = c.deref-place-items.ensures.value ∙ ap (λ (e : Entry g.row.R.Denot ℕ). e.keys) c.placed.view_is in
+    let old = c.args.postings.now in
+    let rows : (place : ℕ) → Contains places place → IsSome (key_at old place) = rw is c.requires.placed.rows in
+    let keys : AreKeys g.R.Resolvable.is_posted c.args.placed.now.value (keys_at old places) = rw is c.requires.placed.keys in
+    let now = c.loop-place.postings in
+    let i = c.loop-place.place-index in
+    let (k, here) = key-of old places rows i (omega arith) in
+    let at : key_at now (get_or places i 0) ≡ Some k = c.loop-place.invariant.rows (get_or places i 0) k here.at in
+    let eq = g.R.Key.PartialEq.eq in
+    let same : k ≡ j = cc in
+    subst (λ z. Contains (numbers_of eq now z) c.args.from) same ((c.loop-place.invariant.done.numbers k c.args.from).1 (inl (
+      c.requires.present k ((keys.members k).0 here.among),
+      λ before. absurd (here.new keys.once before),
+    )))
+
+pub renumber_at-requires-clause-absent : goal.renumber_at-requires-clause-absent
+renumber_at-requires-clause-absent g c j at' there =
+    let places = c.deref-place-items.result.now in
+    let is : places ≡ c.args.placed.now.keys = c.deref-place-items.ensures.value ∙ ap (λ (e : Entry g.row.R.Denot ℕ). e.keys) c.placed.view_is in
+    let old = c.args.postings.now in
+    let rows : (place : ℕ) → Contains places place → IsSome (key_at old place) = rw is c.requires.placed.rows in
+    let keys : AreKeys g.R.Resolvable.is_posted c.args.placed.now.value (keys_at old places) = rw is c.requires.placed.keys in
+    let now = c.loop-place.postings in
+    let i = c.loop-place.place-index in
+    let (k, here) = key-of old places rows i (omega arith) in
+    let at : key_at now (get_or places i 0) ≡ Some k = c.loop-place.invariant.rows (get_or places i 0) k here.at in
+    let eq = g.R.Key.PartialEq.eq in
+    let same : k ≡ j = cc in
+    elim ((c.loop-place.invariant.done.numbers k c.args.to).0 (subst (λ z. Contains (numbers_of eq now z) c.args.to) (sym same) there)) as (λ _. ⊥) [
+      | inl (before, ne) ↦ c.requires.absent k ((keys.members k).0 here.among) before
+      | inr (before, e) ↦ here.new keys.once before
     ]
 
-pub loop-key-preserved : goal.loop-key-preserved
-loop-key-preserved g c =
-    let keys = c.deref-key-items.result.now in
-    let key = c.key-item.result in
-    let i = c.loop-key.key-index in
-    let longer : take (i + 1) keys ≡ take i keys ++ key ∷ [] = take_more keys i key (omega arith) ∙ ap (λ k. take i keys ++ k ∷ []) (sym c.key-item.is) in
-    rw longer
-    (renumbered_more g.met.R.Key.Eq.laws g.met.R.Resolvable.exact_keys c.args.postings.now c.loop-key.postings c.renumber.new.self (take i keys) c.args.from c.args.to key
-    c.loop-key.invariant c.renumber.ensures.numbers c.renumber.ensures.others)
+pub loop-place-preserved : goal.loop-place-preserved
+loop-place-preserved g c =
+    let places = c.deref-place-items.result.now in
+    let is : places ≡ c.args.placed.now.keys = c.deref-place-items.ensures.value ∙ ap (λ (e : Entry g.row.R.Denot ℕ). e.keys) c.placed.view_is in
+    let old = c.args.postings.now in
+    let rows : (place : ℕ) → Contains places place → IsSome (key_at old place) = rw is c.requires.placed.rows in
+    let keys : AreKeys g.R.Resolvable.is_posted c.args.placed.now.value (keys_at old places) = rw is c.requires.placed.keys in
+    let now = c.loop-place.postings in
+    let i = c.loop-place.place-index in
+    let (k, here) = key-of old places rows i (omega arith) in
+    let at : key_at now (get_or places i 0) ≡ Some k = c.loop-place.invariant.rows (get_or places i 0) k here.at in
+    let eq = g.R.Key.PartialEq.eq in
+    record {
+      done = rw here.longer (renumbered_more g.met.R.Key.Eq.laws g.met.R.Resolvable.exact_keys old now c.renumber_at.new.self (keys_at old (take i places)) c.args.from c.args.to k
+          c.loop-place.invariant.done (c.renumber_at.ensures.numbers k at) (λ j apart. c.renumber_at.ensures.others k j at apart));
+      rows = λ place j at'. c.renumber_at.ensures.rows place j (c.loop-place.invariant.rows place j at');
+    }
 
-pub returns : goal.returns
-returns g c =
-    let keys = c.deref-key-items.result.now in
-    let keyed : AreKeys g.R.Resolvable.is_posted c.args.keyed.now.value keys =
-    subst (λ v. AreKeys g.R.Resolvable.is_posted v keys) (ap (λ (e : Entry g.row.R.Denot g.row.R-Key.Denot). e.value) c.keyed.view_is) (rw c.deref-key-items.ensures.value c.keyed.invariant) in
-    let all : take c.loop-key.key-index keys ≡ keys = take_all c.loop-key.key-index keys (omega arith) in
-    let renumbered : IsRenumbered g.R.Key.PartialEq.eq c.args.postings.now keys c.args.from c.args.to c.loop-key.postings = rw all at c.loop-key.invariant in
-    λ k n. (
-      λ there. elim ((renumbered.numbers k n).0 there) [ inl (old, ne) ↦ inl (old, λ has. ne ((keyed.members k).1 has)) | inr (ck, e) ↦ inr ((keyed.members k).0 ck, e) ],
-      λ h. (renumbered.numbers k n).1 (elim h [ inl (old, ne) ↦ inl (old, λ ck. ne ((keyed.members k).0 ck)) | inr (has, e) ↦ inr ((keyed.members k).1 has, e) ]),
+pub returns-clause-numbers : goal.returns-clause-numbers
+returns-clause-numbers g c k n =
+    let places = c.deref-place-items.result.now in
+    let is : places ≡ c.args.placed.now.keys = c.deref-place-items.ensures.value ∙ ap (λ (e : Entry g.row.R.Denot ℕ). e.keys) c.placed.view_is in
+    let old = c.args.postings.now in
+    let rows : (place : ℕ) → Contains places place → IsSome (key_at old place) = rw is c.requires.placed.rows in
+    let keys : AreKeys g.R.Resolvable.is_posted c.args.placed.now.value (keys_at old places) = rw is c.requires.placed.keys in
+    let all : take c.loop-place.place-index places ≡ places = take_all c.loop-place.place-index places (omega arith) in
+    let renumbered : IsRenumbered g.R.Key.PartialEq.eq old (keys_at old places) c.args.from c.args.to c.loop-place.postings = rw all at c.loop-place.invariant.done in (
+      λ there. elim ((renumbered.numbers k n).0 there) [ inl (before, ne) ↦ inl (before, λ has. ne ((keys.members k).1 has)) | inr (ck, e) ↦ inr ((keys.members k).0 ck, e) ],
+      λ h. (renumbered.numbers k n).1 (elim h [ inl (before, ne) ↦ inl (before, λ ck. ne ((keys.members k).0 ck)) | inr (has, e) ↦ inr ((keys.members k).1 has, e) ]),
     )

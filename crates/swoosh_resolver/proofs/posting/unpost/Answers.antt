@@ -1,43 +1,75 @@
-use Rattle.std.proofs.Common.{◌≡◌, ◌+◌, ◌∷◌, ◌++◌, [], take, sym, ◌∙◌, ap, subst, arith}
-use Rattle.std.proofs.lemmas.List.{take_more, take_all}
-use Rattle.swoosh_resolver.specs.Tables.{Entry, AreKeys}
+use Rattle.std.proofs.Common.{◌≡◌, ℕ, refl, Some, get_or, take, ◌∙◌, ap, subst, arith}
+use Rattle.std.specs.Prelude.{Contains, IsSome}
+use Rattle.std.proofs.lemmas.List.{take_all}
+use Rattle.feature_index.specs.Postings.{key_at, numbers_of}
+use Rattle.swoosh_resolver.specs.Tables.{Entry, AreKeys, keys_at}
 use Rattle.swoosh_resolver.proofs.Numbering.{IsUnposted, unposted_none, unposted_more}
-use Rattle.swoosh_resolver.proofs.Places.{not-before}
+use Rattle.swoosh_resolver.proofs.Placing.{key-of}
 use Rattle.swoosh_resolver.proofs.posting.unpost.Goals as goal
 
-pub loop-key-init : goal.loop-key-init
-loop-key-init g c = unposted_none g.met.R.Key.Eq.laws g.met.R.Resolvable.exact_keys c.args.postings.now c.args.number
+pub loop-place-init : goal.loop-place-init
+loop-place-init g c =
+    record { done = unposted_none g.met.R.Key.Eq.laws g.met.R.Resolvable.exact_keys c.args.postings.now c.args.number; rows = λ place k at. at }
 
-pub remove-requires : goal.remove-requires
-remove-requires g c =
-    let keys = c.deref-key-items.result.now in
-    let keyed : AreKeys g.R.Resolvable.is_posted c.args.keyed.now.value keys =
-    subst (λ v. AreKeys g.R.Resolvable.is_posted v keys) (ap (λ (e : Entry g.row.R.Denot g.row.R-Key.Denot). e.value) c.keyed.view_is) (rw c.deref-key-items.ensures.value c.keyed.invariant) in
-    let key = c.key-item.result in
-    let i = c.loop-key.key-index in
-    (c.loop-key.invariant.numbers key c.args.number).1 (
-      c.requires key ((keyed.members key).0 (i, omega arith, sym c.key-item.is)),
-      λ before. absurd (not-before keys keyed.once i key (omega arith) c.key-item.is before),
-    )
+pub remove_at-requires-clause-row : goal.remove_at-requires-clause-row
+remove_at-requires-clause-row g c =
+    let places = c.deref-place-items.result.now in
+    let is : places ≡ c.args.placed.now.keys = c.deref-place-items.ensures.value ∙ ap (λ (e : Entry g.row.R.Denot ℕ). e.keys) c.placed.view_is in
+    let old = c.args.postings.now in
+    let rows : (place : ℕ) → Contains places place → IsSome (key_at old place) = rw is c.requires.placed.rows in
+    let keys : AreKeys g.R.Resolvable.is_posted c.args.placed.now.value (keys_at old places) = rw is c.requires.placed.keys in
+    let now = c.loop-place.postings in
+    let i = c.loop-place.place-index in
+    let (k, here) = key-of old places rows i (omega arith) in
+    let at : key_at now (get_or places i 0) ≡ Some k = c.loop-place.invariant.rows (get_or places i 0) k here.at in
+    let eq = g.R.Key.PartialEq.eq in
+    rw at refl
 
-pub loop-key-preserved : goal.loop-key-preserved
-loop-key-preserved g c =
-    let keys = c.deref-key-items.result.now in
-    let key = c.key-item.result in
-    let i = c.loop-key.key-index in
-    let longer : take (i + 1) keys ≡ take i keys ++ key ∷ [] = take_more keys i key (omega arith) ∙ ap (λ k. take i keys ++ k ∷ []) (sym c.key-item.is) in
-    rw longer
-    (unposted_more g.met.R.Key.Eq.laws g.met.R.Resolvable.exact_keys c.args.postings.now c.loop-key.postings c.remove.new.self (take i keys) c.args.number key
-    c.loop-key.invariant c.remove.ensures.numbers c.remove.ensures.spare c.remove.ensures.others)
+pub remove_at-requires-clause-present : goal.remove_at-requires-clause-present
+remove_at-requires-clause-present g c j at' =
+    let places = c.deref-place-items.result.now in
+    let is : places ≡ c.args.placed.now.keys = c.deref-place-items.ensures.value ∙ ap (λ (e : Entry g.row.R.Denot ℕ). e.keys) c.placed.view_is in
+    let old = c.args.postings.now in
+    let rows : (place : ℕ) → Contains places place → IsSome (key_at old place) = rw is c.requires.placed.rows in
+    let keys : AreKeys g.R.Resolvable.is_posted c.args.placed.now.value (keys_at old places) = rw is c.requires.placed.keys in
+    let now = c.loop-place.postings in
+    let i = c.loop-place.place-index in
+    let (k, here) = key-of old places rows i (omega arith) in
+    let at : key_at now (get_or places i 0) ≡ Some k = c.loop-place.invariant.rows (get_or places i 0) k here.at in
+    let eq = g.R.Key.PartialEq.eq in
+    let same : k ≡ j = cc in
+    subst (λ z. Contains (numbers_of eq now z) c.args.number) same ((c.loop-place.invariant.done.numbers k c.args.number).1 (
+      c.requires.present k ((keys.members k).0 here.among),
+      λ before. absurd (here.new keys.once before),
+    ))
+
+pub loop-place-preserved : goal.loop-place-preserved
+loop-place-preserved g c =
+    let places = c.deref-place-items.result.now in
+    let is : places ≡ c.args.placed.now.keys = c.deref-place-items.ensures.value ∙ ap (λ (e : Entry g.row.R.Denot ℕ). e.keys) c.placed.view_is in
+    let old = c.args.postings.now in
+    let rows : (place : ℕ) → Contains places place → IsSome (key_at old place) = rw is c.requires.placed.rows in
+    let keys : AreKeys g.R.Resolvable.is_posted c.args.placed.now.value (keys_at old places) = rw is c.requires.placed.keys in
+    let now = c.loop-place.postings in
+    let i = c.loop-place.place-index in
+    let (k, here) = key-of old places rows i (omega arith) in
+    let at : key_at now (get_or places i 0) ≡ Some k = c.loop-place.invariant.rows (get_or places i 0) k here.at in
+    let eq = g.R.Key.PartialEq.eq in
+    record {
+      done = rw here.longer (unposted_more g.met.R.Key.Eq.laws g.met.R.Resolvable.exact_keys old now c.remove_at.new.self (keys_at old (take i places)) c.args.number k
+          c.loop-place.invariant.done (c.remove_at.ensures.numbers k at) (c.remove_at.ensures.spare k at) (λ j apart. c.remove_at.ensures.others k j at apart));
+      rows = λ place j at'. c.remove_at.ensures.rows place j (c.loop-place.invariant.rows place j at');
+    }
 
 pub returns-clause-numbers : goal.returns-clause-numbers
-returns-clause-numbers g c =
-    let keys = c.deref-key-items.result.now in
-    let keyed : AreKeys g.R.Resolvable.is_posted c.args.keyed.now.value keys =
-    subst (λ v. AreKeys g.R.Resolvable.is_posted v keys) (ap (λ (e : Entry g.row.R.Denot g.row.R-Key.Denot). e.value) c.keyed.view_is) (rw c.deref-key-items.ensures.value c.keyed.invariant) in
-    let all : take c.loop-key.key-index keys ≡ keys = take_all c.loop-key.key-index keys (omega arith) in
-    let unposted : IsUnposted g.R.Key.PartialEq.eq c.args.postings.now keys c.args.number c.loop-key.postings = rw all at c.loop-key.invariant in
-    λ k n. (
-      λ there. (((unposted.numbers k n).0 there).0, λ has. ((unposted.numbers k n).0 there).1 ((keyed.members k).1 has)),
-      λ (there, ne). (unposted.numbers k n).1 (there, λ ck. ne ((keyed.members k).0 ck)),
+returns-clause-numbers g c k n =
+    let places = c.deref-place-items.result.now in
+    let is : places ≡ c.args.placed.now.keys = c.deref-place-items.ensures.value ∙ ap (λ (e : Entry g.row.R.Denot ℕ). e.keys) c.placed.view_is in
+    let old = c.args.postings.now in
+    let rows : (place : ℕ) → Contains places place → IsSome (key_at old place) = rw is c.requires.placed.rows in
+    let keys : AreKeys g.R.Resolvable.is_posted c.args.placed.now.value (keys_at old places) = rw is c.requires.placed.keys in
+    let all : take c.loop-place.place-index places ≡ places = take_all c.loop-place.place-index places (omega arith) in
+    let unposted : IsUnposted g.R.Key.PartialEq.eq old (keys_at old places) c.args.number c.loop-place.postings = rw all at c.loop-place.invariant.done in (
+      λ there. (((unposted.numbers k n).0 there).0, λ has. ((unposted.numbers k n).0 there).1 ((keys.members k).1 has)),
+      λ (there, ne). (unposted.numbers k n).1 (there, λ ck. ne ((keys.members k).0 ck)),
     )

@@ -1,7 +1,12 @@
 -- the number was taken from under the keys so far
 use Rattle.std.proofs.Common.{take}
+use Rattle.feature_index.specs.Postings.{KeepsRows}
+use Rattle.swoosh_resolver.specs.Tables.{keys_at}
 use Rattle.swoosh_resolver.proofs.Numbering.{IsUnposted}
 use Rattle.swoosh_resolver.proofs.posting.unpost.Given as goal
 
-abbrev pub invariant-loop-key : goal.invariant-loop-key
-invariant-loop-key g l = IsUnposted g.R.Key.PartialEq.eq l.initial.postings (take l.key-index l.key-items) l.number l.postings
+abbrev pub invariant-loop-place : goal.invariant-loop-place
+invariant-loop-place g l = record {
+  done : IsUnposted g.R.Key.PartialEq.eq l.initial.postings (keys_at l.initial.postings (take l.place-index l.place-items)) l.number l.postings;
+  rows : KeepsRows l.initial.postings l.postings;
+}

@@ -17,16 +17,16 @@ returns-then-not-any_leaves-clause-planned g c =
     let blocks = c.args.context.now.blocks.now.blocks in
     let stay = none-leaves batch.library (current history) (current history) batch.ops (ordered-current history) (λ q is. is)
     (ap (list_any leaves) (sym c.requires.found) ∙ sym c.any_leaves.ensures ∙ c.if-not-any_leaves.true) in
-    subst (λ all. IsPlanned (batches history ++ batch ∷ []) homes blocks all c.start.result.closed.items c.start.result.opened.items c.new.result.entries) (sym stay)
-    (plan-begins history batch homes blocks c.start.result.closed.items c.start.result.opened.items c.new.result.entries c.start.ensures.closed c.start.ensures.opened c.new.ensures c.requires.current c.requires.resolved
-    c.start.ensures.fits)
+    subst (λ all. IsPlanned (batches history ++ batch ∷ []) homes blocks all c.in_ok-change.change.closed.items c.in_ok-change.change.opened.items c.new.result.entries) (sym stay)
+    (plan-begins history batch homes blocks c.in_ok-change.change.closed.items c.in_ok-change.change.opened.items c.new.result.entries c.in_ok-change.ensures.closed c.in_ok-change.ensures.opened c.new.ensures c.requires.current c.requires.resolved
+    c.in_ok-change.ensures.fits)
 
 pub loop-op-init : goal.loop-op-init
 loop-op-init g c =
     leaves-begin (batches c.args.context.now.history.now ++ c.args.context.now.batch.now ∷ []) c.args.context.now.homes.now.entries c.args.context.now.blocks.now.blocks c.args.context.now.batch.now.library c.args.context.now.batch.now.ops (current c.args.context.now.history.now)
-    c.start.result.closed.items c.start.result.opened.items c.new.result.entries c.args.steps.now
-    (plan-begins c.args.context.now.history.now c.args.context.now.batch.now c.args.context.now.homes.now.entries c.args.context.now.blocks.now.blocks c.start.result.closed.items c.start.result.opened.items c.new.result.entries
-    c.start.ensures.closed c.start.ensures.opened c.new.ensures c.requires.current c.requires.resolved c.start.ensures.fits)
+    c.in_ok-change.change.closed.items c.in_ok-change.change.opened.items c.new.result.entries c.args.steps.now
+    (plan-begins c.args.context.now.history.now c.args.context.now.batch.now c.args.context.now.homes.now.entries c.args.context.now.blocks.now.blocks c.in_ok-change.change.closed.items c.in_ok-change.change.opened.items c.new.result.entries
+    c.in_ok-change.ensures.closed c.in_ok-change.ensures.opened c.new.ensures c.requires.current c.requires.resolved c.in_ok-change.ensures.fits)
 
 pub returns-in_err-plan-clause-cost : goal.returns-in_err-plan-clause-cost
 returns-in_err-plan-clause-cost g c =

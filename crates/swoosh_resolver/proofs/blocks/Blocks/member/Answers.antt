@@ -1,4 +1,4 @@
-use Rattle.std.proofs.Common.{◌≡◌, ◌∷◌, Some, length, refl, sym, ap, subst}
+use Rattle.std.proofs.Common.{◌≡◌, ℕ, ◌∷◌, Some, length, refl, sym, ap, subst}
 use Rattle.std.specs.Prelude.{slice_get}
 use Rattle.std.specs.List.Sorted.{IsPermutation}
 use Rattle.std.proofs.lemmas.Option.{slice_get_read, slice_get_past}
@@ -18,8 +18,8 @@ pub returns-in-Some-clause-value : goal.returns-in-Some-clause-value
 returns-in-Some-clause-value g c =
     let opened = c.args.change.now.opened.items in
     let read = rw c.as_slice-in-Fresh.ensures.value at c.in-Some.ensures.lookup in
-    let there : slice_get opened c.in-Fresh.place ≡ Some c.in-Some.keyed.now = slice_get_read opened (length opened) c.in-Fresh.place c.in-Some.keyed.now refl read.3.0 read.1 in
-    rw (c.in-Fresh.is, there) (ap (λ (e : Entry g.row.R.Denot g.row.R-Key.Denot). Some e.value) c.keyed.view_is)
+    let there : slice_get opened c.in-Fresh.place ≡ Some c.in-Some.placed.now = slice_get_read opened (length opened) c.in-Fresh.place c.in-Some.placed.now refl read.3.0 read.1 in
+    rw (c.in-Fresh.is, there) (ap (λ (e : Entry g.row.R.Denot ℕ). Some e.value) c.placed.view_is)
 
 pub returns-in-Some-clause-others : goal.returns-in-Some-clause-others
 returns-in-Some-clause-others g c =
@@ -27,10 +27,10 @@ returns-in-Some-clause-others g c =
     let closed = c.args.change.now.closed.items in
     let opened = c.args.change.now.opened.items in
     let read = rw c.as_slice-in-Fresh.ensures.value at c.in-Some.ensures.lookup in
-    let there : slice_get opened c.in-Fresh.place ≡ Some c.in-Some.keyed.now = slice_get_read opened (length opened) c.in-Fresh.place c.in-Some.keyed.now refl read.3.0 read.1 in
+    let there : slice_get opened c.in-Fresh.place ≡ Some c.in-Some.placed.now = slice_get_read opened (length opened) c.in-Fresh.place c.in-Some.placed.now refl read.3.0 read.1 in
     rw (c.in-Fresh.is)
-    (subst (λ (e : Entry g.row.R.Denot g.row.R-Key.Denot). IsPermutation (view_of blocks closed opened) (e.value ∷ others_of blocks closed opened (Fresh c.in-Fresh.place))) (sym c.keyed.view_is)
-    (taken-at blocks closed opened (Fresh c.in-Fresh.place) c.in-Some.keyed.now there))
+    (subst (λ (e : Entry g.row.R.Denot ℕ). IsPermutation (view_of blocks closed opened) (e.value ∷ others_of blocks closed opened (Fresh c.in-Fresh.place))) (sym c.placed.view_is)
+    (taken-at blocks closed opened (Fresh c.in-Fresh.place) c.in-Some.placed.now there))
 
 pub returns-in-None-clause-value : goal.returns-in-None-clause-value
 returns-in-None-clause-value g c =

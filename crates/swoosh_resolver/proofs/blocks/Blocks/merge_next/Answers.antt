@@ -1,4 +1,4 @@
-use Rattle.std.proofs.Common.{◌≡◌, ◌<◌, false, IsTrue, get_or, length, refl, sym, ◌∙◌, ap, subst}
+use Rattle.std.proofs.Common.{◌≡◌, ℕ, ◌<◌, false, IsTrue, get_or, length, refl, sym, ◌∙◌, ap, subst}
 use Rattle.swoosh_resolver.specs.Tables.{Entry}
 use Rattle.swoosh_resolver.specs.Changes.{without}
 use Rattle.swoosh_resolver.specs.Insertions.{IsMatchAt}
@@ -30,9 +30,9 @@ returns-in_ok-joined-in-Some-2-clause-merged g c =
     let within : place < length change.opened.items = rw c.in-Some-2.is at c.in_ok-place.ensures.within in
     let found : IsTrue (g.R.Resolvable.meets c.args.value.now.value (get_or change.opened.items place other).value) = (rw c.in-Some-2.is at c.in_ok-place.ensures.found) other in
     let is = c.swap_remove-other.ensures.value in
-    let matches : IsTrue (g.R.Resolvable.meets c.args.value.now.value other.value) = subst (λ (e : Entry g.row.R.Denot g.row.R-Key.Denot). IsTrue (g.R.Resolvable.meets c.args.value.now.value e.value)) (sym is) found in
+    let matches : IsTrue (g.R.Resolvable.meets c.args.value.now.value other.value) = subst (λ (e : Entry g.row.R.Denot ℕ). IsTrue (g.R.Resolvable.meets c.args.value.now.value e.value)) (sym is) found in
     let value = ap (λ (e : Entry g.row.R.Denot g.row.R-Key.Denot). e.value) c.value.view_is in
-    let its = ap (λ (e : Entry g.row.R.Denot g.row.R-Key.Denot). e.value) c.other.view_is in
+    let its = ap (λ (e : Entry g.row.R.Denot ℕ). e.value) c.other.view_is in
     rw c.swap_remove-other.ensures.items
     (merges-fresh c.args.self.now.blocks change.closed.items change.opened.items g.met.R.Join.join_laws g.met.R.Resolvable.match_laws c.args.value.now.value c.in_ok-joined-in-Some-2.field-0 place other within is matches
     (c.in_ok-joined-in-Some-2.ensures ∙ ap (λ v. g.R.Join.join v c.value.inside.value) its ∙ ap (g.R.Join.join other.value) value))

@@ -1,4 +1,4 @@
-use Rattle.std.proofs.Common.{[], ◌∷◌, ◌++◌, refl, sym, subst, arith}
+use Rattle.std.proofs.Common.{[], ◌∷◌, ◌++◌, refl, sym, ◌∙◌, subst, arith}
 use Rattle.std.proofs.lemmas.List.Sorted.{length_permutation}
 use Rattle.merge_laws.specs.Resolution.{IsDominated}
 use Rattle.merge_laws.proofs.Resolutions.{IsDominated-right}
@@ -42,13 +42,15 @@ loop-value-preserved g c =
 pub returns-clause-inserts : goal.returns-clause-inserts
 returns-clause-inserts g c =
     let none = rw c.in_default.is at c.in_ok-merged.ensures.none in
-    rw (c.in_ok-opened.ensures, none.0, none.1)
+    let (last, items, value) = c.in_ok-opened.ensures in
+    let is = value ∙ c.in_ok-keyed.ensures in
+    rw (items, none.0, none.1)
     (record {
-      by = c.in_ok-keyed.keyed;
+      by = last;
       before = c.loop-value.change.opened.items;
       last = refl;
-      dominates = rw c.in_ok-keyed.ensures c.loop-value.invariant.inserting.above;
-      others = rw c.in_ok-keyed.ensures c.loop-value.invariant.others;
+      dominates = rw is c.loop-value.invariant.inserting.above;
+      others = rw is c.loop-value.invariant.others;
     })
 
 pub returns-clause-fits : goal.returns-clause-fits
@@ -57,11 +59,12 @@ returns-clause-fits g c =
     let change = c.loop-value.change in
     let list = view_of blocks c.args.change.closed.items c.args.change.opened.items ++ c.args.value ∷ [] in
     let view = view_of blocks change.closed.items change.opened.items in
-    let keyed = c.in_ok-keyed.keyed in
+    let (last, items, value) = c.in_ok-opened.ensures in
+    let is = value ∙ c.in_ok-keyed.ensures in
     let none = rw c.in_default.is at c.in_ok-merged.ensures.none in
-    let kept : IsResolving g.R.Resolvable.meets g.R.Join.join list [] (view ++ keyed.value ∷ []) =
-    rw c.in_ok-keyed.ensures (resolving_kept g.met.R.Join.join_laws g.met.R.Resolvable.match_laws list [] view c.loop-value.value.value c.loop-value.invariant.inserting.resolving none.2) in
-    rw (c.in_ok-opened.ensures, none.0, none.1) (fits-push blocks change.closed.items change.opened.items c.loop-value.invariant.fits keyed kept.apart)
+    let kept : IsResolving g.R.Resolvable.meets g.R.Join.join list [] (view ++ last.value ∷ []) =
+    rw is (resolving_kept g.met.R.Join.join_laws g.met.R.Resolvable.match_laws list [] view c.loop-value.value.value c.loop-value.invariant.inserting.resolving none.2) in
+    rw (items, none.0, none.1) (fits-push blocks change.closed.items change.opened.items c.loop-value.invariant.fits last kept.apart)
 
 pub returns-clause-resolved : goal.returns-clause-resolved
 returns-clause-resolved g c =
@@ -69,12 +72,13 @@ returns-clause-resolved g c =
     let change = c.loop-value.change in
     let list = view_of blocks c.args.change.closed.items c.args.change.opened.items ++ c.args.value ∷ [] in
     let view = view_of blocks change.closed.items change.opened.items in
-    let keyed = c.in_ok-keyed.keyed in
+    let (last, items, value) = c.in_ok-opened.ensures in
+    let is = value ∙ c.in_ok-keyed.ensures in
     let none = rw c.in_default.is at c.in_ok-merged.ensures.none in
-    let kept : IsResolving g.R.Resolvable.meets g.R.Join.join list [] (view ++ keyed.value ∷ []) =
-    rw c.in_ok-keyed.ensures (resolving_kept g.met.R.Join.join_laws g.met.R.Resolvable.match_laws list [] view c.loop-value.value.value c.loop-value.invariant.inserting.resolving none.2) in
-    rw (c.in_ok-opened.ensures, none.0, none.1, view-push blocks change.closed.items change.opened.items keyed)
-    (IsResolution-from_resolving g.met.R.Join.join_laws g.met.R.Resolvable.match_laws list (view ++ keyed.value ∷ []) kept)
+    let kept : IsResolving g.R.Resolvable.meets g.R.Join.join list [] (view ++ last.value ∷ []) =
+    rw is (resolving_kept g.met.R.Join.join_laws g.met.R.Resolvable.match_laws list [] view c.loop-value.value.value c.loop-value.invariant.inserting.resolving none.2) in
+    rw (items, none.0, none.1, view-push blocks change.closed.items change.opened.items last)
+    (IsResolution-from_resolving g.met.R.Join.join_laws g.met.R.Resolvable.match_laws list (view ++ last.value ∷ []) kept)
 
 pub returns-in_err-merged-clause-cost : goal.returns-in_err-merged-clause-cost
 returns-in_err-merged-clause-cost g c all x r cx d =

@@ -27,8 +27,8 @@ loop-block-preserved g c =
       | in-Some+in_ok-push w ↦
           rw w.found-is (rw w.in_ok-push.ensures.items (
           map-append (λ (r : Bor g.row.R.Denot). r.now) c.loop-block.found.items _
-          ∙ ap (λ l. l ++ w.keyed.inside.value ∷ []) c.loop-block.invariant
-          ∙ ap (λ e. values_of (blocks_in (take i blocks)) ++ e.value ∷ []) w.keyed.view_is
+          ∙ ap (λ l. l ++ w.placed.inside.value ∷ []) c.loop-block.invariant
+          ∙ ap (λ e. values_of (blocks_in (take i blocks)) ++ e.value ∷ []) w.placed.view_is
           ∙ ap (λ b. values_of (blocks_in (take i blocks)) ++ values_of (blocks_in (b ∷ []))) (sym w.in-Some.is)
           ∙ sym more))
       | in_default w ↦

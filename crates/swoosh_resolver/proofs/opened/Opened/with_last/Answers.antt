@@ -1,16 +1,54 @@
-use Rattle.std.proofs.Common.{◌≡◌, length, arith}
-use Rattle.swoosh_resolver.proofs.Opening.{unposted-free}
+use Rattle.std.proofs.Common.{◌≡◌, ℕ, ◌++◌, ◌∷◌, [], Some, map, length, ◌∙◌, ap, inl, inr, subst, arith}
+use Rattle.std.proofs.lemmas.List.Elements.{Contains-push_cases}
+use Rattle.feature_index.specs.Postings.{Posting}
+use Rattle.swoosh_resolver.specs.Tables.{Entry, Listed, AreListed, IsPlaced}
+use Rattle.swoosh_resolver.proofs.Opening.{reposted, unposted-free}
 use Rattle.swoosh_resolver.proofs.Listing.{listed-past, listed-pushed}
+use Rattle.swoosh_resolver.proofs.Placing.{keys_at-stay, placed-stays}
 use Rattle.swoosh_resolver.proofs.opened.Opened.with_last.Goals as goal
 
-pub post_copies-requires : goal.post_copies-requires
-post_copies-requires g c k has =
+pub make_room_for-requires : goal.make_room_for-requires
+make_room_for-requires g c =
+    let is = c.as_slice.ensures.value ∙ ap (λ (e : Entry g.row.R.Denot ℕ). e.keys) c.last.view_is in
+    rw is c.in_ok-last.ensures.placed.rows
+
+pub post-requires-clause-placed : goal.post-requires-clause-placed
+post-requires-clause-placed g c = placed-stays c.with_places.new.postings c.make_room_for.new.postings c.make_room_for.ensures.rows c.in_ok-last.last c.in_ok-last.ensures.placed
+
+pub post-requires-clause-room : goal.post-requires-clause-room
+post-requires-clause-room g c k =
+    let is = c.as_slice.ensures.value ∙ ap (λ (e : Entry g.row.R.Denot ℕ). e.keys) c.last.view_is in
+    let room = rw is at (c.in_ok-make_room_for.ensures.room k) in
+    let stay = keys_at-stay c.with_places.new.postings c.make_room_for.new.postings c.make_room_for.ensures.rows c.in_ok-last.last.keys c.in_ok-last.ensures.placed.rows in
+    rw stay (omega arith)
+
+pub post-requires-clause-absent : goal.post-requires-clause-absent
+post-requires-clause-absent g c k has =
     let xs = c.self.inside.values.items in
-    unposted-free _ c.self.inside.places c.self.invariant c.self.inside.places c.len.result (listed-past xs c.len.result (omega (arith, c.len.ensures))) k
+    let same : (k : g.row.R-Key.Denot) → _ ≡ _ = λ k. c.make_room_for.ensures.numbers k ∙ ap (λ (p : Posting). p.numbers) (c.with_places.ensures.postings k) in
+    let listed : AreListed g.R.Key.PartialEq.eq g.R.Resolvable.is_posted xs c.make_room_for.new.postings = reposted (map Some xs) c.self.inside.postings c.make_room_for.new.postings same c.self.invariant.listed in
+    unposted-free (map Some xs) c.make_room_for.new.postings listed c.make_room_for.new.postings c.len.result (listed-past xs c.len.result (omega (arith, c.len.ensures))) k
 
 pub invariant_of-result : goal.invariant_of-result
 invariant_of-result g c =
     let xs = c.self.inside.values.items in
+    let last = c.in_ok-last.last in
     let len : c.len.result ≡ length xs = omega (arith, c.len.ensures) in
-    rw c.in_ok-push.ensures.items
-    (listed-pushed xs c.args.keyed c.self.inside.places c.post_copies.new.postings c.self.invariant (rw len at c.in_ok-post_copies.ensures))
+    let same : (k : g.row.R-Key.Denot) → _ ≡ _ = λ k. c.make_room_for.ensures.numbers k ∙ ap (λ (p : Posting). p.numbers) (c.with_places.ensures.postings k) in
+    let listed : AreListed g.R.Key.PartialEq.eq g.R.Resolvable.is_posted xs c.make_room_for.new.postings = reposted (map Some xs) c.self.inside.postings c.make_room_for.new.postings same c.self.invariant.listed in
+    let roomy : (e : Entry g.row.R.Denot ℕ) → IsPlaced g.R.Resolvable.is_posted c.with_places.new.postings e → IsPlaced g.R.Resolvable.is_posted c.post.new.postings e =
+    λ e placed. placed-stays c.make_room_for.new.postings c.post.new.postings c.post.ensures.rows e (placed-stays c.with_places.new.postings c.make_room_for.new.postings c.make_room_for.ensures.rows e placed) in
+    rw c.in_ok-push.ensures.items (record {
+      listed = listed-pushed xs last c.make_room_for.new.postings c.post.new.postings listed (rw len at c.post.ensures.numbers);
+      placed = λ e there. elim (Contains-push_cases xs last e there) as (λ _. IsPlaced g.R.Resolvable.is_posted c.post.new.postings e) [
+        | inl before ↦ roomy e (placed-stays c.self.inside.postings c.with_places.new.postings c.with_places.ensures.rows e (c.self.invariant.placed e before))
+        | inr same' ↦ subst (IsPlaced g.R.Resolvable.is_posted c.post.new.postings) same' (roomy last c.in_ok-last.ensures.placed)
+      ];
+    })
+
+pub returns : goal.returns
+returns g c = (
+  c.in_ok-last.last,
+  c.in_ok-push.ensures.items ∙ ap (λ (l : Listed g.row.R.Denot ℕ). l.items ++ c.in_ok-last.last ∷ []) c.self.view_is,
+  c.in_ok-last.ensures.value,
+)

@@ -1,0 +1,5 @@
+use Rattle.swoosh_resolver.proofs.Placing.{placed-are}
+use Rattle.swoosh_resolver.proofs.posting.with_places.Goals as goal
+
+pub returns-clause-placed : goal.returns-clause-placed
+returns-clause-placed g c = placed-are c.rows_of.new.postings _ c.in_ok-places.places.items _ c.in_ok-places.ensures.places c.keyed.invariant
