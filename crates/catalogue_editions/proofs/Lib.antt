@@ -5,3 +5,4 @@ pub mod Apart
 pub mod OwnLaws
 mod RecordsLaws
 mod NetLaws
+mod JoinedLaws

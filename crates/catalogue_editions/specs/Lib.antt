@@ -3,6 +3,7 @@ pub mod Sound
 pub mod ListLaws
 pub mod LinkedLaws
 pub mod SoundLaws
+pub mod Joined
 pub mod Joining
 pub mod Equal
 pub mod JoinLaws

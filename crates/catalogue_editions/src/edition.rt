@@ -3,12 +3,16 @@ ghost use Rattle.std.specs.Prelude.{◌≡◌, IfOk, IsTrue};
 ghost use Rattle.catalogue_editions.specs.Linked.{are_linked};
 ghost use Rattle.catalogue_editions.specs.Sound.{is_sound};
 
+use crate::contents::Contents;
+use crate::shared_content::SharedContent;
 use field_merge::content::Content;
 use match_features::features::Features;
 use std::alloc::Global;
 use std::marker::Model;
 use std::sync::Arc;
 use union_base::memory::Memory;
+use union_base::record_id::RecordId;
+use union_base::sorted_list::SortedList;
 
 /// What an edition has: the features by which other records are found to describe it too, and its content.
 ///
@@ -35,17 +39,47 @@ impl Drop for EditionParts {
     }
 }
 
+impl EditionParts {
+    /// The features and the content. Takes no memory.
+    fn into_both(self) -> (Features, Content)
+        ensures features { result.0 ≡ self.features }
+        ensures content { result.1 ≡ self.content }
+    {
+        let EditionParts { features, content } = self;
+        (features, content)
+    }
+}
+
+/// What an edition keeps: as its parts, but that the contents of its records are merged only when somebody asks.
+#[derive(Debug)]
+struct Kept {
+    features: Features,
+    contents: Contents,
+    ghost linked: { IsTrue (are_linked contents.contributors features.control) },
+    ghost sound: { IsTrue (is_sound contents) },
+}
+
+/// A drop of its own, as that of `Bytes`.
+impl Drop for Kept {
+    fn drop(self) {
+        let Kept {
+            features: _,
+            contents: _,
+        } = self;
+    }
+}
+
 /// What one or several records that describe one edition come to, which contracts see as its parts. All owners of an edition
-/// share its parts, which nothing changes once they were made, so one more owner takes no memory.
+/// share what it keeps, which nothing changes once it was made, so one more owner takes no memory.
 #[derive(Debug)]
 pub struct Edition {
-    parts: Arc<EditionParts, Global>,
+    kept: Arc<Kept, Global>,
 }
 
 /// A drop of its own, as that of `Bytes`.
 impl Drop for Edition {
     fn drop(self) {
-        let Edition { parts: _ } = self;
+        let Edition { kept: _ } = self;
     }
 }
 
@@ -55,18 +89,40 @@ impl Model for Edition {
 
     ghost Value = { EditionParts };
 
-    ghost view = { λ edition. arc_value edition.parts };
+    ghost view = { λ edition. record {
+      features = (arc_value edition.kept).features;
+      content = (arc_value edition.kept).contents;
+      linked = (arc_value edition.kept).linked;
+      sound = (arc_value edition.kept).sound;
+    } };
 }
 
 impl Edition {
-    /// The edition of those parts.
+    /// The edition of one record, of those parts.
     ///
     /// Returns `Memory` if allocation fails.
     pub fn of(alloc: Global, parts: EditionParts) -> Result<Edition, Memory>
         ensures { IfOk result (λ edition. edition ≡ parts) }
     {
+        let (features, content) = parts.into_both();
+        let contents = Contents::of(alloc, content)?;
+        Edition::with_contents(alloc, features, contents)
+    }
+
+    /// The edition of these features and contents. Returns `Memory` if allocation fails.
+    pub(crate) fn with_contents(
+        alloc: Global,
+        features: Features,
+        contents: Contents,
+    ) -> Result<Edition, Memory>
+        requires linked { IsTrue (are_linked contents.contributors features.control) }
+        requires sound { IsTrue (is_sound contents) }
+        ensures { IfOk result (λ edition. (edition.features ≡ features)
+            × (edition.content ≡ contents)) }
+    {
+        let kept = Kept { features, contents };
         Ok(Edition {
-            parts: Arc::new(alloc, parts)?,
+            kept: Arc::new(alloc, kept)?,
         })
     }
 
@@ -77,7 +133,7 @@ impl Edition {
         ensures { IfOk result (λ edition. edition ≡ self.now) }
     {
         Ok(Edition {
-            parts: Arc::try_clone(&self.parts)?,
+            kept: Arc::try_clone(&self.kept)?,
         })
     }
 
@@ -85,13 +141,30 @@ impl Edition {
     pub fn features(&self) -> &Features
         ensures { result.now ≡ self.now.features }
     {
-        &self.parts.features
+        &self.kept.features
     }
 
-    /// What the edition's records say.
-    pub fn content(&self) -> &Content
+    /// The contents of the edition's records.
+    pub(crate) fn contents(&self) -> &Contents
         ensures { result.now ≡ self.now.content }
     {
-        &self.parts.content
+        &self.kept.contents
+    }
+
+    /// The ids of the edition's records, in order. Takes no memory.
+    pub fn contributors(&self) -> &SortedList<RecordId>
+        ensures { result.now ≡ self.now.content.contributors }
+    {
+        self.contents().contributors()
+    }
+
+    /// What the edition's records say. It is made anew by each call where the edition is of several records: theirs are merged
+    /// by halves. Where it is of one record, this takes no memory.
+    ///
+    /// Returns `Memory` if allocation fails.
+    pub fn content(&self, alloc: Global) -> Result<SharedContent, Memory>
+        ensures { IfOk result (λ content. content ≡ self.now.content) }
+    {
+        self.contents().content(alloc)
     }
 }

@@ -10,6 +10,6 @@ impl Edition {
     pub fn least(&self) -> &RecordId
         ensures { result.now ≡ least self.now }
     {
-        &self.content().contributors.as_slice()[0]
+        &self.contributors().as_slice()[0]
     }
 }

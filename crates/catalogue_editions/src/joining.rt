@@ -2,7 +2,7 @@
 ghost use Rattle.catalogue_editions.specs.Joining.{join};
 ghost use Rattle.catalogue_editions.specs.JoinLaws.{edition_join_laws};
 
-use crate::edition::{Edition, EditionParts};
+use crate::edition::Edition;
 use merge_laws::join::Join;
 use std::alloc::Global;
 use union_base::memory::Memory;
@@ -11,11 +11,9 @@ impl Join for Edition {
     ghost join = { join };
 
     fn joined(&self, alloc: Global, other: &Edition) -> Result<Edition, Memory> {
-        let parts = EditionParts {
-            features: self.features().joined(alloc, other.features())?,
-            content: self.content().joined(alloc, other.content())?,
-        };
-        Edition::of(alloc, parts)
+        let features = self.features().joined(alloc, other.features())?;
+        let contents = self.contents().joined(alloc, other.contents())?;
+        Edition::with_contents(alloc, features, contents)
     }
 
     fn copied(&self, _alloc: Global) -> Result<Edition, Memory> {

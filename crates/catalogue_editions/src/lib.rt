@@ -2,16 +2,19 @@
 //! which a library loads and withdraws its records.
 //!
 //! An [`edition::Edition`] is the features by which it is matched and the content that it shows. The edition of one record
-//! has those of the record; editions that match merge to the union of their features and the merge of their contents. An
+//! has those of the record; editions that match merge to the union of their features and the merge of their contents. It keeps
+//! the contents of its records as they are, and what they merge to, a [`shared_content::SharedContent`], is made for whoever asks. An
 //! [`op::Op`] loads the edition of a record, or withdraws a record; the operations of one turn are a [`batch::Batch`], and a
 //! [`prepared::Prepared`] batch has its records resolved among themselves.
 //!
 //! Guarantee: editions keep the laws of `Join` and of matching, so what a list of records resolves to does not depend on their
 //! order; each accepted record asks for one operation; and a batch is of one library, with as many operations as a turn may have.
-//! Cost: merging and matching walk sorted lists side by side. One more owner of an edition takes no memory.
+//! Cost: merging and matching walk sorted lists side by side; merging copies features and contributors, and no content. One more
+//! owner of an edition takes no memory. The content of an edition of several records is made by each call that asks for it.
 #![tactic(auto)]
 
 pub mod batch;
+mod contents;
 pub mod edition;
 pub mod ids;
 pub mod joining;
@@ -24,4 +27,5 @@ pub mod ordering;
 pub mod outcome;
 pub mod prepared;
 pub mod records;
+pub mod shared_content;
 pub mod work_key;

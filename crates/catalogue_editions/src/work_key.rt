@@ -15,6 +15,7 @@ ghost use Rattle.catalogue_editions.specs.EditionKeys.{is_added_entry, field_in,
 
 use crate::edition::Edition;
 use authority_names::name_table::NameTable;
+use field_merge::content::Content;
 use field_merge::slot::Slot;
 use marc_parts::parts::has_tag;
 use std::alloc::Global;
@@ -28,20 +29,27 @@ use workset_keys::work_key::key_of_names;
 
 /// The key of the work that the edition belongs to (this project's own profile of the OCLC work-set algorithm): that of its
 /// main entry, its 240, its 245, its added entries 700, 710 and 711, and its least contributor. Each name is the one that the
-/// table has for it, or itself. The key is UTF-8, and has none of 0x1D, 0x1E and 0x1F.
+/// table has for it, or itself. The key is UTF-8, and has none of 0x1D, 0x1E and 0x1F. `content` is that of the edition, which
+/// the caller has made.
 ///
 /// Returns `Memory` if allocation fails.
-pub fn work_key_of(alloc: Global, names: &NameTable, edition: &Edition) -> Result<Bytes, Memory>
+pub fn work_key_of(
+    alloc: Global,
+    names: &NameTable,
+    edition: &Edition,
+    content: &Content,
+) -> Result<Bytes, Memory>
+    requires { content.now ≡ edition.now.content }
     ensures value { IfOk result (λ key. key ≡ work_key_by names.now edition.now) }
     ensures text { IfOk result (λ key. IsTrue (is_text key)) }
     ensures utf8 { IfOk result (λ key. IsTrue (is_utf8 key)) }
 {
-    let run = added_run(edition.content().united.as_slice());
+    let run = added_run(content.united.as_slice());
     if are_added_entries(run) {
-        key_with(alloc, names, edition, run)
+        key_with(alloc, names, edition, content, run)
     } else {
         let added = added_entries(alloc, run)?;
-        key_with(alloc, names, edition, added.as_slice())
+        key_with(alloc, names, edition, content, added.as_slice())
     }
 }
 
@@ -50,14 +58,15 @@ fn key_with(
     alloc: Global,
     names: &NameTable,
     edition: &Edition,
+    content: &Content,
     added: &[Field],
 ) -> Result<Bytes, Memory>
-    requires { added.now ≡ filter is_added_entry edition.now.content.united }
+    requires content { content.now ≡ edition.now.content }
+    requires added { added.now ≡ filter is_added_entry edition.now.content.united }
     ensures value { IfOk result (λ key. key ≡ work_key_by names.now edition.now) }
     ensures text { IfOk result (λ key. IsTrue (is_text key)) }
     ensures utf8 { IfOk result (λ key. IsTrue (is_utf8 key)) }
 {
-    let content = edition.content();
     let main = field_in(&content.f1xx);
     let name = names.used_for(alloc, main_name(alloc, main)?)?;
     let others = names_needed(alloc, names, &name, added)?;

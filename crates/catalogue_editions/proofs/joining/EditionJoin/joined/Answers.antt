@@ -8,11 +8,11 @@ use Rattle.catalogue_editions.specs.Equal.{same_editions}
 use Rattle.catalogue_editions.specs.Joining.{join}
 use Rattle.catalogue_editions.proofs.joining.EditionJoin.joined.Goals as goal
 
-pub invariant_of-parts : goal.invariant_of-parts
-invariant_of-parts c =
+pub with_contents-requires : goal.with_contents-requires
+with_contents-requires c =
     let whole = join c.args.self.now c.args.other.now in
-    let features = c.in_ok-joined.ensures ∙ (λ i. join_features (c.features.ensures i) (c.features-2.ensures i)) in
-    let content = c.in_ok-joined-2.ensures ∙ (λ i. join_contents (c.content.ensures i) (c.content-2.ensures i)) in
+    let features = c.in_ok-features.ensures ∙ (λ i. join_features (c.features.ensures i) (c.features-2.ensures i)) in
+    let content = c.in_ok-contents.ensures ∙ (λ i. join_contents (c.contents.ensures i) (c.contents-2.ensures i)) in
     record {
       linked = (λ i. are_linked (content i).contributors (features i).control) ∙ whole.linked;
       sound = ap is_sound content ∙ whole.sound;
@@ -20,6 +20,7 @@ invariant_of-parts c =
 
 pub returns : goal.returns
 returns c =
-    let features = c.in_ok-joined.ensures ∙ (λ i. join_features (c.features.ensures i) (c.features-2.ensures i)) in
-    let content = c.in_ok-joined-2.ensures ∙ (λ i. join_contents (c.content.ensures i) (c.content-2.ensures i)) in
-    IfOk-weaker c.of.result _ _ (λ _ made. made ∙ same_editions _ (join c.args.self.now c.args.other.now) features content) c.of.ensures
+    let features = c.in_ok-features.ensures ∙ (λ i. join_features (c.features.ensures i) (c.features-2.ensures i)) in
+    let content = c.in_ok-contents.ensures ∙ (λ i. join_contents (c.contents.ensures i) (c.contents-2.ensures i)) in
+    IfOk-weaker c.with_contents.result _ _
+    (λ e made. same_editions e (join c.args.self.now c.args.other.now) (made.0 ∙ features) (made.1 ∙ content)) c.with_contents.ensures

@@ -1,0 +1,21 @@
+-- Contents that are kept as they are, and what they merge to.
+use Rattle.std.specs.Prelude.{List, [], Option, Some, None, fold}
+use Rattle.std.specs.declared.boxed.Box.{Box}
+use Rattle.union_base.specs.declared.record_id.RecordId.{RecordId}
+use Rattle.field_merge.specs.Merging.{join}
+use Rattle.field_merge.specs.declared.content.Content.{Content}
+use Rattle.catalogue_editions.specs.declared.contents.Behind.{Behind}
+
+-- what a content and those behind it merge to
+abbrev pub joined_all : Content → List Content → Content
+joined_all first behind = fold join first behind
+
+-- the contents behind the first one, or none
+abbrev pub contents_behind : {Z : Type 0} → Option (Box Behind Z) → List Content
+contents_behind (Some more) = more.value.contents.items
+contents_behind None = []
+
+-- the contributors that are kept beside the contents, or else those of the only content
+abbrev pub kept_contributors : {Z : Type 0} → Content → Option (Box Behind Z) → List RecordId
+kept_contributors first (Some more) = more.value.contributors
+kept_contributors first None = first.contributors
