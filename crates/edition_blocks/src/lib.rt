@@ -5,7 +5,8 @@
 //!
 //! Guarantee: a delta is the difference of the lists of editions before and after (specs/Deltas.antt).
 //! Cost: a delta takes time and memory by the size of the change, and not by how many editions there are. No edition is copied:
-//! the delta is one more owner of each.
+//! the delta is one more owner of each. What two editions show is made and compared only where their contributors and features
+//! are equal.
 #![tactic(auto)]
 
 pub mod delta;

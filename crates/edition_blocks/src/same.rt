@@ -1,11 +1,13 @@
 //! Whether two editions are equal in all their parts.
-ghost use Rattle.std.specs.Prelude.{◌≡◌, ◌↔◌, IsTrue};
+ghost use Rattle.std.specs.Prelude.{◌≡◌, ◌↔◌, IfOk, IsTrue};
 
 use catalogue_editions::edition::Edition;
 use field_merge::content::Content;
 use field_merge::fixed::Fixed;
 use field_merge::slot::Slot;
 use match_features::features::Features;
+use std::alloc::Global;
+use union_base::memory::Memory;
 use union_base::sorted_list::{Element, SortedList};
 
 /// Whether the lists have the same values. Takes no memory.
@@ -66,14 +68,20 @@ fn are_same_contents(one: &Content, other: &Content) -> bool
     contributors & fixed & f005 & f010 & f040 & f1xx & f240 & f245 & united
 }
 
-/// Whether the editions are equal: in their features, their contributors, and what they show, with the ranks of its parts. Takes
-/// no memory.
-pub fn is_same(one: &Edition, other: &Edition) -> bool
-    ensures { IsTrue result ↔ (one.now ≡ other.now) }
+/// Whether the editions are equal: in their contributors, their features, and what they show, with the ranks of its parts. What
+/// they show is made only where the others are equal.
+///
+/// Returns `Memory` if allocation fails.
+pub fn is_same(alloc: Global, one: &Edition, other: &Edition) -> Result<bool, Memory>
+    ensures { IfOk result (λ same. IsTrue same ↔ (one.now ≡ other.now)) }
 {
-    if are_same_contents(one.content(), other.content()) {
-        are_same_features(one.features(), other.features())
-    } else {
-        false
+    if !are_same_lists(one.contributors(), other.contributors()) {
+        return Ok(false);
     }
+    if !are_same_features(one.features(), other.features()) {
+        return Ok(false);
+    }
+    let shown = one.content(alloc)?;
+    let beside = other.content(alloc)?;
+    Ok(are_same_contents(shown.content(), beside.content()))
 }

@@ -34,10 +34,11 @@ fn opened_editions<'a>(
 }
 
 /// Whether an equal edition is among the editions, which are in order of their least contributors. It is looked up by its least
-/// contributor. Takes no memory.
-pub fn is_among(editions: &[&Edition], edition: &Edition) -> bool
+/// contributor. Returns `Memory` if allocation fails.
+pub fn is_among(alloc: Global, editions: &[&Edition], edition: &Edition) -> Result<bool, Memory>
     requires { IsTrue (is_ascending edition_cmp (map (λ e. e.now) editions.now)) }
-    ensures { IsTrue result ↔ Contains (map (λ e. e.now) editions.now) edition.now }
+    ensures { IfOk result (λ among. IsTrue among
+        ↔ Contains (map (λ e. e.now) editions.now) edition.now) }
 {
     let found = editions.binary_search_by(
         |other: &&Edition| -> Ordering
@@ -45,8 +46,8 @@ pub fn is_among(editions: &[&Edition], edition: &Edition) -> bool
         { other.least().cmp(edition.least()) },
     );
     match found {
-        Ok(place) => is_same(editions[place], edition),
-        Err(_) => false,
+        Ok(place) => is_same(alloc, editions[place], edition),
+        Err(_) => Ok(false),
     }
 }
 
@@ -64,7 +65,8 @@ fn only_in(
 {
     let mut found = Vec::new(alloc);
     for edition in editions {
-        if !is_among(others, edition) {
+        let among = is_among(alloc, others, edition)?;
+        if !among {
             found.push(edition.shared()?)?;
         }
     }
