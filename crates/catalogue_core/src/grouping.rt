@@ -51,7 +51,8 @@ pub fn work_pair(
 ) -> Result<(Bytes, RecordId), Memory>
     ensures { IfOk result (λ pair. pair ≡ (work_key_by names.now edition.now, least edition.now)) }
 {
-    let key = work_key_of(alloc, names, edition)?;
+    let content = edition.content(alloc)?;
+    let key = work_key_of(alloc, names, edition, content.content())?;
     Ok((key, edition.least().copied(alloc)?))
 }
 

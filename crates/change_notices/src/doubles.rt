@@ -25,7 +25,7 @@ fn add_contributors(
     ensures { OnOk result ((q : IdModel) → contains id_cmp seen.new q
         ≡ (contains id_cmp seen.old q || has id_cmp edition.now.content.contributors q)) }
 {
-    let ids = edition.content().contributors.as_slice();
+    let ids = edition.contributors().as_slice();
     for id in ids {
         seen.insert(id.copied(alloc)?)?;
     }
@@ -37,7 +37,7 @@ fn has_seen(seen: &BTreeSet<RecordId>, edition: &Edition) -> bool
     ensures { result ≡ list_any (λ id. contains id_cmp seen.now id)
         edition.now.content.contributors }
 {
-    let ids = edition.content().contributors.as_slice();
+    let ids = edition.contributors().as_slice();
     ids.iter().any(|id| seen.contains(id))
 }
 

@@ -14,11 +14,12 @@ use std::cmp::Ordering;
 use union_base::memory::Memory;
 
 /// The place of an equal edition among the held ones, which are in order of their least contributors: None exactly where none is
-/// equal. It is looked up by its least contributor. Takes no memory.
-fn place_of(held: &[Edition], edition: &Edition) -> Option<usize>
+/// equal. It is looked up by its least contributor. Returns `Memory` if allocation fails.
+fn place_of(alloc: Global, held: &[Edition], edition: &Edition) -> Result<Option<usize>, Memory>
     requires { IsTrue (is_ascending edition_cmp held.now) }
-    ensures found { IfSome result (λ place. slice_get held.now place ≡ Some edition.now) }
-    ensures none { IfNone result (Contains held.now edition.now → ⊥) }
+    ensures found { IfOk result (λ found. IfSome found (λ place. slice_get held.now place
+        ≡ Some edition.now)) }
+    ensures none { IfOk result (λ found. IfNone found (Contains held.now edition.now → ⊥)) }
 {
     let found = held.binary_search_by(
         |other: &Edition| -> Ordering
@@ -27,13 +28,10 @@ fn place_of(held: &[Edition], edition: &Edition) -> Option<usize>
     );
     match found {
         Ok(place) => {
-            if is_same(&held[place], edition) {
-                Some(place)
-            } else {
-                None
-            }
+            let same = is_same(alloc, &held[place], edition)?;
+            if same { Ok(Some(place)) } else { Ok(None) }
         }
-        Err(_) => None,
+        Err(_) => Ok(None),
     }
 }
 
@@ -52,7 +50,7 @@ pub fn marked(
 {
     let mut marks = vec![in alloc; false; held.len()]?;
     for (at, edition) in closed.iter().enumerate() {
-        match free_place(held, marks.as_slice(), edition) {
+        match free_place(alloc, held, marks.as_slice(), edition)? {
             Some(place) => marks[place] = true,
             None => return Ok(Err(at)),
         }
@@ -60,19 +58,32 @@ pub fn marked(
     Ok(Ok(marks))
 }
 
-/// The place of an equal edition among the held ones that is not marked: None exactly where there is none. Takes no memory.
-fn free_place(held: &[Edition], marks: &[bool], edition: &Edition) -> Option<usize>
+/// The place of an equal edition among the held ones that is not marked: None exactly where there is none. Returns `Memory` if
+/// allocation fails.
+fn free_place(
+    alloc: Global,
+    held: &[Edition],
+    marks: &[bool],
+    edition: &Edition,
+) -> Result<Option<usize>, Memory>
     requires ascending { IsTrue (is_ascending edition_cmp held.now) }
     requires marks { length marks.now ≡ length held.now }
-    ensures found { IfSome result (λ place. (slice_get held.now place ≡ Some edition.now)
+    ensures found { IfOk result (λ found. IfSome found (λ place. (slice_get held.now place
+        ≡ Some edition.now)
         × (place < length marks.now)
-        × (slice_index_or marks.now place false ≡ false)) }
-    ensures none { IfNone result ((Contains held.now edition.now → ⊥)
+        × (slice_index_or marks.now place false ≡ false))) }
+    ensures none { IfOk result (λ found. IfNone found ((Contains held.now edition.now → ⊥)
         ⊎ ((place : ℕ) × (slice_get held.now place ≡ Some edition.now)
-        × (slice_index_or marks.now place false ≡ true))) }
+        × (slice_index_or marks.now place false ≡ true)))) }
 {
-    let place = place_of(held, edition)?;
-    if marks[place] { None } else { Some(place) }
+    let Some(place) = place_of(alloc, held, edition)? else {
+        return Ok(None);
+    };
+    if marks[place] {
+        Ok(None)
+    } else {
+        Ok(Some(place))
+    }
 }
 
 /// The held editions that are not marked, in their order. Returns `Memory` if allocation fails.

@@ -44,7 +44,7 @@ fn name_contributors(
         ≡ (if has id_cmp edition.now.content.contributors q then Some (least edition.now) else get
         id_cmp names.old q)) }
 {
-    let ids = edition.content().contributors.as_slice();
+    let ids = edition.contributors().as_slice();
     for id in ids {
         names.insert(id.copied(alloc)?, edition.least().copied(alloc)?)?;
     }
@@ -118,7 +118,7 @@ fn add_edition(
         (get id_cmp names.now) edition.now) }
 {
     lines.push(head_line(alloc, words.head, edition.least())?)?;
-    let ids = edition.content().contributors.as_slice();
+    let ids = edition.contributors().as_slice();
     for id in ids {
         lines.push(contributor_line(alloc, words, names.get(id), id)?)?;
     }

@@ -25,7 +25,7 @@ fn holds(alloc: Global, catalogue: &Catalogue, follower: &Follower) -> Result<bo
     for (place, edition) in editions.iter().enumerate() {
         match found.as_slice().get(place) {
             Some(beside) => {
-                if !is_same(beside, edition) {
+                if !is_same(alloc, beside, edition)? {
                     return Ok(false);
                 }
             }

@@ -8,6 +8,7 @@ use edition_blocks::same::is_same;
 use merge_laws::join::Join;
 use std::alloc::Global;
 use std::test::Fail;
+use union_base::memory::Memory;
 
 mod cases;
 
@@ -86,16 +87,16 @@ fn digit(place: u64) -> &'static str {
 }
 
 /// Whether the lists have the same editions, in the same order.
-fn are_same(one: &[Edition], other: &[Edition]) -> bool {
+fn are_same(alloc: Global, one: &[Edition], other: &[Edition]) -> Result<bool, Memory> {
     if one.len() != other.len() {
-        return false;
+        return Ok(false);
     }
     for (a, b) in one.iter().zip(other) {
-        if !is_same(a, b) {
-            return false;
+        if !is_same(alloc, a, b)? {
+            return Ok(false);
         }
     }
-    true
+    Ok(true)
 }
 
 /// Whether the follower answers the step as expected, and holds what it is to hold then.
@@ -117,7 +118,7 @@ fn takes(
         Err(refusal) => is_told(refusal, answer),
     };
     let expected = of_names(alloc, all, held)?;
-    Ok(is_right && are_same(follower.editions(), expected.as_slice()))
+    Ok(is_right && are_same(alloc, follower.editions(), expected.as_slice())?)
 }
 
 /// Whether a follower answers each step of the case as expected.

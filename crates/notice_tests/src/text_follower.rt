@@ -17,7 +17,7 @@ fn add_record(text: &mut Vec<u8>, library: &[u8], control: &[u8]) -> Result<(), 
 /// The records of the edition, each with a blank after it. The first of them names it.
 pub fn records_of(alloc: Global, edition: &Edition) -> Result<Vec<u8>, Fail> {
     let mut text = Vec::new(alloc);
-    let ids = edition.content().contributors.as_slice();
+    let ids = edition.contributors().as_slice();
     for id in ids {
         add_record(&mut text, id.library.bytes(), id.control.bytes())?;
     }

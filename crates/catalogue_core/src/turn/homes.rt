@@ -147,7 +147,7 @@ pub fn house_all(homes: &mut HomeTable, opened: &[Placed<Edition>], numbers: &[u
     for (place, placed) in opened.iter().enumerate() {
         house(
             homes,
-            placed.value.content().contributors.as_slice(),
+            placed.value.contributors().as_slice(),
             numbers[place],
         );
     }

@@ -113,7 +113,7 @@ fn kept_holder(
 fn has_contributor(edition: &Edition, id: &RecordId) -> bool
     ensures { result ≡ has_contributor id.now edition.now }
 {
-    let ids = edition.content().contributors.as_slice();
+    let ids = edition.contributors().as_slice();
     ids.iter().any(|other| id.cmp(other).is_eq())
 }
 
@@ -178,7 +178,7 @@ fn left_behind(
     let Some(edition) = context.blocks.member(&plan.change, at) else {
         unreachable!()
     };
-    let ids = edition.content().contributors.as_slice();
+    let ids = edition.contributors().as_slice();
     let left = bases_beside(alloc, context, &plan.touched, id, ids)?;
     Ok((at, left))
 }

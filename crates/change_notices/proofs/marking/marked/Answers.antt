@@ -9,14 +9,14 @@ returns-in-None c =
     let at = c.loop-at.at in
     let e = c.index-closed-at.result in
     marks-stop c.args.held.now closed c.requires at c.loop-at.marks.items c.loop-at.invariant e
-    (slice_get_read closed (length closed) at e refl c.loop-at-test.true c.index-closed-at.is) (rw c.as_slice.ensures.value at c.in-None.ensures.none)
+    (slice_get_read closed (length closed) at e refl c.loop-at-test.true c.index-closed-at.is) (rw (c.as_slice.ensures.value, c.in-None.is) at c.in_ok-place.ensures.none)
 
 pub loop-at-preserved : goal.loop-at-preserved
 loop-at-preserved c =
     let closed = c.args.closed.now in
     let at = c.loop-at.at in
     let e = c.index-closed-at.result in
-    let found = rw c.as_slice.ensures.value at c.in-Some.ensures.found in
+    let found = rw (c.as_slice.ensures.value, c.in-Some.is) at c.in_ok-place.ensures.found in
     marks-more c.args.held.now closed c.requires at c.loop-at.marks.items c.loop-at.invariant e
     (slice_get_read closed (length closed) at e refl c.loop-at-test.true c.index-closed-at.is) c.in-Some.place found.0 found.2
 

@@ -1,7 +1,6 @@
 use Rattle.std.proofs.Common.{◌≡◌, ◌++◌, ◌∷◌, [], sym, ap, ◌∙◌}
 use Rattle.std.specs.Prelude.{Option, Some, filter_map, option_copied}
 use Rattle.std.specs.Option.{option_map}
-use Rattle.field_merge.specs.declared.content.Content.{Content}
 use Rattle.catalogue_core.specs.Homes.{Block}
 use Rattle.catalogue_core.specs.Keeping.{batches}
 use Rattle.catalogue_core.specs.Plans.{base_beside}
@@ -24,5 +23,5 @@ returns c =
       bears = bears;
       are = c.in_ok-left.ensures
           ∙ ap (filter_map (base_beside (batches c.args.context.now.history.now ++ c.args.context.now.batch.now ∷ []) c.args.context.now.homes.now.entries c.args.plan.now.touched.entries c.args.id.now))
-          (c.as_slice-ids.ensures.value ∙ ap (λ (x : Content). x.contributors) c.content.ensures ∙ ap (λ (x : Edition). x.content.contributors) same);
+          (c.as_slice-ids.ensures.value ∙ c.contributors.ensures ∙ ap (λ (x : Edition). x.content.contributors) same);
     }
