@@ -7,7 +7,7 @@ ghost use Rattle.catalogue_export.specs.Exported.{exported, edition_bytes, left_
 
 use crate::own_fields::own_fields;
 use crate::shown_fields::shown_fields;
-use catalogue_core::edition::Edition;
+use catalogue_core::shared_content::SharedContent;
 use field_merge::content::Content;
 use marc_fields::encoding::{EncodeRefusal, encode_fields};
 use marc_fields::marc_record::Record;
@@ -18,39 +18,39 @@ use union_base::field::Field;
 use union_base::memory::Memory;
 use union_base::sequence::Sequence;
 
-/// Appends the record that is shown of an edition under this work key, and answers how many of its fields were left out of
-/// it. The record's fields are the catalogue's own number and name, the edition's slots, the work key in 991, a 993 for each
-/// contributor and the united fields, as many of them in this order as a frame has room for, in order of their tags.
+/// Appends the record that is shown of an edition with this content under this work key, and answers how many of its fields were
+/// left out of it. The record's fields are the catalogue's own number and name, the edition's slots, the work key in 991, a 993
+/// for each contributor and the united fields, as many of them in this order as a frame has room for, in order of their tags.
 ///
 /// Answers `Memory` where memory ran out; what stood in `into` stands there still.
 pub fn edition_bytes(
     alloc: Global,
-    edition: &Edition,
+    content: &SharedContent,
     key: &Bytes,
     into: &mut Vec<u8>,
 ) -> Result<usize, Memory>
     requires { IsTrue (is_text key.now) }
     ensures text { Appends result into.old.items into.new.items
-        (edition_bytes edition.now.content key.now) }
-    ensures left { IfOk result (λ n. n ≡ left_out edition.now.content key.now) }
+        (edition_bytes content.now key.now) }
+    ensures left { IfOk result (λ n. n ≡ left_out content.now key.now) }
 {
-    append_content(alloc, edition.content(), key.bytes(), into)
+    append_content(alloc, content.content(), key.bytes(), into)
 }
 
-/// The record that is shown of an edition under this work key, and how many of the edition's fields were left out of it: the record
-/// of which `edition_bytes` appends the bytes.
+/// The record that is shown of an edition with this content under this work key, and how many of the edition's fields were left
+/// out of it: the record of which `edition_bytes` appends the bytes.
 ///
 /// Returns `Memory` if allocation fails.
 pub fn edition_record(
     alloc: Global,
-    edition: &Edition,
+    content: &SharedContent,
     key: &Bytes,
 ) -> Result<(Record, usize), Memory>
     requires { IsTrue (is_text key.now) }
-    ensures value { IfOk result (λ r. r.0 ≡ exported edition.now.content key.now) }
-    ensures left { IfOk result (λ r. r.1 ≡ left_out edition.now.content key.now) }
+    ensures value { IfOk result (λ r. r.0 ≡ exported content.now key.now) }
+    ensures left { IfOk result (λ r. r.1 ≡ left_out content.now key.now) }
 {
-    exported(alloc, edition.content(), key.bytes())
+    exported(alloc, content.content(), key.bytes())
 }
 
 /// Appends the record that is shown of an edition with this work key, and answers how many of its fields were left out of it,

@@ -38,8 +38,9 @@ pub fn append_line(
         ++ edition_line catalogue.now.names edition.now) }
     ensures left { IfOk result (λ n. n ≡ fields_left catalogue.now.names edition.now) }
 {
-    let key = catalogue.key_of(alloc, edition)?;
-    let (rec, left) = edition_record(alloc, edition, &key)?;
+    let content = edition.content(alloc)?;
+    let key = catalogue.key_of(alloc, edition, content.content())?;
+    let (rec, left) = edition_record(alloc, &content, &key)?;
     to_json(&rec, into)?;
     Ok(left)
 }

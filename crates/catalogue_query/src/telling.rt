@@ -46,8 +46,9 @@ fn add_identity(
         ++ identity_lines catalogue.now.names edition.now) }
 {
     lines.push(edition_line(alloc, edition.least())?)?;
-    add_contributors(alloc, lines, edition.content().contributors.as_slice())?;
-    let key = catalogue.key_of(alloc, edition)?;
+    add_contributors(alloc, lines, edition.contributors().as_slice())?;
+    let content = edition.content(alloc)?;
+    let key = catalogue.key_of(alloc, edition, content.content())?;
     lines.push(work_line(alloc, key.bytes())?)?;
     Ok(())
 }
@@ -71,7 +72,7 @@ fn add_holdings(
     ensures { OnOk result (lines.new.items ≡ lines.old.items
         ++ holding_lines (current catalogue.now.history) edition.now) }
 {
-    for id in edition.content().contributors.as_slice() {
+    for id in edition.contributors().as_slice() {
         add_record(alloc, lines, catalogue, id)?;
     }
     Ok(())
@@ -90,7 +91,8 @@ fn add_record(
     let Some(base) = catalogue.base(id) else {
         return Ok(());
     };
-    let holdings = holdings_of(alloc, id, base.content().united.as_slice())?;
+    let content = base.content(alloc)?;
+    let holdings = holdings_of(alloc, id, content.content().united.as_slice())?;
     add_hold_lines(alloc, lines, &holdings)
 }
 

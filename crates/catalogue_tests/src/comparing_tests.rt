@@ -17,6 +17,7 @@ use std::sync::ledger::{Blank, Ledger};
 use std::test::Fail;
 use union_base::bytes::Bytes;
 use union_base::library_code::LibraryCode;
+use union_base::memory::Memory;
 use union_base::record_id::RecordId;
 use work_clusters::works::Works;
 
@@ -128,25 +129,30 @@ impl Draws {
 }
 
 /// Whether both are the same edition, by their contributors and how many fields they have, or both are none.
-pub fn same(one: Option<&Edition>, other: Option<&Edition>) -> bool {
+pub fn same(alloc: Global, one: Option<&Edition>, other: Option<&Edition>) -> Result<bool, Memory> {
     match (one, other) {
         (Some(a), Some(b)) => {
-            a.content().contributors.as_slice() == b.content().contributors.as_slice()
-                && a.content().united.as_slice().len() == b.content().united.as_slice().len()
+            let shown = a.content(alloc)?;
+            let beside = b.content(alloc)?;
+            let (left, right) = (&shown.content().united, &beside.content().united);
+            Ok(
+                a.contributors().as_slice() == b.contributors().as_slice()
+                    && left.as_slice().len() == right.as_slice().len(),
+            )
         }
-        (None, None) => true,
-        _ => false,
+        (None, None) => Ok(true),
+        _ => Ok(false),
     }
 }
 
 /// Whether the editions are the same, place by place.
-pub fn same_editions(one: &[&Edition], other: &[Edition]) -> bool {
+pub fn same_editions(alloc: Global, one: &[&Edition], other: &[Edition]) -> Result<bool, Memory> {
     for (place, edition) in one.iter().enumerate() {
-        if !same(Some(*edition), other.get(place)) {
-            return false;
+        if !same(alloc, Some(*edition), other.get(place))? {
+            return Ok(false);
         }
     }
-    one.len() == other.len()
+    Ok(one.len() == other.len())
 }
 
 /// Whether the two have the same works.
@@ -181,8 +187,8 @@ fn same_records(
             library: library(place)?,
             control: Bytes::of(alloc, &digits)?,
         };
-        if !same(catalogue.holder(&id), plain.holder(&id))
-            || !same(catalogue.base(&id), plain.base(&id))
+        if !same(alloc, catalogue.holder(&id), plain.holder(&id))?
+            || !same(alloc, catalogue.base(&id), plain.base(&id))?
         {
             return Ok(false);
         }
@@ -206,7 +212,11 @@ pub fn same_answers(
         catalogue.record_count() == plain.record_count()
             && catalogue.edition_count() == plain.edition_count()
             && catalogue.turns() == plain.turns()
-            && same_editions(catalogue.editions(alloc)?.as_slice(), plain.editions())
+            && same_editions(
+                alloc,
+                catalogue.editions(alloc)?.as_slice(),
+                plain.editions(),
+            )?
             && same_works(catalogue.works(alloc)?.works(), plain.works()),
     )
 }

@@ -53,8 +53,7 @@ fn meets(alloc: Global, catalogue: &Catalogue, editions: &[Edition]) -> Result<b
     for (place, edition) in editions.iter().enumerate() {
         match found.as_slice().get(place) {
             Some(beside) => {
-                let same = beside.content().contributors.as_slice()
-                    == edition.content().contributors.as_slice();
+                let same = beside.contributors().as_slice() == edition.contributors().as_slice();
                 if !same {
                     return Ok(false);
                 }

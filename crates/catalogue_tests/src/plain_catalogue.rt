@@ -269,7 +269,8 @@ fn paired(alloc: Global, editions: &[Edition]) -> Result<Vec<(Bytes, RecordId)>,
     let names = NameTable::empty(alloc, Hashing::fixed());
     let mut pairs = Vec::new(alloc);
     for edition in editions {
-        let key = work_key_of(alloc, &names, edition)?;
+        let content = edition.content(alloc)?;
+        let key = work_key_of(alloc, &names, edition, content.content())?;
         pairs.push((key, edition.least().copied(alloc)?))?;
     }
     Ok(pairs)
@@ -279,7 +280,7 @@ fn paired(alloc: Global, editions: &[Edition]) -> Result<Vec<(Bytes, RecordId)>,
 fn has_contributor(edition: &Edition, id: &RecordId) -> bool
     ensures { result ≡ has id_cmp edition.now.content.contributors id.now }
 {
-    let ids = edition.content().contributors.as_slice();
+    let ids = edition.contributors().as_slice();
     ids.iter().any(|other| id.cmp(other).is_eq())
 }
 

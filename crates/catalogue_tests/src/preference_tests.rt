@@ -188,13 +188,17 @@ fn agree(alloc: Global, one: &Catalogue, other: &Catalogue) -> Result<bool, Fail
 /// same work key where both show the same title.
 fn are_alike(alloc: Global, one: &Edition, other: &Edition) -> Result<bool, Fail> {
     let catalogue = Catalogue::empty(alloc, Hashing::fixed())?;
-    let (first, _) = edition_record(alloc, one, &catalogue.key_of(alloc, one)?)?;
-    let (second, _) = edition_record(alloc, other, &catalogue.key_of(alloc, other)?)?;
-    let parts = one.content().contributors.as_slice() == other.content().contributors.as_slice()
+    let shown = one.content(alloc)?;
+    let beside = other.content(alloc)?;
+    let key = catalogue.key_of(alloc, one, shown.content())?;
+    let (first, _) = edition_record(alloc, &shown, &key)?;
+    let key = catalogue.key_of(alloc, other, beside.content())?;
+    let (second, _) = edition_record(alloc, &beside, &key)?;
+    let parts = one.contributors().as_slice() == other.contributors().as_slice()
         && have_same_features(one.features(), other.features());
     let fields = have_same_under(alloc, b"852", &first, &second)?
         && have_same_under(alloc, b"993", &first, &second)?;
-    let key = !have_same_title(one.content(), other.content())
+    let key = !have_same_title(shown.content(), beside.content())
         || have_same_under(alloc, b"991", &first, &second)?;
     Ok(parts && fields && key)
 }
@@ -245,7 +249,8 @@ fn shows_preferred(
     prefer: &Preference,
 ) -> Result<bool, Fail> {
     for edition in catalogue.editions(alloc)? {
-        let content = edition.content();
+        let shown = edition.content(alloc)?;
+        let content = shown.content();
         if !is_best(content, prefer, &content.f245) || content.fixed.rank != content.f245.rank {
             return Ok(false);
         }

@@ -136,20 +136,25 @@ fn prepared<L: Ledger>(
 }
 
 /// Whether the editions are the same, place by place, and have as many records as `sizes` says.
-fn same_editions(one: &[&Edition], other: &[&Edition], sizes: &[usize]) -> bool {
+fn same_editions(
+    alloc: Global,
+    one: &[&Edition],
+    other: &[&Edition],
+    sizes: &[usize],
+) -> Result<bool, Memory> {
     for (place, edition) in one.iter().enumerate() {
         let beside = match other.get(place) {
             Some(beside) => Some(*beside),
             None => None,
         };
-        if !same(Some(*edition), beside) {
-            return false;
+        if !same(alloc, Some(*edition), beside)? {
+            return Ok(false);
         }
-        if sizes.get(place) != Some(&edition.content().contributors.as_slice().len()) {
-            return false;
+        if sizes.get(place) != Some(&edition.contributors().as_slice().len()) {
+            return Ok(false);
         }
     }
-    one.len() == other.len() && one.len() == sizes.len()
+    Ok(one.len() == other.len() && one.len() == sizes.len())
 }
 
 /// A turn of the library LIBA: its operations, what comes of them, and how many records each edition has then.
@@ -175,10 +180,11 @@ fn apply_both<L: Ledger>(
         found.as_slice() == turn.outcomes.as_slice()
             && beside.as_slice() == turn.outcomes.as_slice()
             && same_editions(
+                alloc,
                 one.editions(alloc)?.as_slice(),
                 other.editions(alloc)?.as_slice(),
                 turn.sizes,
-            )
+            )?
             && same_works(one.works(alloc)?.works(), other.works(alloc)?.works())
             && one.record_count() == other.record_count()
             && one.turns() == other.turns(),
