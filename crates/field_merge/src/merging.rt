@@ -34,8 +34,8 @@ impl Join for Content {
     ghost join_laws = { join_laws };
 }
 
-/// The greater of two values, the one where neither is.
-fn greater<'a, K: Ord>(one: &'a K, other: &'a K) -> &'a K
+/// The greater of two values, the one where neither is. Takes no memory.
+pub fn greater<'a, K: Ord>(one: &'a K, other: &'a K) -> &'a K
     ensures { result.now ≡ greater K.cmp one.now other.now }
 {
     match one.cmp(other) {
