@@ -1,11 +1,11 @@
 -- The texts of an edition's fields are UTF-8, and its least contributor is an id.
-use Rattle.std.proofs.Common.{◌≡◌, Bool, true, false, cond, ◌&&◌, List, [], ◌∷◌, All, IsUtf8, subst}
-use Rattle.std.specs.Prelude.{nat_le, length, filter, codes, Option, Some, None}
+use Rattle.std.proofs.Common.{◌≡◌, Bool, true, ◌&&◌, IsTrue, List, [], ◌∷◌, All, IsUtf8, subst}
+use Rattle.std.specs.Prelude.{nat_le, length, codes, Option, Some, None}
 use Rattle.std.specs.List.{list_all}
 use Rattle.std.specs.Option.{ForSome}
 use Rattle.std.proofs.lemmas.Str.{IsUtf8-from_is_utf8}
 use Rattle.std.proofs.lemmas.List.Elements.{All-nil, All-cons}
-use Rattle.union_base.specs.Both.{both_true, true_both}
+use Rattle.union_base.specs.Both.{both_true}
 use Rattle.union_base.specs.SortedLists.{is_ascending}
 use Rattle.union_base.specs.FieldOrder.{field_cmp}
 use Rattle.union_base.specs.Bodies.{Subfield, Body, Control, Data, subfields_of}
@@ -16,12 +16,13 @@ use Rattle.marc_parts.specs.Parts.{has_tag}
 use Rattle.marc_parts.specs.Loads.{is_utf8_subfield, is_utf8_body, is_utf8_field}
 use Rattle.field_merge.specs.Contents.{is_main_entry}
 use Rattle.field_merge.specs.Kept.{id_cmp}
+use Rattle.field_merge.specs.declared.content.Content.{Content}
 use Rattle.field_merge.specs.declared.slot.Slot.{Slot}
 use Rattle.workset_keys.specs.Names.{HasTexts}
-use Rattle.catalogue_editions.specs.Sound.{is_id, is_storable, is_slot, is_slot_or_none}
+use Rattle.catalogue_editions.specs.Sound.{is_id, is_storable, is_slot, is_slot_or_none, is_sound}
 use Rattle.catalogue_editions.specs.SoundLaws.{AreSoundParts, sound_parts}
 use Rattle.catalogue_editions.specs.Ids.{first_id, least}
-use Rattle.catalogue_editions.specs.EditionKeys.{is_added_entry, field_in}
+use Rattle.catalogue_editions.specs.EditionKeys.{field_in}
 use Rattle.catalogue_editions.specs.declared.edition.Edition.{Edition}
 
 all_from : {X : Type 0} (p : X → Bool) (P : X → Type 0) → ((x : X) → p x ≡ true → P x) → (xs : List X) → list_all p xs ≡ true → All P xs
@@ -45,14 +46,9 @@ optional_texts : (fits : Field → Bool) (s : Option Slot) → is_slot_or_none f
 optional_texts fits None h x e = cc
 optional_texts fits (Some s) h x e = let same : s.field ≡ x = cc in subst HasTexts same (slot_texts fits s h)
 
-all-filter : (p q : Field → Bool) (xs : List Field) → list_all q xs ≡ true → list_all q (filter p xs) ≡ true
-all-filter p q [] all = all
-all-filter p q (x ∷ xs) all =
-    let parts = both_true (q x) (list_all q xs) all in
-    elim (p x) as (λ b. list_all q (cond b (x ∷ filter p xs) (filter p xs)) ≡ true) [
-      | true ↦ true_both (q x) (list_all q (filter p xs)) parts.0 (all-filter p q xs parts.1)
-      | false ↦ all-filter p q xs parts.1
-    ]
+-- the texts of a sound content's united fields
+pub united_texts : (c : Content) → IsTrue (is_sound c) → All HasTexts c.united
+united_texts c sound = all_from is_storable HasTexts storable_texts c.united (sound_parts c sound).storable
 
 first-is_id : (ids : List RecordId) → nat_le 1 (length ids) ≡ true → list_all is_id ids ≡ true → is_id (first_id ids) ≡ true
 first-is_id [] some all = cc
@@ -70,11 +66,6 @@ module _ (e : Edition) where
 
   pub title_texts : HasTexts e.content.f245.field
   title_texts = slot_texts (has_tag (codes "245")) e.content.f245 sound.f245
-
-  pub added_texts : All HasTexts (filter is_added_entry e.content.united)
-  added_texts =
-      all_from is_storable HasTexts storable_texts (filter is_added_entry e.content.united)
-      (all-filter is_added_entry is_storable e.content.united sound.storable)
 
   pub least-is_id : is_id (least e) ≡ true
   least-is_id =

@@ -1,5 +1,6 @@
 -- What a list of contents merges to is the merge of what its two parts do.
-use Rattle.std.proofs.Common.{◌≡◌, List, [], ◌∷◌, ◌++◌, refl, ap, ap₂, ◌∙◌}
+use Rattle.std.proofs.Common.{◌≡◌, List, [], ◌∷◌, ◌++◌, refl, sym, ap, ap₂, ◌∙◌}
+use Rattle.std.specs.Prelude.{fold}
 use Rattle.std.proofs.lemmas.List.Sums.{fold-append}
 use Rattle.field_merge.specs.Merging.{join}
 use Rattle.field_merge.specs.MergingLaws.{join_laws}
@@ -16,3 +17,10 @@ pub joined-both : (first a : Content) (left : List Content) (b : Content) (right
     → first ≡ a → whole ≡ left ++ b ∷ right → joined_all a left ≡ x → joined_all b right ≡ y → joined_all first whole ≡ join x y
 joined-both first a left b right whole x y same is one other =
     ap₂ joined_all same is ∙ fold-append join a left (b ∷ right) ∙ in-front (joined_all a left) b right ∙ ap₂ join one other
+
+-- a part of a merge that is made of those of its sides: that of all contents is made of theirs, one after the other
+pub joined-part : {S : Type 0} (part : Content → S) (both : S → S → S) → ((a b : Content) → part (join a b) ≡ both (part a) (part b))
+    → (first : Content) (behind : List Content) → fold (λ s c. both s (part c)) (part first) behind ≡ part (joined_all first behind)
+joined-part part both is first [] = refl
+joined-part part both is first (c ∷ behind) =
+    ap (λ s. fold (λ t d. both t (part d)) s behind) (sym (is first c)) ∙ joined-part part both is (join first c) behind

@@ -22,7 +22,6 @@ use Rattle.workset_keys.specs.Texts.{is_key_text}
 use Rattle.workset_keys.specs.WorkKeys.{main_name, least_of, or_else, own_name, key_of_names, work_key}
 use Rattle.workset_keys.proofs.KeyTexts.{key-both, key-either, key-append, key-name, key-main_name, key-least_of, key-of_names}
 use Rattle.authority_names.specs.Leads.{Table, AreTexts, seen_from, used_for}
-use Rattle.field_merge.specs.declared.content.Content.{Content}
 use Rattle.catalogue_editions.specs.EditionKeys.{is_added_entry, field_in, added_names, work_key_by}
 use Rattle.catalogue_editions.specs.ListLaws.{all-weaker}
 use Rattle.catalogue_editions.specs.Ids.{least}
@@ -86,18 +85,17 @@ keys-used names texts (f ∷ fields) =
 -- a work key is a text
 pub key-work_key : (names : Table) → AreTexts names → (e : Edition) → is_key_text (work_key_by names e) ≡ true
 key-work_key names texts e =
-    key-of_names (used_for names (main_name (field_in e.content.f1xx))) (least_of (added_names names e))
+    key-of_names (used_for names (main_name (field_in e.content.f1xx))) (least_of (added_names names e.content.united))
     (field_in e.content.f1xx) (field_in e.content.f240) e.content.f245.field (least e)
     (key-used names texts (main_name (field_in e.content.f1xx)) (key-main_name (field_in e.content.f1xx)))
-    (key-least_of (added_names names e) (keys-used names texts (filter is_added_entry e.content.united)))
+    (key-least_of (added_names names e.content.united) (keys-used names texts (filter is_added_entry e.content.united)))
     (key-own_name (least e) (least-is_id e))
 
--- the names of the added entries are only needed where the main entry has none
-pub key-needed : (name : List ℕ) (others : List (List ℕ)) (main uniform : Option Field) (title : Field) (id : RecordId)
-    → key_of_names name (least_of (if is_empty name then others else [])) main uniform title id
-    ≡ key_of_names name (least_of others) main uniform title id
-key-needed [] others main uniform title id = refl
-key-needed (b ∷ bs) others main uniform title id = refl
+-- the least name of the added entries is only needed where the main entry has none
+key-needed : (name least : List ℕ) (main uniform : Option Field) (title : Field) (id : RecordId)
+    → key_of_names name (if is_empty name then least else []) main uniform title id ≡ key_of_names name least main uniform title id
+key-needed [] least main uniform title id = refl
+key-needed (b ∷ bs) least main uniform title id = refl
 
 -- ---- without names
 
@@ -114,31 +112,21 @@ names-empty (f ∷ fields) =
 pub key-by_none : (e : Edition)
     → work_key_by empty e ≡ work_key (field_in e.content.f1xx) (field_in e.content.f240) e.content.f245.field (filter is_added_entry e.content.united) (least e)
 key-by_none e =
-    ap (λ name. key_of_names name (least_of (added_names empty e)) (field_in e.content.f1xx) (field_in e.content.f240) e.content.f245.field (least e))
+    ap (λ name. key_of_names name (least_of (added_names empty e.content.united)) (field_in e.content.f1xx) (field_in e.content.f240) e.content.f245.field (least e))
     (used-empty (main_name (field_in e.content.f1xx)))
     ∙ ap (λ names. key_of_names (main_name (field_in e.content.f1xx)) (least_of names) (field_in e.content.f1xx) (field_in e.content.f240) e.content.f245.field (least e))
     (names-empty (filter is_added_entry e.content.united))
 
 -- the key that is made of an edition's parts
-pub key-made : (names : Table) (e : Edition) (content : Content) → content ≡ e.content
-    → (main uniform : Option Field) → main ≡ field_in content.f1xx → uniform ≡ field_in content.f240
-    → (added : List Field) → added ≡ filter is_added_entry e.content.united
+pub key-made : (names : Table) (e : Edition) (main uniform : Option Field) (title : Field)
+    → main ≡ field_in e.content.f1xx → uniform ≡ field_in e.content.f240 → title ≡ e.content.f245.field
     → (own : List ℕ) → own ≡ main_name main
     → (name : List ℕ) → name ≡ used_for names own
-    → (others : List (List ℕ)) → others ≡ (if is_empty name then map (λ f. used_for names (name_of f)) added else [])
+    → (added : List ℕ) → added ≡ (if is_empty name then least_of (added_names names e.content.united) else [])
     → (id : RecordId) → id ≡ least e
-    → key_of_names name (least_of others) main uniform content.f245.field id ≡ work_key_by names e
-key-made names e content content_is main uniform main_is uniform_is added added_is own own_is name name_is others others_is id id_is =
-    let main' = field_in e.content.f1xx in
-    let uniform' = field_in e.content.f240 in
-    let main_whole : main ≡ main' = main_is ∙ ap (λ (x : Content). field_in x.f1xx) content_is in
-    let uniform_whole : uniform ≡ uniform' = uniform_is ∙ ap (λ (x : Content). field_in x.f240) content_is in
-    let name_whole : name ≡ used_for names (main_name main') = name_is ∙ ap (used_for names) (own_is ∙ ap main_name main_whole) in
-    ap (λ list. key_of_names name (least_of list) main uniform content.f245.field id)
-    (others_is ∙ ap (λ fields. if is_empty name then map (λ f. used_for names (name_of f)) fields else []) added_is)
-    ∙ key-needed name (added_names names e) main uniform content.f245.field id
-    ∙ ap (λ n. key_of_names n (least_of (added_names names e)) main uniform content.f245.field id) name_whole
-    ∙ ap (λ m. key_of_names (used_for names (main_name main')) (least_of (added_names names e)) m uniform content.f245.field id) main_whole
-    ∙ ap (λ u. key_of_names (used_for names (main_name main')) (least_of (added_names names e)) main' u content.f245.field id) uniform_whole
-    ∙ ap (λ (x : Content). key_of_names (used_for names (main_name main')) (least_of (added_names names e)) main' uniform' x.f245.field id) content_is
-    ∙ ap (λ i. key_of_names (used_for names (main_name main')) (least_of (added_names names e)) main' uniform' e.content.f245.field i) id_is
+    → key_of_names name added main uniform title id ≡ work_key_by names e
+key-made names e main uniform title main_is uniform_is title_is own own_is name name_is added added_is id id_is =
+    let all_added = least_of (added_names names e.content.united) in
+    let whole_name : name ≡ used_for names (main_name (field_in e.content.f1xx)) = name_is ∙ ap (used_for names) (own_is ∙ ap main_name main_is) in
+    ap (λ x. key_of_names name x main uniform title id) added_is ∙ key-needed name all_added main uniform title id
+    ∙ (λ i. key_of_names (whole_name i) all_added (main_is i) (uniform_is i) (title_is i) (id_is i))

@@ -1,8 +1,9 @@
 mod EditionTexts
 pub mod KeyTexts
-mod Runs
+mod LeastNames
 pub mod Apart
 pub mod OwnLaws
 mod RecordsLaws
 mod NetLaws
 mod JoinedLaws
+mod BorrowedUnions

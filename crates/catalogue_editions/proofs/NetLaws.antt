@@ -1,5 +1,5 @@
 -- What a batch leaves that loads records in ascending order of their ids.
-use Rattle.std.proofs.Common.{◌≡◌, ℕ, true, List, [], ◌∷◌, ◌++◌, map, ap, sym, subst, refl, ◌∙◌}
+use Rattle.std.proofs.Common.{◌≡◌, ℕ, true, List, [], ◌∷◌, ◌++◌, map, ap, refl, ◌∙◌}
 use Rattle.std.specs.Prelude.{fold, Option, None, Some}
 use Rattle.std.specs.declared.cmp.Ordering.{Ordering}
 use Rattle.std.specs.declared.cmp.Ordering.TheVariants.{Less, Equal, Greater}
@@ -9,7 +9,7 @@ use Rattle.std.specs.Map.{values_of}
 use Rattle.union_base.specs.declared.record_id.RecordId.{RecordId}
 use Rattle.field_merge.specs.Kept.{id_cmp}
 use Rattle.field_merge.specs.KeptLaws.{id_total}
-use Rattle.catalogue_editions.specs.CurrentRecords.{MapOf, after_op}
+use Rattle.catalogue_editions.specs.CurrentRecords.{after_op}
 use Rattle.catalogue_editions.specs.Ids.{least}
 use Rattle.catalogue_editions.specs.Net.{is_behind}
 use Rattle.catalogue_editions.specs.declared.edition.Edition.{Edition}

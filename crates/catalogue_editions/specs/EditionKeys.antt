@@ -20,15 +20,15 @@ is_added_entry f = has_tag (codes "700") f || (has_tag (codes "710") f || has_ta
 abbrev pub field_in : Option Slot → Option Field
 field_in slot = option_map (λ s. s.field) slot
 
--- the names of the added entries, as the table has them
-abbrev pub added_names : Table → Edition → List (List ℕ)
-added_names names e = map (λ f. used_for names (name_of f)) (filter is_added_entry e.content.united)
+-- the names of the added entries among the fields, as the table has them
+abbrev pub added_names : Table → List Field → List (List ℕ)
+added_names names fields = map (λ f. used_for names (name_of f)) (filter is_added_entry fields)
 
 -- by the main entry, the 240, the 245, the added entries under names, and the least contributor; each name is the one that the
 -- table has for it
 abbrev pub work_key_by : Table → Edition → List ℕ
 work_key_by names e =
-    key_of_names (used_for names (main_name (field_in e.content.f1xx))) (least_of (added_names names e))
+    key_of_names (used_for names (main_name (field_in e.content.f1xx))) (least_of (added_names names e.content.united))
     (field_in e.content.f1xx) (field_in e.content.f240) e.content.f245.field (least e)
 
 -- the work keys of editions, each with the id by which its edition is named

@@ -4,6 +4,8 @@ pub mod ListLaws
 pub mod LinkedLaws
 pub mod SoundLaws
 pub mod Joined
+pub mod Slots
+pub mod Borrowed
 pub mod Joining
 pub mod Equal
 pub mod JoinLaws

@@ -83,6 +83,13 @@ impl Contents {
         }
     }
 
+    /// The first content and those behind it, as they are. Takes no memory.
+    pub fn parts(&self) -> (&SharedContent, &[SharedContent])
+        ensures { joined_all result.0.now result.1.now ≡ self.now }
+    {
+        (&self.first, contents_behind(&self.more))
+    }
+
     /// What the contents merge to. Takes no memory where there is one, and returns `Memory` if allocation fails.
     pub fn content(&self, alloc: Global) -> Result<SharedContent, Memory>
         ensures { IfOk result (λ content. content ≡ self.now) }

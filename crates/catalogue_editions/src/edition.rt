@@ -5,6 +5,7 @@ ghost use Rattle.catalogue_editions.specs.Sound.{is_sound};
 
 use crate::contents::Contents;
 use crate::shared_content::SharedContent;
+use crate::shown::Shown;
 use field_merge::content::Content;
 use match_features::features::Features;
 use std::alloc::Global;
@@ -166,5 +167,12 @@ impl Edition {
         ensures { IfOk result (λ content. content ≡ self.now.content) }
     {
         self.contents().content(alloc)
+    }
+
+    /// What the edition's records say together, borrowed from where it lies. Takes no memory.
+    pub fn shown(&self) -> Shown<'_>
+        ensures { result ≡ self.now.content }
+    {
+        Shown::of(self.contents())
     }
 }

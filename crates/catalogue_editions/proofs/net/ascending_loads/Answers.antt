@@ -1,4 +1,4 @@
-use Rattle.std.proofs.Common.{◌≡◌, ◌∙◌, ◌+◌, ◌++◌, ◌∷◌, [], true, List, get_or, take, length, ap, sym, subst}
+use Rattle.std.proofs.Common.{◌≡◌, ◌∙◌, ◌+◌, ◌++◌, ◌∷◌, [], true, List, take, ap, sym, subst}
 use Rattle.std.proofs.lemmas.List.{take_all}
 use Rattle.std.proofs.lemmas.List.Sums.{fold_more}
 use Rattle.std.specs.Prelude.{fold, Some, option_copied}
@@ -7,7 +7,6 @@ use Rattle.catalogue_editions.specs.CurrentRecords.{after_op}
 use Rattle.catalogue_editions.specs.Net.{is_behind}
 use Rattle.catalogue_editions.specs.declared.edition.Edition.{Edition}
 use Rattle.catalogue_editions.specs.declared.op.Op.{Op}
-use Rattle.catalogue_editions.specs.declared.op.Op.TheVariants.{Load}
 use Rattle.catalogue_editions.proofs.NetLaws.{AreLeft, left-next, editions-of}
 use Rattle.catalogue_editions.proofs.net.ascending_loads.Goals as goal
 
