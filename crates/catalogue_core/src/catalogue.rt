@@ -43,7 +43,6 @@ use catalogue_editions::prepared::Prepared;
 use catalogue_editions::work_key::work_key_of;
 use edition_blocks::delta::Delta;
 use edition_blocks::telling::delta_of;
-use field_merge::content::Content;
 use key_hashing::hashing::Hashing;
 use match_features::keys::FeatureKey;
 use merge_laws::steps::Steps;
@@ -347,22 +346,15 @@ impl Catalogue {
         }
     }
 
-    /// The work key of an edition, by the catalogue's table of names. It is UTF-8, and has none of 0x1D, 0x1E and 0x1F. `content`
-    /// is that of the edition, which the caller has made.
+    /// The work key of an edition, by the catalogue's table of names. It is UTF-8, and has none of 0x1D, 0x1E and 0x1F.
     ///
     /// Returns `Memory` if allocation fails.
-    pub fn key_of(
-        &self,
-        alloc: Global,
-        edition: &Edition,
-        content: &Content,
-    ) -> Result<Bytes, Memory>
-        requires { content.now ≡ edition.now.content }
+    pub fn key_of(&self, alloc: Global, edition: &Edition) -> Result<Bytes, Memory>
         ensures value { IfOk result (λ key. key ≡ work_key_by self.now.names edition.now) }
         ensures text { IfOk result (λ key. IsTrue (is_text key)) }
         ensures utf8 { IfOk result (λ key. IsTrue (is_utf8 key)) }
     {
-        work_key_of(alloc, &self.works.names, edition, content)
+        work_key_of(alloc, &self.works.names, edition)
     }
 
     /// How many works the editions make. Costs what `works` does.

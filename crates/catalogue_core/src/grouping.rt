@@ -51,8 +51,7 @@ pub fn work_pair(
 ) -> Result<(Bytes, RecordId), Memory>
     ensures { IfOk result (λ pair. pair ≡ (work_key_by names.now edition.now, least edition.now)) }
 {
-    let content = edition.content(alloc)?;
-    let key = work_key_of(alloc, names, edition, content.content())?;
+    let key = work_key_of(alloc, names, edition)?;
     Ok((key, edition.least().copied(alloc)?))
 }
 

@@ -12,7 +12,7 @@
 #![tactic(auto)]
 
 pub use catalogue_editions::{
-    batch, edition, net, op, ordering, outcome, prepared, records, shared_content, work_key,
+    batch, edition, net, op, ordering, outcome, prepared, records, shown, work_key,
 };
 pub use edition_blocks::delta;
 

@@ -2,13 +2,11 @@
 ghost use Rattle.std.specs.Prelude.{◌≡◌, map, IfOk, IsTrue};
 ghost use Rattle.union_base.specs.Fields.{is_text};
 ghost use Rattle.marc_fields.specs.Appending.{Appends};
-ghost use Rattle.catalogue_core.specs.Sound.{is_sound};
 ghost use Rattle.catalogue_export.specs.Exported.{exported, edition_bytes, left_out};
 
 use crate::own_fields::own_fields;
 use crate::shown_fields::shown_fields;
-use catalogue_core::shared_content::SharedContent;
-use field_merge::content::Content;
+use catalogue_core::shown::Shown;
 use marc_fields::encoding::{EncodeRefusal, encode_fields};
 use marc_fields::marc_record::Record;
 use std::alloc::Global;
@@ -25,7 +23,7 @@ use union_base::sequence::Sequence;
 /// Answers `Memory` where memory ran out; what stood in `into` stands there still.
 pub fn edition_bytes(
     alloc: Global,
-    content: &SharedContent,
+    content: &Shown<'_>,
     key: &Bytes,
     into: &mut Vec<u8>,
 ) -> Result<usize, Memory>
@@ -34,7 +32,7 @@ pub fn edition_bytes(
         (edition_bytes content.now key.now) }
     ensures left { IfOk result (λ n. n ≡ left_out content.now key.now) }
 {
-    append_content(alloc, content.content(), key.bytes(), into)
+    append_content(alloc, content, key.bytes(), into)
 }
 
 /// The record that is shown of an edition with this content under this work key, and how many of the edition's fields were left
@@ -43,33 +41,33 @@ pub fn edition_bytes(
 /// Returns `Memory` if allocation fails.
 pub fn edition_record(
     alloc: Global,
-    content: &SharedContent,
+    content: &Shown<'_>,
     key: &Bytes,
 ) -> Result<(Record, usize), Memory>
     requires { IsTrue (is_text key.now) }
     ensures value { IfOk result (λ r. r.0 ≡ exported content.now key.now) }
     ensures left { IfOk result (λ r. r.1 ≡ left_out content.now key.now) }
 {
-    exported(alloc, content.content(), key.bytes())
+    exported(alloc, content, key.bytes())
 }
 
 /// Appends the record that is shown of an edition with this work key, and answers how many of its fields were left out of it,
 /// since a frame has no room for more. The edition's own fields are written from where they lie.
 fn append_content(
     alloc: Global,
-    content: &Content,
+    content: &Shown<'_>,
     key: &[u8],
     into: &mut Vec<u8>,
 ) -> Result<usize, Memory>
-    requires sound { IsTrue (is_sound content.now) }
-    requires key { IsTrue (is_text key.now) }
+    requires { IsTrue (is_text key.now) }
     ensures text { Appends result into.old.items into.new.items
         (edition_bytes content.now key.now) }
     ensures left { IfOk result (λ n. n ≡ left_out content.now key.now) }
 {
+    let codes = content.fixed().codes;
     let own = own_fields(alloc, content, key)?;
     let (shown, left) = shown_fields(alloc, content, &own)?;
-    match encode_fields(content.fixed.codes, shown.as_slice(), into) {
+    match encode_fields(codes, shown.as_slice(), into) {
         Ok(()) => Ok(left),
         Err(EncodeRefusal::Memory) => Err(Memory),
         Err(EncodeRefusal::FieldTooLong) => unreachable!(),
@@ -78,16 +76,16 @@ fn append_content(
 }
 
 /// The record that is shown of an edition, and how many of its fields were left out since no more fit.
-fn exported(alloc: Global, content: &Content, key: &[u8]) -> Result<(Record, usize), Memory>
-    requires sound { IsTrue (is_sound content.now) }
-    requires key { IsTrue (is_text key.now) }
+fn exported(alloc: Global, content: &Shown<'_>, key: &[u8]) -> Result<(Record, usize), Memory>
+    requires { IsTrue (is_text key.now) }
     ensures value { IfOk result (λ r. r.0 ≡ exported content.now key.now) }
     ensures left { IfOk result (λ r. r.1 ≡ left_out content.now key.now) }
 {
+    let codes = content.fixed().codes;
     let own = own_fields(alloc, content, key)?;
     let (shown, left) = shown_fields(alloc, content, &own)?;
     let rec = Record {
-        leader: content.fixed.codes,
+        leader: codes,
         fields: Sequence::from(copies_of(alloc, shown.as_slice())?),
     };
     Ok((rec, left))

@@ -47,9 +47,8 @@ pub fn append_edition(
         ++ edition_text catalogue.now.names edition.now) }
     ensures left { IfOk result (λ n. n ≡ fields_left catalogue.now.names edition.now) }
 {
-    let content = edition.content(alloc)?;
-    let key = catalogue.key_of(alloc, edition, content.content())?;
-    edition_bytes(alloc, &content, &key, into)
+    let key = catalogue.key_of(alloc, edition)?;
+    edition_bytes(alloc, &edition.shown(), &key, into)
 }
 
 /// Notes the edition where `count` of its fields were left out. Returns `Memory` if allocation fails; then `left` is unchanged.

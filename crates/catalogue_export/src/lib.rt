@@ -5,9 +5,9 @@
 //!
 //! Guarantee: `edition::edition_bytes` and `editions::append_editions` append exactly the bytes that specs/Exported.antt and
 //! specs/Editions.antt define, and an export has these in order, whether one worker makes it (`export`) or several do
-//! (`by_workers`). A crate above can write the records in a form of its own (`form::ExportForm`). Cost: what an edition shows is
-//! made once, for its work key and its record. Its fields are borrowed, and only those that it does not have are made; they are
-//! sorted once by their tags, and each record is written once.
+//! (`by_workers`). A crate above can write the records in a form of its own (`form::ExportForm`). Cost: an edition's
+//! fields are borrowed from the contents of its records, and only those that it does not have are made; they are sorted once by their
+//! tags, and each record is written once.
 #![tactic(auto)]
 
 pub mod by_workers;

@@ -3,12 +3,12 @@ ghost use Rattle.std.specs.Prelude.{◌≡◌, IfOk, IsTrue};
 ghost use Rattle.std.specs.List.{list_all, flat_map};
 ghost use Rattle.std.specs.Option.{option_to_list};
 ghost use Rattle.union_base.specs.Fields.{is_text};
-ghost use Rattle.catalogue_core.specs.Sound.{is_id, is_sound};
+ghost use Rattle.catalogue_core.specs.Sound.{is_id};
 ghost use Rattle.catalogue_export.specs.Exported.{contributor_field, number_field, own_parts};
 ghost use Rattle.catalogue_export.specs.OwnFields.{own_list};
 
 use crate::fields::{catalogue_field, contributor_field, fixed_field, key_field, number_field};
-use field_merge::content::Content;
+use catalogue_core::shown::Shown;
 use std::alloc::Global;
 use union_base::field::Field;
 use union_base::memory::Memory;
@@ -33,17 +33,20 @@ pub(crate) struct OwnFields {
 }
 
 /// The fields that the catalogue writes itself of an edition with this content under this work key.
-pub(crate) fn own_fields(alloc: Global, content: &Content, key: &[u8]) -> Result<OwnFields, Memory>
-    requires sound { IsTrue (is_sound content.now) }
-    requires key { IsTrue (is_text key.now) }
+pub(crate) fn own_fields(
+    alloc: Global,
+    content: &Shown<'_>,
+    key: &[u8],
+) -> Result<OwnFields, Memory>
+    requires { IsTrue (is_text key.now) }
     ensures { IfOk result (λ own. own_list own content.now ≡ own_parts content.now key.now) }
 {
-    let ids = content.contributors.as_slice();
+    let ids = content.contributors().as_slice();
     let mut buffer = Vec::with_capacity(alloc, key.len().saturating_add(LONGEST_CONTRIBUTOR))?;
     Ok(OwnFields {
         number: first_number(alloc, ids)?,
         catalogue: catalogue_field(alloc)?,
-        fixed: fixed_field(alloc, &content.fixed.text)?,
+        fixed: fixed_field(alloc, &content.fixed().text)?,
         key: key_field(alloc, key, &mut buffer)?,
         contributors: contributor_fields(alloc, ids, &mut buffer)?,
     })

@@ -10,7 +10,7 @@ ghost use Rattle.catalogue_export.specs.TagOrder.{in_tag_order};
 
 use crate::fitting::fitting_count;
 use crate::own_fields::OwnFields;
-use field_merge::content::Content;
+use catalogue_core::shown::Shown;
 use field_merge::slot::Slot;
 use std::alloc::Global;
 use union_base::field::Field;
@@ -23,7 +23,7 @@ const OTHER_FIELDS: usize = 10;
 /// were left out.
 pub(crate) fn shown_fields<'a>(
     alloc: Global,
-    content: &'a Content,
+    content: &'a Shown<'_>,
     own: &'a OwnFields,
 ) -> Result<(Vec<&'a Field>, usize), Memory>
     requires { IsTrue (list_all is_short (all_fields own.now content.now)) }
@@ -55,24 +55,21 @@ fn in_tag_order<'a>(mut fields: Vec<&'a Field>) -> Result<Vec<&'a Field>, Memory
 /// All fields of an edition, in the order in which they are kept where not all of them fit.
 fn all_fields<'a>(
     alloc: Global,
-    content: &'a Content,
+    content: &'a Shown<'_>,
     own: &'a OwnFields,
 ) -> Result<Vec<&'a Field>, Memory>
     ensures { IfOk result (λ all. map (λ f. f.now) all.items ≡ all_fields own.now content.now) }
 {
-    let united = content.united.as_slice();
-    let room = OTHER_FIELDS
-        .saturating_add(own.contributors.len())
-        .saturating_add(united.len());
+    let room = OTHER_FIELDS.saturating_add(own.contributors.len());
     let mut fields = Vec::with_capacity(alloc, room)?;
     push_own(content, own, &mut fields)?;
-    push_all(united, &mut fields)?;
+    content.push_united(alloc, &mut fields)?;
     Ok(fields)
 }
 
 /// Adds the fields before the united ones.
 fn push_own<'a>(
-    content: &'a Content,
+    content: &'a Shown<'_>,
     own: &'a OwnFields,
     into: &mut Vec<&'a Field>,
 ) -> Result<(), Memory>
@@ -99,20 +96,20 @@ fn push_number<'a>(number: &'a Option<Field>, into: &mut Vec<&'a Field>) -> Resu
 
 /// Adds the slots, and 008 among them.
 fn push_slots<'a>(
-    content: &'a Content,
+    content: &'a Shown<'_>,
     fixed: &'a Field,
     into: &mut Vec<&'a Field>,
 ) -> Result<(), Memory>
     ensures { OnOk result (map (λ f. f.now) into.new.items
         ≡ map (λ f. f.now) into.old.items ++ slots_around fixed.now content.now) }
 {
-    push_slot(&content.f005, into)?;
+    push_slot(content.f005(), into)?;
     into.push(fixed)?;
-    push_slot(&content.f010, into)?;
-    push_slot(&content.f040, into)?;
-    push_slot(&content.f1xx, into)?;
-    push_slot(&content.f240, into)?;
-    into.push(&content.f245.field)?;
+    push_slot(content.f010(), into)?;
+    push_slot(content.f040(), into)?;
+    push_slot(content.f1xx(), into)?;
+    push_slot(content.f240(), into)?;
+    into.push(&content.f245().field)?;
     Ok(())
 }
 

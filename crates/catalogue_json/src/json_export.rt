@@ -38,9 +38,8 @@ pub fn append_line(
         ++ edition_line catalogue.now.names edition.now) }
     ensures left { IfOk result (λ n. n ≡ fields_left catalogue.now.names edition.now) }
 {
-    let content = edition.content(alloc)?;
-    let key = catalogue.key_of(alloc, edition, content.content())?;
-    let (rec, left) = edition_record(alloc, &content, &key)?;
+    let key = catalogue.key_of(alloc, edition)?;
+    let (rec, left) = edition_record(alloc, &edition.shown(), &key)?;
     to_json(&rec, into)?;
     Ok(left)
 }

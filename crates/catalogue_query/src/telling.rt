@@ -47,8 +47,7 @@ fn add_identity(
 {
     lines.push(edition_line(alloc, edition.least())?)?;
     add_contributors(alloc, lines, edition.contributors().as_slice())?;
-    let content = edition.content(alloc)?;
-    let key = catalogue.key_of(alloc, edition, content.content())?;
+    let key = catalogue.key_of(alloc, edition)?;
     lines.push(work_line(alloc, key.bytes())?)?;
     Ok(())
 }

@@ -65,8 +65,7 @@ pub fn is_named(edition: &Edition, control: &[u8]) -> bool {
 /// Whether the edition has that work key.
 fn has_key(alloc: Global, edition: &Edition, key: &[u8]) -> Result<bool, Fail> {
     let names = NameTable::empty(alloc, Hashing::fixed());
-    let content = edition.content(alloc)?;
-    Ok(work_key_of(alloc, &names, edition, content.content())?.bytes() == key)
+    Ok(work_key_of(alloc, &names, edition)?.bytes() == key)
 }
 
 /// Whether the content is made of `records` records, with `united` united fields, and has the fixed part of the record `best`.

@@ -40,13 +40,7 @@ fn is_right(alloc: Global, case: &str) -> Result<bool, Fail> {
     let library = next_cell(&mut cells)?;
     let edition = edition_in(alloc, library, next_cell(&mut cells)?.as_bytes())?;
     let catalogue = Catalogue::with_names(alloc, table_of(alloc, next_cell(&mut cells)?)?)?;
-    let content = edition.content(alloc)?;
-    Ok(
-        catalogue
-            .key_of(alloc, &edition, content.content())?
-            .bytes()
-            == key.as_bytes(),
-    )
+    Ok(catalogue.key_of(alloc, &edition)?.bytes() == key.as_bytes())
 }
 
 fn next_cell<'a>(cells: &mut Split<'a, char>) -> Result<&'a str, Fail> {

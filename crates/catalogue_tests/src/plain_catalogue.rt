@@ -269,8 +269,7 @@ fn paired(alloc: Global, editions: &[Edition]) -> Result<Vec<(Bytes, RecordId)>,
     let names = NameTable::empty(alloc, Hashing::fixed());
     let mut pairs = Vec::new(alloc);
     for edition in editions {
-        let content = edition.content(alloc)?;
-        let key = work_key_of(alloc, &names, edition, content.content())?;
+        let key = work_key_of(alloc, &names, edition)?;
         pairs.push((key, edition.least().copied(alloc)?))?;
     }
     Ok(pairs)

@@ -188,18 +188,17 @@ fn agree(alloc: Global, one: &Catalogue, other: &Catalogue) -> Result<bool, Fail
 /// same work key where both show the same title.
 fn are_alike(alloc: Global, one: &Edition, other: &Edition) -> Result<bool, Fail> {
     let catalogue = Catalogue::empty(alloc, Hashing::fixed())?;
-    let shown = one.content(alloc)?;
-    let beside = other.content(alloc)?;
-    let key = catalogue.key_of(alloc, one, shown.content())?;
-    let (first, _) = edition_record(alloc, &shown, &key)?;
-    let key = catalogue.key_of(alloc, other, beside.content())?;
-    let (second, _) = edition_record(alloc, &beside, &key)?;
+    let key = catalogue.key_of(alloc, one)?;
+    let (first, _) = edition_record(alloc, &one.shown(), &key)?;
+    let key = catalogue.key_of(alloc, other)?;
+    let (second, _) = edition_record(alloc, &other.shown(), &key)?;
+    let has_same_title = one.shown().f245().field == other.shown().f245().field;
     let parts = one.contributors().as_slice() == other.contributors().as_slice()
         && have_same_features(one.features(), other.features());
     let fields = have_same_under(alloc, b"852", &first, &second)?
         && have_same_under(alloc, b"993", &first, &second)?;
-    let key = !have_same_title(shown.content(), beside.content())
-        || have_same_under(alloc, b"991", &first, &second)?;
+    // No record of the consortium has a main entry or a 240.
+    let key = !has_same_title || have_same_under(alloc, b"991", &first, &second)?;
     Ok(parts && fields && key)
 }
 
@@ -211,11 +210,6 @@ fn have_same_features(one: &Features, other: &Features) -> bool {
         && one.titles.as_slice() == other.titles.as_slice()
         && one.dates.as_slice() == other.dates.as_slice()
         && one.names.as_slice() == other.names.as_slice()
-}
-
-/// Whether both show the same 245; no record of the consortium has a main entry or a 240.
-fn have_same_title(one: &Content, other: &Content) -> bool {
-    one.f245.field == other.f245.field
 }
 
 /// Whether the records have the same fields under the tag, one at least.

@@ -7,6 +7,7 @@ use Rattle.marc_fields.specs.Spelling.{borrowed_record, record_of}
 use Rattle.marc_fields.specs.declared.encoding.EncodeRefusal.{EncodeRefusal}
 use Rattle.marc_fields.specs.declared.encoding.EncodeRefusal.TheVariants.{FieldTooLong, RecordTooLong, Memory}
 use Rattle.field_merge.specs.declared.content.Content.{Content}
+use Rattle.field_merge.specs.declared.fixed.Fixed.{Fixed}
 use Rattle.catalogue_core.specs.Sound.{is_sound}
 use Rattle.catalogue_export.specs.Exported.{edition_bytes, own_parts}
 use Rattle.catalogue_export.specs.Fitting.{fitting}
@@ -30,13 +31,14 @@ for_memory FieldTooLong cause none is = let clash : Some FieldTooLong ≡ None =
 for_memory RecordTooLong cause none is = let clash : Some RecordTooLong ≡ None = sym is ∙ none in cc
 
 pub shown_fields-requires : goal.shown_fields-requires
-shown_fields-requires c = rw c.in_ok-own.ensures (parts-short c.args.content.now c.requires.sound c.args.key.now)
+shown_fields-requires c = rw c.in_ok-own.ensures (parts-short c.args.content.now c.fixed.ensures.sound c.args.key.now)
 
 pub unreachable-requires : goal.unreachable-requires
 unreachable-requires c =
     let shown : List (Bor Field) = c.as_slice.result.now in
     let is = ap (map (λ (f : Bor Field). f.now)) c.as_slice.ensures.value ∙ c.in_ok-shown.ensures.value in
-    let none = shown-fits c.args.content.now c.requires.sound c.args.key.now c.in_ok-own.own shown c.in_ok-own.ensures is in
+    let none = ap (λ (f : Fixed). too_long (borrowed_record f.codes shown)) c.fixed.ensures.value
+    ∙ shown-fits c.args.content.now c.fixed.ensures.sound c.args.key.now c.in_ok-own.own shown c.in_ok-own.ensures is in
     let refusal = c.in-Err-FieldTooLong in
     let clash : FieldTooLong ≡ Memory = sym refusal.field-0-is ∙ for_memory refusal.field-0 _ none refusal.ensures.refused_exactly in cc
 
@@ -44,7 +46,8 @@ pub unreachable-requires-in-Err-RecordTooLong : goal.unreachable-requires-in-Err
 unreachable-requires-in-Err-RecordTooLong c =
     let shown : List (Bor Field) = c.as_slice.result.now in
     let is = ap (map (λ (f : Bor Field). f.now)) c.as_slice.ensures.value ∙ c.in_ok-shown.ensures.value in
-    let none = shown-fits c.args.content.now c.requires.sound c.args.key.now c.in_ok-own.own shown c.in_ok-own.ensures is in
+    let none = ap (λ (f : Fixed). too_long (borrowed_record f.codes shown)) c.fixed.ensures.value
+    ∙ shown-fits c.args.content.now c.fixed.ensures.sound c.args.key.now c.in_ok-own.own shown c.in_ok-own.ensures is in
     let refusal = c.in-Err-RecordTooLong in
     let clash : RecordTooLong ≡ Memory = sym refusal.field-0-is ∙ for_memory refusal.field-0 _ none refusal.ensures.refused_exactly in cc
 

@@ -4,12 +4,12 @@ use Rattle.catalogue_json.specs.JsonExport.{edition_line}
 use Rattle.catalogue_json.proofs.json_export.append_line.Goals as goal
 
 pub to_json-requires : goal.to_json-requires
-to_json-requires c = rw (c.in_ok-rec.ensures.value, c.in_ok-content.ensures) (utf8-by_key c.args.edition.now c.in_ok-key.key c.in_ok-key.ensures.utf8)
+to_json-requires c = rw (c.in_ok-rec.ensures.value, c.shown.ensures) (utf8-by_key c.args.edition.now c.in_ok-key.key c.in_ok-key.ensures.utf8)
 
 pub returns-clause-text : goal.returns-clause-text
 unfolding edition_line
-returns-clause-text c = rw (c.in_ok-to_json.ensures.ok, c.in_ok-rec.ensures.value, c.in_ok-key.ensures.value, c.in_ok-content.ensures)
+returns-clause-text c = rw (c.in_ok-to_json.ensures.ok, c.in_ok-rec.ensures.value, c.in_ok-key.ensures.value, c.shown.ensures)
 
 pub returns-clause-left : goal.returns-clause-left
 unfolding fields_left
-returns-clause-left c = rw (c.in_ok-rec.ensures.left, c.in_ok-key.ensures.value, c.in_ok-content.ensures)
+returns-clause-left c = rw (c.in_ok-rec.ensures.left, c.in_ok-key.ensures.value, c.shown.ensures)
