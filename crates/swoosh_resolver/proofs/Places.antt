@@ -1,7 +1,7 @@
 -- Blocks under numbers: what stands where, once some are taken out.
-use Rattle.std.proofs.Common.{◌≡◌, ◌≢◌, ℕ, zero, suc, ◌+◌, ◌-◌, ◌<◌, ◌≤◌, Bool, true, false, cond, eqb, List, [], ◌∷◌, ◌++◌, Option, None, Some, length, length-take, get_or, take, drop, refl, sym, ◌∙◌, ap, subst, inl, inr, arith}
+use Rattle.std.proofs.Common.{◌≡◌, ◌≢◌, ℕ, zero, suc, ◌+◌, ◌-◌, ◌<◌, ◌≤◌, Bool, true, false, cond, eqb, List, [], ◌∷◌, ◌++◌, Option, None, Some, Result, Ok, Err, length, length-take, get_or, take, drop, refl, sym, ◌∙◌, ap, subst, inl, inr, arith}
 use Rattle.std.specs.Prelude.{Contains, AllPairs, IsSome, slice_set, count_by}
-use Rattle.std.specs.Prelude.{IfNone, option_map}
+use Rattle.std.specs.Prelude.{IfOk, IfSome, IfNone, OnOk, option_map}
 use Rattle.std.specs.Cmp.{nat_eq_equiv}
 use Rattle.std.specs.List.{list_any}
 use Rattle.std.proofs.lemmas.Bool.Decides.{nat_tests}
@@ -148,6 +148,17 @@ module _ {R K : Type 0} where
 pub IfNone-always : {X : Type 0} (o : Option X) (P : Type 0) → P → IfNone o P
 IfNone-always None P p = p
 IfNone-always (Some x) P p = tt
+
+-- what is said of none, and what follows
+pub IfNone_then : {X : Type 0} {P Q : Type 0} (o : Option X) → IfNone o P → (P → Q) → IfNone o Q
+IfNone_then None p f = f p
+IfNone_then (Some x) p f = tt
+
+-- a fact that follows from what is said of some value, and from what is said of none
+pub OnOk-from_either : {X E : Type 0} {P : X → Type 0} {Q F : Type 0} (r : Result (Option X) E) → IfOk r (λ o. IfSome o P) → IfOk r (λ o. IfNone o Q) → ((x : X) → P x → F) → (Q → F) → OnOk r F
+OnOk-from_either (Ok (Some x)) some none f g = f x some
+OnOk-from_either (Ok None) some none f g = g none
+OnOk-from_either (Err e) some none f g = tt
 
 module _ {X : Type 0} where
   from_open-one : (blocks : List (Option X)) (m n : ℕ) (x : X) → block_at (slice_set blocks m None) n ≡ Some x → block_at blocks n ≡ Some x

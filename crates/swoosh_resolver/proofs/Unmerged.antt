@@ -1,9 +1,9 @@
 -- What a change keeps of the blocks that are not merged.
-use Rattle.std.proofs.Common.{◌≡◌, ℕ, ◌<◌, Bool, List, [], ◌∷◌, ◌++◌, Option, Some, length, get_or, subst, inl, inr}
-use Rattle.std.specs.Prelude.{◌⊎◌, Contains, swap_remove}
+use Rattle.std.proofs.Common.{◌≡◌, ℕ, Bool, List, [], ◌∷◌, ◌++◌, Option, Some, subst, inl, inr}
+use Rattle.std.specs.Prelude.{◌⊎◌, Contains}
 use Rattle.std.specs.List.Sorted.{IsPermutation}
 use Rattle.std.proofs.lemmas.List.Elements.{Contains-append_left, Contains-push_cases}
-use Rattle.std.proofs.lemmas.List.Sorted.{IsPermutation-sym, IsPermutation-swap_remove, Contains-permutation}
+use Rattle.std.proofs.lemmas.List.Sorted.{IsPermutation-sym, Contains-permutation}
 use Rattle.merge_laws.specs.Resolution.{JoinLaws, MatchLaws, IsDominated}
 use Rattle.merge_laws.proofs.Places.{Contains-tail, Contains-cases}
 use Rattle.merge_laws.proofs.Resolutions.{IsDominated-trans}
@@ -33,19 +33,16 @@ module _ {R K : Type 0} {match : R → R → Bool} {merge : R → R → R} (bloc
   }
 
   -- an opened value is merged
-  pub unmerged_fresh : (i : ℕ) (e : Entry R K) (merged : R) → i < length opened → e ≡ get_or opened i e → IsDominated match merge e.value merged → KeepsUnmerged match merge blocks closed opened closed (swap_remove opened i e) merged
-  unmerged_fresh i e merged il is below =
-      let rest = swap_remove opened i e in
-      let p : IsPermutation opened (e ∷ rest) = IsPermutation-swap_remove opened i e il is in
-      record {
-        closes = λ n c. inl c;
-        stays_closed = λ n c. c;
-        takes_back = λ f c. elim (Contains-cases e rest f (Contains-permutation opened (e ∷ rest) f p c)) as (λ _. Contains rest f ⊎ IsDominated match merge f.value merged) [
-          | inl same ↦ inr (subst (λ (z : Entry R K). IsDominated match merge z.value merged) same below)
-          | inr left ↦ inl left
-        ];
-        stays_opened = λ f c. Contains-permutation (e ∷ rest) opened f (IsPermutation-sym opened (e ∷ rest) p) (Contains-tail e rest f c);
-      }
+  pub unmerged_fresh : (rest : List (Entry R K)) (e : Entry R K) (merged : R) → IsPermutation opened (e ∷ rest) → IsDominated match merge e.value merged → KeepsUnmerged match merge blocks closed opened closed rest merged
+  unmerged_fresh rest e merged p below = record {
+    closes = λ n c. inl c;
+    stays_closed = λ n c. c;
+    takes_back = λ f c. elim (Contains-cases e rest f (Contains-permutation opened (e ∷ rest) f p c)) as (λ _. Contains rest f ⊎ IsDominated match merge f.value merged) [
+      | inl same ↦ inr (subst (λ (z : Entry R K). IsDominated match merge z.value merged) same below)
+      | inr left ↦ inl left
+    ];
+    stays_opened = λ f c. Contains-permutation (e ∷ rest) opened f (IsPermutation-sym opened (e ∷ rest) p) (Contains-tail e rest f c);
+  }
 
   -- one merge after another
   pub unmerged-then : (join : JoinLaws merge) (laws : MatchLaws match merge) (closed' : List ℕ) (opened' : List (Entry R K)) (value : R) (closed'' : List ℕ) (opened'' : List (Entry R K)) (merged : R)

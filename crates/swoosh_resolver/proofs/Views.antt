@@ -1,11 +1,11 @@
 -- Views of blocks and a change, when a member is taken out.
-use Rattle.std.proofs.Common.{◌≡◌, ◌≢◌, ℕ, ◌+◌, ◌<◌, ◌≤◌, Bool, cond, IsTrue, List, [], ◌∷◌, ◌++◌, Option, None, Some, length, get_or, append_assoc, refl, sym, ◌∙◌, ap, subst, inl, inr, arith}
-use Rattle.std.specs.Prelude.{All, Contains, IsSome, count_by, swap_remove}
+use Rattle.std.proofs.Common.{◌≡◌, ◌≢◌, ℕ, ◌+◌, ◌≤◌, Bool, cond, IsTrue, List, [], ◌∷◌, ◌++◌, Option, None, Some, append_assoc, refl, sym, ◌∙◌, ap, subst, inl, inr, arith}
+use Rattle.std.specs.Prelude.{All, Contains, IsSome, count_by}
 use Rattle.std.specs.List.Sorted.{IsPermutation}
 use Rattle.std.proofs.lemmas.List.{append-nil, map-append}
 use Rattle.std.proofs.lemmas.List.Elements.{All-append, All-map, Contains-get_or, Contains-push_cases}
 use Rattle.std.proofs.lemmas.List.Quantifiers.{all_pairs_push}
-use Rattle.std.proofs.lemmas.List.Sorted.{IsPermutation-append_left, IsPermutation-append_right, IsPermutation-trans, IsPermutation-middle, IsPermutation-map, IsPermutation-swap_remove}
+use Rattle.std.proofs.lemmas.List.Sorted.{IsPermutation-append_left, IsPermutation-append_right, IsPermutation-trans, IsPermutation-middle, IsPermutation-map}
 use Rattle.std.proofs.lemmas.List.Sums.{sum_by-cons, sum_by-append}
 use Rattle.merge_laws.specs.Resolution.{JoinLaws, MatchLaws, IsDominated, AreApart, DoNotMatch}
 use Rattle.merge_laws.specs.Reach.{near}
@@ -13,9 +13,18 @@ use Rattle.merge_laws.proofs.Places.{AllPairs-none, AllPairs-permutation, AllPai
 use Rattle.merge_laws.proofs.Resolutions.{IsDominated-left}
 use Rattle.swoosh_resolver.specs.Tables.{Entry, block_at, blocks_in, values_of}
 use Rattle.swoosh_resolver.specs.Changes.{without, view_of, Fits}
-use Rattle.swoosh_resolver.specs.Insertions.{IsMatchAt, Merges}
+use Rattle.swoosh_resolver.specs.Insertions.{IsMatchAt, MergesMatch, Merges}
 use Rattle.swoosh_resolver.proofs.Unmerged.{unmerged_kept, unmerged_fresh}
 use Rattle.swoosh_resolver.proofs.Places.{without-push, block-closed, block-from_open, taken-from_set}
+
+-- a test of values counts the entries whose values pass it
+pub count-map : {R K : Type 0} (test : R → Bool) (entries : List (Entry R K)) → count_by test (values_of entries) ≡ count_by (λ e. test e.value) entries
+count-map {R} {K} test [] = refl
+count-map {R} {K} test (e ∷ es) =
+    let more = sum_by-cons (λ v. cond (test v) 1 0) e.value (values_of es) in
+    let more' = sum_by-cons (λ (e : Entry R K). cond (test e.value) 1 0) e es in
+    let rest = count-map test es in
+    omega arith
 
 module _ {R K : Type 0} (blocks : List (Option (Entry R K))) (closed : List ℕ) (opened : List (Entry R K)) where
   -- an open block is closed
@@ -27,13 +36,12 @@ module _ {R K : Type 0} (blocks : List (Option (Entry R K))) (closed : List ℕ)
       (IsPermutation-append_left opened (blocks_in (without blocks closed)) (e ∷ rest) one)
 
   -- an opened value is taken back
-  pub taken-fresh : (i : ℕ) (e : Entry R K) → i < length opened → e ≡ get_or opened i e → IsPermutation (view_of blocks closed opened) (e.value ∷ view_of blocks closed (swap_remove opened i e))
-  taken-fresh i e il is =
+  pub taken-fresh : (e : Entry R K) (rest : List (Entry R K)) → IsPermutation opened (e ∷ rest) → IsPermutation (view_of blocks closed opened) (e.value ∷ view_of blocks closed rest)
+  taken-fresh e rest taken =
       let left = blocks_in (without blocks closed) in
-      let rest = swap_remove opened i e in
       IsPermutation-map (λ (e : Entry R K). e.value) (left ++ opened) (e ∷ left ++ rest)
       (IsPermutation-trans (left ++ opened) (left ++ e ∷ rest) (e ∷ left ++ rest)
-      (IsPermutation-append_right left opened (e ∷ rest) (IsPermutation-swap_remove opened i e il is))
+      (IsPermutation-append_right left opened (e ∷ rest) taken)
       (IsPermutation-middle left e rest))
 
   module _ {match : R → R → Bool} (fits : Fits match blocks closed opened) where
@@ -53,20 +61,12 @@ module _ {R K : Type 0} (blocks : List (Option (Entry R K))) (closed : List ℕ)
       apart = apart-taken e.value (view_of blocks (closed ++ n ∷ []) opened) (taken-kept n e stands);
     }
 
-    pub fits-fresh : (i : ℕ) (e : Entry R K) → i < length opened → e ≡ get_or opened i e → Fits match blocks closed (swap_remove opened i e)
-    fits-fresh i e il is = record {
+    pub fits-fresh : (e : Entry R K) (rest : List (Entry R K)) → IsPermutation opened (e ∷ rest) → Fits match blocks closed rest
+    fits-fresh e rest taken = record {
       distinct = fits.distinct;
       named = fits.named;
-      apart = apart-taken e.value (view_of blocks closed (swap_remove opened i e)) (taken-fresh i e il is);
+      apart = apart-taken e.value (view_of blocks closed rest) (taken-fresh e rest taken);
     }
-
-  count-map : (test : R → Bool) (entries : List (Entry R K)) → count_by test (values_of entries) ≡ count_by (λ e. test e.value) entries
-  count-map test [] = refl
-  count-map test (e ∷ es) =
-      let more = sum_by-cons (λ v. cond (test v) 1 0) e.value (values_of es) in
-      let more' = sum_by-cons (λ (e : Entry R K). cond (test e.value) 1 0) e es in
-      let rest = count-map test es in
-      omega arith
 
   -- the members of the view that share a key are blocks, or opened values
   pub near-view : (shares : R → R → Bool) (x : R) → near shares (view_of blocks closed opened) x ≡ count_by (λ e. shares e.value x) (blocks_in (without blocks closed)) + count_by (λ e. shares e.value x) opened
@@ -106,13 +106,13 @@ module _ {R K : Type 0} (blocks : List (Option (Entry R K))) (closed : List ℕ)
   }
 
   -- the value is merged with an opened value
-  pub merges-fresh : {match : R → R → Bool} {merge : R → R → R} (join : JoinLaws merge) (laws : MatchLaws match merge) (value merged : R) (i : ℕ) (e : Entry R K) → i < length opened → e ≡ get_or opened i e → IsTrue (match value e.value) → merged ≡ merge e.value value → Merges match merge blocks closed opened value closed (swap_remove opened i e) merged
-  merges-fresh {match} {merge} join laws value merged i e il at matches is = record {
-    by = e.value;
-    taken = taken-fresh i e il at;
-    matches = matches;
-    is = is;
-    others = unmerged_fresh blocks closed opened i e merged il at (subst (IsDominated match merge e.value) (sym is) (IsDominated-left join laws e.value value));
+  pub merges-fresh : {match : R → R → Bool} {merge : R → R → R} (join : JoinLaws merge) (laws : MatchLaws match merge) (value merged : R) (opened' : List (Entry R K)) → MergesMatch match merge opened value opened' merged → Merges match merge blocks closed opened value closed opened' merged
+  merges-fresh {match} {merge} join laws value merged opened' m = record {
+    by = m.by.value;
+    taken = taken-fresh m.by opened' m.taken;
+    matches = m.matches;
+    is = m.is;
+    others = unmerged_fresh blocks closed opened opened' m.by merged m.taken (subst (IsDominated match merge m.by.value) (sym m.is) (IsDominated-left join laws m.by.value value));
   }
 
   -- one value more is opened

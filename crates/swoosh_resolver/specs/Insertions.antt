@@ -17,6 +17,13 @@ pub record IsMatchAt {R K : Type 0} (match : R → R → Bool) (blocks : List (O
   pub is : block ≡ by.value
   pub matches : IsTrue (match value block)
 
+-- an opened value that the other value matches is taken out, and the two are merged
+pub record MergesMatch {R K : Type 0} (match : R → R → Bool) (merge : R → R → R) (opened : List (Entry R K)) (value : R) (opened' : List (Entry R K)) (merged : R) : Type 0 where
+  pub by : Entry R K
+  pub taken : IsPermutation opened (by ∷ opened')
+  pub matches : IsTrue (match value by.value)
+  pub is : merged ≡ merge by.value value
+
 -- what is closed now was closed before, or is a block that was merged into the value; what was opened before is opened now, or
 -- was merged into it; and nothing else changed
 pub record KeepsUnmerged {R K : Type 0} (match : R → R → Bool) (merge : R → R → R) (blocks : List (Option (Entry R K))) (closed : List ℕ) (opened : List (Entry R K)) (closed' : List ℕ) (opened' : List (Entry R K)) (merged : R) : Type 0 where

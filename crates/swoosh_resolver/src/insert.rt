@@ -102,13 +102,7 @@ impl<R: Resolvable> Blocks<R> {
             change.closed.push(number)?;
             return Ok(Some(merged));
         }
-        match change.opened.first_match(alloc, value, steps)? {
-            Some(place) => {
-                let other = change.opened.swap_remove(place);
-                Ok(Some(other.value.joined(alloc, &value.value)?))
-            }
-            None => Ok(None),
-        }
+        change.opened.merge_match(alloc, value, steps)
     }
 
     /// The change with the value inserted: its view is the resolution of the view so far and the value, and it closes no block

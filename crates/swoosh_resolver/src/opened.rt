@@ -2,7 +2,7 @@
 ghost use Rattle.std.specs.Prelude.{◌≡◌, ℕ, ◌+◌, ◌<◌, ◌≤◌, ◌++◌, ◌∷◌, [], Some, false, IsTrue, is_some, map, if◌then◌else◌};
 ghost use Rattle.std.specs.Prelude.{IfOk, IfSome, IfNone, All, length, slice_index_or, swap_remove, count_by};
 ghost use Rattle.swoosh_resolver.specs.Tables.{Entry, AreListedAt, ArePlaced, block_at};
-ghost use Rattle.swoosh_resolver.specs.Insertions.{passes};
+ghost use Rattle.swoosh_resolver.specs.Insertions.{passes, MergesMatch};
 
 use crate::keyed::{Keyed, Placed, Seeker};
 use crate::posting::{candidates, make_room_for, post, repost, unpost, with_places};
@@ -146,7 +146,7 @@ impl<R: Resolvable> Opened<R> {
 
     /// The place of the first of the values that the given one matches. Only those are tested that have a key which it seeks.
     /// Returns `Memory` if allocation fails.
-    pub(crate) fn first_match<L: Ledger>(
+    fn first_match<L: Ledger>(
         &self,
         alloc: Global,
         value: &Seeker<R>,
@@ -168,5 +168,29 @@ impl<R: Resolvable> Opened<R> {
             }
         }
         Ok(None)
+    }
+
+    /// What the value merges to with one of the values that it matches, which is then taken out. None where it matches none. Only
+    /// those are tested that have a key which it seeks. Returns `Memory` if allocation fails.
+    pub(crate) fn merge_match<L: Ledger>(
+        &mut self,
+        alloc: Global,
+        value: &Seeker<R>,
+        steps: &mut Steps<L>,
+    ) -> Result<Option<R>, Memory>
+        ensures merged { IfOk result (λ o. IfSome o (λ merged. MergesMatch R.meets R.join
+            self.old.items value.now.value self.new.items merged)) }
+        ensures none { IfOk result (λ o. IfNone o ((self.new.items ≡ self.old.items)
+            × All (λ e. R.meets value.now.value e.value ≡ false) self.old.items)) }
+        ensures cost { steps.new ≤ steps.old + count_by (λ e. R.shares e.value value.now.value)
+            self.old.items }
+    {
+        match self.first_match(alloc, value, steps)? {
+            Some(place) => {
+                let other = self.swap_remove(place);
+                Ok(Some(other.value.joined(alloc, &value.value)?))
+            }
+            None => Ok(None),
+        }
     }
 }
