@@ -7,6 +7,7 @@ mod Moving
 pub mod Places
 mod Numbering
 mod Opening
+pub mod Pairing
 mod Placing
 mod Unmerged
 pub mod Splitting

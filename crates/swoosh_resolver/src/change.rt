@@ -34,7 +34,7 @@ impl<R: Resolvable> Change<R> {
 }
 
 /// The values alone, in their order. Returns `Memory` if allocation fails.
-fn values_in<R: Resolvable>(entries: Vec<Placed<R>>) -> Result<Vec<R>, Memory>
+pub(crate) fn values_in<R: Resolvable>(entries: Vec<Placed<R>>) -> Result<Vec<R>, Memory>
     ensures { IfOk result (λ values. values.items ≡ values_of entries.items) }
 {
     let mut values = Vec::with_capacity(*entries.allocator(), entries.len())?;

@@ -14,7 +14,7 @@ use std::alloc::Global;
 use union_base::memory::Memory;
 
 /// The opened values, and the given ones after them, in their order. Returns `Memory` if allocation fails.
-fn open_values<R: Resolvable>(
+pub(crate) fn open_values<R: Resolvable>(
     alloc: Global,
     opened: Opened<R>,
     values: Vec<R>,

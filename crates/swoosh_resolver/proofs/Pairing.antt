@@ -1,0 +1,141 @@
+-- Values in two rows of which no two match, and what one value more makes of them.
+use Rattle.std.proofs.Common.{◌≡◌, ℕ, ◌+◌, ◌≤◌, Bool, true, false, IsTrue, List, [], ◌∷◌, ◌++◌, length, get_or, append_assoc, refl, sym, ◌∙◌, ap, subst, inl, inr, arith}
+use Rattle.std.specs.Prelude.{All, Contains, count_by, sum_by}
+use Rattle.std.specs.List.Sorted.{IsPermutation}
+use Rattle.std.proofs.lemmas.List.{get_or_append_left, get_or_at, length-append, map-append}
+use Rattle.std.proofs.lemmas.List.Elements.{All-append, All-contains, Contains-append_left, Contains-append_right, Contains-append_cases}
+use Rattle.std.proofs.lemmas.List.Sorted.{IsPermutation-sym, IsPermutation-trans, IsPermutation-map, IsPermutation-middle, IsPermutation-to_front, IsPermutation-append_left, IsPermutation-append_right, Contains-permutation}
+use Rattle.std.proofs.lemmas.List.Sums.{sum_by-append, sum_by-cons, sum_by_push}
+use Rattle.merge_laws.specs.Reach.{near}
+use Rattle.merge_laws.specs.Resolution.{JoinLaws, MatchLaws, IsResolution, member, DoNotMatch, AreApart}
+use Rattle.merge_laws.proofs.Places.{Contains-head, Contains-tail, AllPairs-permutation, AllPairs-rest}
+use Rattle.merge_laws.proofs.Resolutions.{IsDominated-refl, IsResolution-from_apart, IsResolution-through}
+use Rattle.merge_laws.proofs.Resolving.{IsResolving, resolving_inserted, resolving_joined, resolving_kept, IsResolution-from_resolving}
+use Rattle.swoosh_resolver.specs.Tables.{Entry, values_of}
+use Rattle.swoosh_resolver.specs.Insertions.{MergesMatch}
+use Rattle.swoosh_resolver.proofs.Views.{count-map}
+
+module _ {R K : Type 0} {match : R → R → Bool} {merge : R → R → R} where
+  -- a match in one of the rows is one in both
+  pub merges_first : (met apart met' : List (Entry R K)) (value merged : R) → MergesMatch match merge met value met' merged → MergesMatch match merge (met ++ apart) value (met' ++ apart) merged
+  merges_first met apart met' value merged m = record {
+    by = m.by;
+    taken = IsPermutation-append_left apart met (m.by ∷ met') m.taken;
+    matches = m.matches;
+    is = m.is;
+  }
+
+  pub merges_second : (met apart apart' : List (Entry R K)) (value merged : R) → MergesMatch match merge apart value apart' merged → MergesMatch match merge (met ++ apart) value (met ++ apart') merged
+  merges_second met apart apart' value merged m = record {
+    by = m.by;
+    taken = IsPermutation-trans (met ++ apart) (met ++ m.by ∷ apart') (m.by ∷ met ++ apart')
+        (IsPermutation-append_right met apart (m.by ∷ apart') m.taken)
+        (IsPermutation-middle met m.by apart');
+    matches = m.matches;
+    is = m.is;
+  }
+
+  -- a row is the value that is taken out and the others
+  taken_values : (row row' : List (Entry R K)) (value merged : R) (m : MergesMatch match merge row value row' merged) → IsPermutation (values_of row) (m.by.value ∷ values_of row')
+  taken_values row row' value merged m = IsPermutation-map (λ (e : Entry R K). e.value) row (m.by ∷ row') m.taken
+
+  -- the others were there before
+  pub among_before : (row row' : List (Entry R K)) (value merged : R) → MergesMatch match merge row value row' merged → (x : R) → Contains (values_of row') x → Contains (values_of row) x
+  among_before row row' value merged m x c =
+      Contains-permutation (m.by.value ∷ values_of row') (values_of row) x
+      (IsPermutation-sym (values_of row) (m.by.value ∷ values_of row') (taken_values row row' value merged m)) (Contains-tail m.by.value (values_of row') x c)
+
+  -- and are apart as before
+  pub apart_before : (row row' : List (Entry R K)) (value merged : R) → MergesMatch match merge row value row' merged → AreApart match (values_of row) → AreApart match (values_of row')
+  apart_before row row' value merged m apart =
+      AllPairs-rest (DoNotMatch match) m.by.value (values_of row')
+      (AllPairs-permutation (DoNotMatch match) (λ x y h. (h.1, h.0)) (values_of row) (m.by.value ∷ values_of row') (taken_values row row' value merged m) apart)
+
+  -- a value that matches none of a row is merged with none
+  pub never_merges : (row row' : List (Entry R K)) (value merged : R) → MergesMatch match merge row value row' merged → All (λ w. match value w ≡ false) (values_of row) → ⊥
+  never_merges row row' value merged m none =
+      let there : Contains (values_of row) m.by.value =
+      Contains-permutation (m.by.value ∷ values_of row') (values_of row) m.by.value
+      (IsPermutation-sym (values_of row) (m.by.value ∷ values_of row') (taken_values row row' value merged m)) (Contains-head m.by.value (values_of row')) in
+      let no : match value m.by.value ≡ false = All-contains (λ w. match value w ≡ false) (values_of row) m.by.value none there in
+      let yes : IsTrue (match value m.by.value) = m.matches in
+      cc
+
+module _ {R K : Type 0} where
+  -- what holds of the values of each row holds of those of both
+  pub All-both : (P : R → Type 0) (met apart : List (Entry R K)) → All P (values_of met) → All P (values_of apart) → All P (values_of (met ++ apart))
+  All-both P met apart first second = subst (All P) (sym (map-append (λ (e : Entry R K). e.value) met apart)) (All-append P (values_of met) (values_of apart) first second)
+
+  -- a value is put last in the second row, or in the first
+  pub last_of_second : (met apart : List (Entry R K)) (e : Entry R K) → values_of (met ++ (apart ++ e ∷ [])) ≡ values_of (met ++ apart) ++ e.value ∷ []
+  last_of_second met apart e = ap values_of (sym (append_assoc met apart (e ∷ []))) ∙ map-append (λ (e : Entry R K). e.value) (met ++ apart) (e ∷ [])
+
+  pub last_of_first : (met apart : List (Entry R K)) (e : Entry R K) → IsPermutation (values_of (met ++ apart) ++ e.value ∷ []) (values_of ((met ++ e ∷ []) ++ apart))
+  last_of_first met apart e =
+      let moved : IsPermutation (met ++ (apart ++ e ∷ [])) ((met ++ e ∷ []) ++ apart) =
+      rw (append_assoc met (e ∷ []) apart) (IsPermutation-append_right met (apart ++ e ∷ []) (e ∷ apart) (IsPermutation-to_front apart e)) in
+      subst (λ vs. IsPermutation vs (values_of ((met ++ e ∷ []) ++ apart))) (last_of_second met apart e)
+      (IsPermutation-map (λ (e : Entry R K). e.value) (met ++ (apart ++ e ∷ [])) ((met ++ e ∷ []) ++ apart) moved)
+
+module _ {A : Type 0} {match : A → A → Bool} {merge : A → A → A} (join : JoinLaws merge) (laws : MatchLaws match merge) where
+  -- values of which no two match are their own resolution
+  pub resolved_itself : (list : List A) → AreApart match list → IsResolution match merge list list
+  resolved_itself list apart = IsResolution-from_apart join laws list list (λ e c. member c) (λ x c. (x, c, IsDominated-refl join laws x)) apart
+
+  -- so are they with one more that matches none
+  pub resolved_kept : (list : List A) (value : A) → AreApart match list → All (λ w. match value w ≡ false) list → IsResolution match merge (list ++ value ∷ []) (list ++ value ∷ [])
+  resolved_kept list value apart none =
+      IsResolution-from_resolving join laws (list ++ value ∷ []) (list ++ value ∷ [])
+      (resolving_kept join laws (list ++ value ∷ []) [] list value (resolving_inserted join laws list value apart) none)
+
+  -- what resolves all that is done and left resolves the list
+  resolved_on : (list left done all : List A) → IsResolving match merge list left done → IsResolution match merge (done ++ left) all → IsResolution match merge list all
+  resolved_on list left done all s r =
+      IsResolution-through join laws list (done ++ left) all
+      (λ y c. elim (Contains-append_cases done left y c) [ inl d ↦ s.done_derives y d | inr l ↦ s.left_derives y l ])
+      (λ x c. elim (s.covered x c) [
+        | inl (y, cy, dy) ↦ (y, Contains-append_right done left y cy, dy)
+        | inr (y, cy, dy) ↦ (y, Contains-append_left done left y cy, dy)
+      ])
+      r
+
+  -- what resolves the merge of a value and a member, and the other members, resolves all of them and the value
+  pub resolved_merged : {K : Type 0} (row row' : List (Entry A K)) (value merged : A) (all : List A) → AreApart match (values_of row) → MergesMatch match merge row value row' merged → IsResolution match merge (values_of row' ++ merged ∷ []) all → IsResolution match merge (values_of row ++ value ∷ []) all
+  resolved_merged {K} row row' value merged all apart m r =
+      let list = values_of row ++ value ∷ [] in
+      resolved_on list (merge m.by.value value ∷ []) (values_of row') all
+      (resolving_joined join laws list [] (values_of row) value m.by.value (values_of row') (resolving_inserted join laws (values_of row) value apart)
+      (IsPermutation-map (λ (e : Entry A K). e.value) row (m.by ∷ row') m.taken) m.matches)
+      (subst (λ w. IsResolution match merge (values_of row' ++ w ∷ []) all) m.is r)
+
+-- a test that does not pass fails
+fails : (b : Bool) → (IsTrue b → ⊥) → b ≡ false
+fails true never = absurd (never refl)
+fails false never = refl
+
+-- of values that are apart, one matches none of those before it
+pub unmatched_before : {A : Type 0} (match : A → A → Bool) (list front rest : List A) (value x : A) → list ≡ front ++ value ∷ rest → AreApart match list → Contains front x → match value x ≡ false
+unmatched_before match list front rest value x whole apart (k, kl, e) =
+    let all : AreApart match (front ++ value ∷ rest) = subst (AreApart match) whole apart in
+    let long = length-append front (value ∷ rest) in
+    let here = get_or_append_left front (value ∷ rest) x k kl ∙ e in
+    let there = get_or_at front value rest x (length front) refl in
+    let never : DoNotMatch match (get_or (front ++ value ∷ rest) k x) (get_or (front ++ value ∷ rest) (length front) x) = all k (length front) x kl (omega arith) in
+    let none : DoNotMatch match x value = rw (here, there) at never in
+    fails (match value x) none.1
+
+-- the tests of a value, counted over a row, are those over the list that the row has the values of
+pub paid_near : {R K : Type 0} (shares : R → R → Bool) (met : List (Entry R K)) (list : List R) (value : R) (now then' : ℕ) → values_of met ≡ list → then' ≤ now + count_by (λ e. shares e.value value) met → then' ≤ now + near shares list value
+paid_near shares met list value now then' is paid =
+    subst (λ n. then' ≤ now + n) (sym (count-map (λ w. shares w value) met) ∙ ap (λ values. near shares values value) is) paid
+
+-- what each value so far may cost, with one value more
+pub spent_more : {A : Type 0} (f : A → ℕ) (front : List A) (value : A) (start now then' : ℕ) → now ≤ start + sum_by f front → then' ≤ now + f value → then' ≤ start + sum_by f (front ++ value ∷ [])
+spent_more f front value start now then' spent paid = let more = sum_by_push f front value in omega arith
+
+-- and with all that are left
+pub spent_within : {A : Type 0} (f : A → ℕ) (list front rest : List A) (value : A) (start now then' : ℕ) → list ≡ front ++ value ∷ rest → now ≤ start + sum_by f front → then' ≤ now + f value → then' ≤ start + sum_by f list
+spent_within f list front rest value start now then' whole spent paid =
+    let whole' = sum_by-append f front (value ∷ rest) in
+    let more = sum_by-cons f value rest in
+    rw whole (omega arith)

@@ -1,0 +1,6 @@
+use Rattle.swoosh_resolver.proofs.both.Both.of.Goals as goal
+
+pub returns-clause-met : goal.returns-clause-met
+returns-clause-met g c =
+    let opens = c.in_ok-met.ensures in
+    rw (opens.last, c.empty.ensures) opens.are

@@ -1,0 +1,52 @@
+use Rattle.std.proofs.Common.{ℕ, [], ◌∷◌, ◌++◌, ◌∙◌, arith}
+use Rattle.std.proofs.lemmas.List.Sorted.{IsPermutation-map, length_permutation}
+use Rattle.merge_laws.proofs.Resolutions.{IsResolution-permutation}
+use Rattle.merge_laws.proofs.Resolving.{IsResolving, resolving_inserted, resolving_joined, resolving_kept, IsResolution-from_resolving}
+use Rattle.swoosh_resolver.specs.Tables.{Entry, values_of}
+use Rattle.swoosh_resolver.proofs.Pairing.{last_of_first}
+use Rattle.swoosh_resolver.proofs.both.Both.with_merge.Goals as goal
+
+pub loop-value-init : goal.loop-value-init
+loop-value-init g c = record {
+  resolving = rw c.in_ok-value.ensures
+      (resolving_inserted g.met.R.Join.join_laws g.met.R.Resolvable.match_laws (values_of (c.args.self.met.items ++ c.args.self.apart.items)) c.args.merge c.requires);
+  apart = λ x there. there;
+}
+
+pub loop-value-smaller : goal.loop-value-smaller
+loop-value-smaller g c =
+    let merges = rw c.in-Some.is at c.in_ok-merged.ensures.merged in
+    let l = length_permutation _ _ merges.taken in
+    omega arith
+
+pub loop-value-preserved : goal.loop-value-preserved
+loop-value-preserved g c =
+    let list = values_of (c.args.self.met.items ++ c.args.self.apart.items) ++ c.args.merge ∷ [] in
+    let both = c.loop-value.both.met.items ++ c.loop-value.both.apart.items in
+    let left = c.merge_next.new.self.met.items ++ c.merge_next.new.self.apart.items in
+    let merges = rw c.in-Some.is at c.in_ok-merged.ensures.merged in
+    record {
+      resolving = rw (c.in_ok-value-2.ensures, merges.is)
+          (resolving_joined g.met.R.Join.join_laws g.met.R.Resolvable.match_laws list [] (values_of both) c.loop-value.value.value merges.by.value (values_of left) c.loop-value.invariant.resolving
+          (IsPermutation-map (λ (e : Entry g.row.R.Denot ℕ). e.value) both (merges.by ∷ left) merges.taken) merges.matches);
+      apart = λ x there. c.loop-value.invariant.apart x (c.in_ok-merged.ensures.apart x there);
+    }
+
+pub returns-clause-apart : goal.returns-clause-apart
+returns-clause-apart g c x there = c.loop-value.invariant.apart x (c.in_ok-merged.ensures.apart x there)
+
+-- at last the merge matches nothing, and is put among the first
+pub returns-clause-resolved : goal.returns-clause-resolved
+returns-clause-resolved g c =
+    let list = values_of (c.args.self.met.items ++ c.args.self.apart.items) ++ c.args.merge ∷ [] in
+    let met = c.loop-value.both.met.items in
+    let apart = c.loop-value.both.apart.items in
+    let row = values_of (met ++ apart) in
+    let (last, items, value) = c.in_ok-met.ensures in
+    let is = value ∙ c.in_ok-keyed.ensures in
+    let none = rw c.in_default.is at c.in_ok-merged.ensures.none in
+    let kept : IsResolving g.R.Resolvable.meets g.R.Join.join list [] (row ++ last.value ∷ []) =
+    rw is (resolving_kept g.met.R.Join.join_laws g.met.R.Resolvable.match_laws list [] row c.loop-value.value.value c.loop-value.invariant.resolving none.2) in
+    rw (items, none.0, none.1)
+    (IsResolution-permutation g.met.R.Join.join_laws g.met.R.Resolvable.match_laws list (row ++ last.value ∷ []) (values_of ((met ++ last ∷ []) ++ apart)) (last_of_first met apart last)
+    (IsResolution-from_resolving g.met.R.Join.join_laws g.met.R.Resolvable.match_laws list (row ++ last.value ∷ []) kept))

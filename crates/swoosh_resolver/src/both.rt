@@ -1,0 +1,163 @@
+//! The resolution of two lists together, where no two values of one list match.
+//!
+//! Guarantee: the answer is the resolution of the values of both lists. Cost: a value of the second list is tested only against
+//! values of the first list, and against merges, that are posted under a key which it seeks: it is known to match no value of its own
+//! list. A merge may match any value, and is tested against those of both lists that are posted under a key which it seeks. Where no
+//! two values match, the tests are at most the pairs, one value of each list, that share a key. Values are moved and never copied.
+ghost use Rattle.std.specs.Prelude.{◌≡◌, ◌≤◌, ◌+◌, ◌++◌, ◌∷◌, [], false};
+ghost use Rattle.std.specs.Prelude.{IfOk, IfSome, IfNone, OnOk, All, Contains, count_by, sum_by};
+ghost use Rattle.merge_laws.specs.Resolution.{AreApart, IsResolution};
+ghost use Rattle.merge_laws.specs.Reach.{near};
+ghost use Rattle.swoosh_resolver.specs.Tables.{values_of};
+ghost use Rattle.swoosh_resolver.specs.Insertions.{MergesMatch};
+
+use crate::change::values_in;
+use crate::keyed::Seeker;
+use crate::opened::Opened;
+use crate::split::open_values;
+use key_hashing::hashing::Hashing;
+use merge_laws::resolvable::Resolvable;
+use merge_laws::steps::Steps;
+use std::alloc::Global;
+use std::sync::ledger::Ledger;
+use union_base::memory::Memory;
+
+/// Values of which no two match, in two rows, each with an index of their keys: those that a value to come is tested against, which
+/// are the values of the first list and merges, and those that it is known not to match, which are values of its own list.
+#[derive(Drop)]
+struct Both<R: Resolvable> {
+    met: Opened<R>,
+    apart: Opened<R>,
+}
+
+impl<R: Resolvable> Both<R> {
+    /// The values of the first list, and none of the second. Returns `Memory` if allocation fails.
+    fn of(alloc: Global, hashing: Hashing, list: Vec<R>) -> Result<Both<R>, Memory>
+        ensures met { IfOk result (λ both. values_of both.met.items ≡ list.items) }
+        ensures apart { IfOk result (λ both. both.apart.items ≡ []) }
+    {
+        let met = open_values(alloc, Opened::empty(alloc, hashing), list)?;
+        Ok(Both {
+            met,
+            apart: Opened::empty(alloc, hashing),
+        })
+    }
+
+    /// What the value merges to with one that it matches, which is then taken out. None where it matches none. Returns `Memory` if
+    /// allocation fails.
+    fn merge_next<L: Ledger>(
+        &mut self,
+        alloc: Global,
+        value: &Seeker<R>,
+        steps: &mut Steps<L>,
+    ) -> Result<Option<R>, Memory>
+        ensures merged { IfOk result (λ o. IfSome o (λ merged. MergesMatch R.meets R.join
+            (self.old.met.items ++ self.old.apart.items) value.now.value
+            (self.new.met.items ++ self.new.apart.items) merged)) }
+        ensures apart { OnOk result ((x : R) → Contains (values_of self.new.apart.items) x
+            → Contains (values_of self.old.apart.items) x) }
+        ensures none { IfOk result (λ o. IfNone o ((self.new.met.items ≡ self.old.met.items)
+            × (self.new.apart.items ≡ self.old.apart.items)
+            × All (λ w. R.meets value.now.value w ≡ false)
+            (values_of (self.old.met.items ++ self.old.apart.items)))) }
+    {
+        match self.met.merge_match(alloc, value, steps)? {
+            Some(merged) => Ok(Some(merged)),
+            None => self.apart.merge_match(alloc, value, steps),
+        }
+    }
+
+    /// The values with a merge, which may match any of them: it is merged with those that it matches, one after the other, until it
+    /// matches none. Returns `Memory` if allocation fails.
+    fn with_merge<L: Ledger>(
+        self,
+        alloc: Global,
+        merge: R,
+        steps: &mut Steps<L>,
+    ) -> Result<Both<R>, Memory>
+        requires { AreApart R.meets (values_of (self.met.items ++ self.apart.items)) }
+        ensures resolved { IfOk result (λ new. IsResolution R.meets R.join
+            (values_of (self.met.items ++ self.apart.items) ++ merge ∷ [])
+            (values_of (new.met.items ++ new.apart.items))) }
+        ensures apart { IfOk result (λ new. (x : R) → Contains (values_of new.apart.items) x
+            → Contains (values_of self.apart.items) x) }
+    {
+        let mut both = self;
+        let mut value = Seeker::of(alloc, merge)?;
+        while let Some(merged) = both.merge_next(alloc, &value, steps)? {
+            value = Seeker::of(alloc, merged)?;
+        }
+        let keyed = value.keyed(alloc)?;
+        let Both { met, apart } = both;
+        let met = met.with_last(alloc, keyed)?;
+        Ok(Both { met, apart })
+    }
+
+    /// The values with one of the second list, which matches none of those of its own list. Returns `Memory` if allocation fails.
+    fn with_value<L: Ledger>(
+        self,
+        alloc: Global,
+        value: R,
+        steps: &mut Steps<L>,
+    ) -> Result<Both<R>, Memory>
+        requires apart { AreApart R.meets (values_of (self.met.items ++ self.apart.items)) }
+        requires unmatched { All (λ w. R.meets value w ≡ false) (values_of self.apart.items) }
+        ensures resolved { IfOk result (λ new. IsResolution R.meets R.join
+            (values_of (self.met.items ++ self.apart.items) ++ value ∷ [])
+            (values_of (new.met.items ++ new.apart.items))) }
+        ensures apart { IfOk result (λ new. (x : R) → Contains (values_of new.apart.items) x
+            → Contains (values_of self.apart.items ++ value ∷ []) x) }
+        ensures met { IfOk result (λ new. All (λ w. R.meets value w ≡ false)
+            (values_of self.met.items) → new.met.items ≡ self.met.items) }
+        ensures cost { All (λ w. R.meets value w ≡ false) (values_of self.met.items)
+            → steps.new ≤ steps.old + count_by (λ e. R.shares e.value value) self.met.items }
+    {
+        let mut both = self;
+        let seeker = Seeker::of(alloc, value)?;
+        match both.met.merge_match(alloc, &seeker, steps)? {
+            Some(merged) => both.with_merge(alloc, merged, steps),
+            None => {
+                let Both { met, apart } = both;
+                let apart = apart.with_last(alloc, seeker.keyed(alloc)?)?;
+                Ok(Both { met, apart })
+            }
+        }
+    }
+
+    /// The values alone. Returns `Memory` if allocation fails.
+    fn into_values(self) -> Result<Vec<R>, Memory>
+        ensures { IfOk result (λ all. all.items
+            ≡ values_of (self.met.items ++ self.apart.items)) }
+    {
+        let Both { met, apart } = self;
+        let mut entries = met.into_values();
+        entries.append(&mut apart.into_values())?;
+        values_in(entries)
+    }
+}
+
+/// The resolution of two lists, of each of which no two values match, in an order that is not fixed. Values of one list are tested
+/// against one another only once one of them is merged with a value of the other. Where no value of one list matches one of the
+/// other, the tests are at most the pairs, one value of each list, that share a key, also where it answers Memory. Keys are hashed by
+/// these numbers. Returns `Memory` if allocation fails.
+pub fn resolve_both<R: Resolvable, L: Ledger>(
+    hashing: Hashing,
+    one: Vec<R>,
+    other: Vec<R>,
+    steps: &mut Steps<L>,
+) -> Result<Vec<R>, Memory>
+    requires one { AreApart R.meets one.items }
+    requires other { AreApart R.meets other.items }
+    ensures resolved { IfOk result (λ all. IsResolution R.meets R.join
+        (one.items ++ other.items) all.items) }
+    ensures cost { ((x y : R) → Contains one.items x → Contains other.items y
+        → R.meets y x ≡ false)
+        → steps.new ≤ steps.old + sum_by (λ y. near R.shares one.items y) other.items }
+{
+    let alloc = *one.allocator();
+    let mut both = Both::of(alloc, hashing, one)?;
+    for value in other {
+        both = both.with_value(alloc, value, steps)?;
+    }
+    both.into_values()
+}
