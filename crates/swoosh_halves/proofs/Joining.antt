@@ -3,10 +3,11 @@ use Rattle.std.proofs.Common.{◌≡◌, Bool, List, [], ◌∷◌, ◌++◌, le
 use Rattle.std.specs.Prelude.{Contains, AllPairs}
 use Rattle.std.proofs.lemmas.List.{get_or_append_left, get_or_at, flat_map_more, map-append, map_push}
 use Rattle.std.proofs.lemmas.List.Elements.{Contains-append_right, Contains-append_cases}
-use Rattle.merge_laws.specs.Resolution.{JoinLaws, MatchLaws, KeyLaws, member, IsResolution, DoNotMatch, AreApart}
+use Rattle.merge_laws.specs.Resolution.{JoinLaws, MatchLaws, KeyLaws, IsResolution, DoNotMatch}
 use Rattle.merge_laws.proofs.Places.{Contains-head, AllPairs-append}
-use Rattle.merge_laws.proofs.Resolutions.{IsDominated-refl, IsResolution-from_apart, IsResolution-append, apart-from_resolution}
+use Rattle.merge_laws.proofs.Resolutions.{IsResolution-append, apart-from_resolution}
 use Rattle.merge_laws.proofs.Tags.{member-from_tag}
+use Rattle.swoosh_resolver.proofs.Pairing.{resolved_itself}
 use Rattle.swoosh_halves.specs.Groups.{ShareNoKey, AreCutApart, together}
 use Rattle.swoosh_halves.proofs.Grouping.{group_from_together}
 
@@ -23,17 +24,13 @@ next_apart strangers front group back cut x y cx cy = elim (Contains-append_case
 ]
 
 module _ {A K : Type 0} {match : A → A → Bool} {merge : A → A → A} {has_key : A → K → Type 0} {shares : A → A → Bool} (join : JoinLaws merge) (laws : MatchLaws match merge) (keys : KeyLaws match merge has_key shares) where
-  -- values of which no two match are their own resolution
-  itself : (list : List A) → AreApart match list → IsResolution match merge list list
-  itself list apart = IsResolution-from_apart join laws list list (λ e c. member c) (λ x c. (x, c, IsDominated-refl join laws x)) apart
-
   -- values that share no key do not match
   keys_apart : (x y : A) → ShareNoKey has_key x y → DoNotMatch match x y
   keys_apart x y none = ((λ m. let (k, hx, hy) = keys.matching x y m in none k hx hy), (λ m. let (k, hy, hx) = keys.matching y x m in none k hx hy))
 
   -- so strangers are their own resolution
   pub strangers_resolved : (strangers : List A) → AllPairs (ShareNoKey has_key) strangers → IsResolution match merge strangers strangers
-  strangers_resolved strangers none = itself strangers (λ i j d ij jl. keys_apart (get_or strangers i d) (get_or strangers j d) (none i j d ij jl))
+  strangers_resolved strangers none = resolved_itself join laws strangers (λ i j d ij jl. keys_apart (get_or strangers i d) (get_or strangers j d) (none i j d ij jl))
 
   -- a block has its keys from the values, so the blocks of lists that share no key share none, and stand side by side
   pub resolved_beside : (I J E F : List A) → ((x y : A) → Contains I x → Contains J y → ShareNoKey has_key x y) → IsResolution match merge I E → IsResolution match merge J F → IsResolution match merge (I ++ J) (E ++ F)
@@ -43,7 +40,7 @@ module _ {A K : Type 0} {match : A → A → Bool} {merge : A → A → A} {has_
       let (y, cy, hy, up') = member-from_tag join laws keys.merged J f k (q.derived f cf) hf in
       none x y cx cy k hx hy in
       IsResolution-append join laws I J E F (E ++ F) p q
-      (itself (E ++ F) (AllPairs-append (DoNotMatch match) E F (apart-from_resolution join laws I E p) (apart-from_resolution join laws J F q)
+      (resolved_itself join laws (E ++ F) (AllPairs-append (DoNotMatch match) E F (apart-from_resolution join laws I E p) (apart-from_resolution join laws J F q)
       (λ e f ce cf. keys_apart e f (free e f ce cf))))
 
   -- one group more is resolved beside the strangers and the groups before it

@@ -1,4 +1,3 @@
 mod Linking
 mod Grouping
 mod Joining
-mod Indexing

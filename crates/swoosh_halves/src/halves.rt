@@ -7,9 +7,9 @@ ghost use Rattle.merge_laws.specs.Resolution.{IsResolution};
 ghost use Rattle.swoosh_halves.specs.Groups.{AreCutApart, together};
 
 use crate::groups::grouped_by_keys;
-use crate::indexed::resolve_by_halves;
+use crate::indexed::{resolve_by_halves, resolve_together};
 use key_hashing::hashing::Hashing;
-use merge_laws::laws::resolution_goes_on;
+use merge_laws::laws::{resolution_goes_on, resolution_is_apart};
 use merge_laws::resolvable::Resolvable;
 use std::thread::{Threads, join};
 use union_base::memory::Memory;
@@ -41,8 +41,8 @@ fn resolved<R: Resolvable>(hashing: Hashing, list: Vec<R>) -> Result<Vec<R>, Mem
 }
 
 /// The resolution of the list by 1 to 64 workers, in an order that is not fixed. Each half of the list is resolved by half of
-/// the workers, in a thread of its own where one can be made; one worker makes no thread. Its contract does not bound the match
-/// tests. Keys are hashed by these numbers. Returns `Memory` if allocation fails.
+/// the workers, in a thread of its own where one can be made, and then the blocks of both are resolved together; one worker makes no
+/// thread. Its contract does not bound the match tests. Keys are hashed by these numbers. Returns `Memory` if allocation fails.
 // Another thread may use a bound only where its type is Send, so the keys, which each worker makes for itself, are Send too.
 #[cycle(halves)]
 pub fn resolve_halves<Rt: Threads + Sync, R: Resolvable + Send>(
@@ -60,6 +60,7 @@ where
     if workers == 1 || list.len() < 2 {
         return resolved(hashing, list);
     }
+    resolution_is_apart::<R>();
     resolution_goes_on::<R>();
     let mut front = list;
     let back = front.split_off(front.len() / 2)?;
@@ -74,7 +75,5 @@ where
         ensures { IfOk result (λ all. IsResolution R.meets R.join back.items all.items) }
     { resolve_halves(rt, hashing, back, others) };
     let (one, other) = join(rt, resolve_front, resolve_back);
-    let mut blocks = one?;
-    blocks.append(&mut other?)?;
-    resolved(hashing, blocks)
+    resolve_together(hashing, one?, other?)
 }

@@ -4,6 +4,19 @@ use Rattle.std.proofs.lemmas.Result.{IfOk-at_ok, IfOk-weaker}
 use Rattle.merge_laws.specs.Resolution.{IsResolution}
 use Rattle.swoosh_halves.proofs.halves.+halves.Goals as goal
 
+-- no two blocks of a half match
+pub resolve_together-requires-clause-one : goal.resolve_together-requires-clause-one
+resolve_together-requires-clause-one g t c =
+    let front = c.split_off.new.self.items in
+    c.resolution_is_apart.ensures front c.in_ok-one.field-0.items
+    (IfOk-at_ok (λ found. IsResolution g.R.Resolvable.meets g.R.Join.join front found.items) {r = c.join-one.result.0} c.in_ok-one.was c.join-one.ensures.first)
+
+pub resolve_together-requires-clause-other : goal.resolve_together-requires-clause-other
+resolve_together-requires-clause-other g t c =
+    let back = c.in_ok-back.back.items in
+    c.resolution_is_apart.ensures back c.in_ok-other.field-0.items
+    (IfOk-at_ok (λ found. IsResolution g.R.Resolvable.meets g.R.Join.join back found.items) {r = c.join-one.result.1} c.in_ok-other.was c.join-one.ensures.second)
+
 -- what the blocks of the halves resolve to, the list does
 pub returns : goal.returns
 returns g t c =
@@ -12,13 +25,13 @@ returns g t c =
     let list = c.args.list.items in
     let front = c.split_off.new.self.items in
     let back = c.in_ok-back.back.items in
-    let one = c.in_ok-blocks.blocks.items in
+    let one = c.in_ok-one.field-0.items in
     let other = c.in_ok-other.field-0.items in
     let whole : front ++ back ≡ list = ap₂ ◌++◌ c.in_ok-back.ensures.items c.in_ok-back.ensures.tail ∙ take-append-drop _ list in
-    IfOk-weaker c.resolved-2.result (λ all. IsResolution match merge c.append.new.self.items all.items) (λ all. IsResolution match merge list all.items)
+    IfOk-weaker c.resolve_together.result (λ all. IsResolution match merge (one ++ other) all.items) (λ all. IsResolution match merge list all.items)
     (λ all blocks. subst (λ l. IsResolution match merge l all.items) whole
     (c.resolution_goes_on.ensures.with_list front back one other all.items
-    (IfOk-at_ok (λ found. IsResolution match merge front found.items) {r = c.join-one.result.0} c.in_ok-blocks.was c.join-one.ensures.first)
+    (IfOk-at_ok (λ found. IsResolution match merge front found.items) {r = c.join-one.result.0} c.in_ok-one.was c.join-one.ensures.first)
     (IfOk-at_ok (λ found. IsResolution match merge back found.items) {r = c.join-one.result.1} c.in_ok-other.was c.join-one.ensures.second)
-    (rw c.in_ok-append.ensures.items at blocks)))
-    c.resolved-2.ensures
+    blocks))
+    c.resolve_together.ensures
