@@ -1,1 +1,2 @@
 pub mod SmallSets
+pub mod CountedSets
