@@ -11,8 +11,7 @@ ghost use Rattle.merge_laws.specs.Reach.{near};
 ghost use Rattle.swoosh_resolver.specs.Tables.{values_of};
 ghost use Rattle.swoosh_resolver.specs.Insertions.{MergesMatch};
 
-use crate::change::values_in;
-use crate::keyed::Seeker;
+use crate::keyed::{Placed, Seeker};
 use crate::opened::Opened;
 use crate::split::open_values;
 use key_hashing::hashing::Hashing;
@@ -21,6 +20,18 @@ use merge_laws::steps::Steps;
 use std::alloc::Global;
 use std::sync::ledger::Ledger;
 use union_base::memory::Memory;
+
+/// The values alone, in their order. Returns `Memory` if allocation fails.
+fn values_in<R: Resolvable>(entries: Vec<Placed<R>>) -> Result<Vec<R>, Memory>
+    ensures { IfOk result (λ values. values.items ≡ values_of entries.items) }
+{
+    let mut values = Vec::with_capacity(*entries.allocator(), entries.len())?;
+    for entry in entries {
+        let Placed { value, places: _ } = entry;
+        values.push(value)?;
+    }
+    Ok(values)
+}
 
 /// Values of which no two match, in two rows, each with an index of their keys: those that a value to come is tested against, which
 /// are the values of the first list and merges, and those that it is known not to match, which are values of its own list.
