@@ -12,7 +12,7 @@
 //! order; each accepted record asks for one operation; and a batch is of one library, with as many operations as a turn may have.
 //! Cost: merging and matching walk sorted lists side by side; merging copies features and contributors, and no content. One more
 //! owner of an edition takes no memory. The content of an edition of several records is made by each call that asks for it. What it
-//! shows is borrowed from the contents of its records, of which its work key is made too: neither merges or copies any.
+//! shows is borrowed from the contents of its records, of which its work key is made too: neither merges nor copies any.
 #![tactic(auto)]
 
 mod added_entries;
