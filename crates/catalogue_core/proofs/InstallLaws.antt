@@ -29,7 +29,7 @@ use Rattle.authority_names.specs.Leads.{Table}
 use Rattle.catalogue_core.specs.ClosedKeys.{closed_pairs}
 use Rattle.catalogue_core.specs.Grouping.{WorkList, KeptWorks}
 use Rattle.catalogue_core.specs.Histories.{MapOf, at_id, is_current, after_batch, bases, current}
-use Rattle.catalogue_core.specs.Homes.{Block, has_contributor, place_of, places_in, admitted, others, moved, housed_all}
+use Rattle.catalogue_core.specs.Homes.{Block, has_contributor, place_of, places_in, admitted, others, moved, housed_all, AreStillHoused}
 use Rattle.catalogue_editions.specs.Ids.{least}
 use Rattle.catalogue_editions.specs.Joining.{join}
 use Rattle.catalogue_editions.specs.JoinLaws.{edition_join_laws}
@@ -130,6 +130,39 @@ from-mapped : {A B : Type 0} (f : A → B) (o : Option A) (y : B) → option_map
 from-mapped f None y is = absurd cc
 from-mapped f (Some x) y is = (x, refl, cc)
 
+-- the homes of what is kept are in the order of the ids
+ordered-kept : (history : List HistoryEntry) (homes : MapOf Home) (blocks : List (Option Block)) (works : KeptWorks) → IsKept history homes blocks works → IsStrictlySortedBy id_cmp (keys_of homes)
+ordered-kept history homes blocks works k = subst (IsStrictlySortedBy id_cmp)
+    (sym (keys-values Some (current history)) ∙ ap keys_of (sym k.current.loads) ∙ keys-values (loaded_at (batches history)) (places_in homes) ∙ keys-values (λ (home : Home). home.place) homes)
+    (ordered-current history)
+
+-- a home that is settled stays in its block
+block-settled : (t : Option (Option Place)) (home h₀ : Home) → settled_at t (Some home) ≡ Some h₀ → h₀.block ≡ home.block
+block-settled None home h₀ is = let one : home ≡ h₀ = cc in ap (λ (x : Home). x.block) (sym one)
+block-settled (Some None) home h₀ is = cc
+block-settled (Some (Some place)) home h₀ is = let one : ◌≡◌ {A = Home} (record { place = place; block = home.block }) h₀ = cc in ap (λ (x : Home). x.block) (sym one)
+
+-- once homes are settled, those of the contributors of blocks are where they were
+pub still-settled : (history : List HistoryEntry) (homes : MapOf Home) (blocks : List (Option Block)) (works : KeptWorks) → IsKept history homes blocks works
+    → (touched : MapOf (Option Place)) → IsStrictlySortedBy id_cmp (keys_of touched)
+    → (let-in : MapOf Home) → let-in ≡ fold admitted homes touched
+    → (rest : MapOf (Option Place)) → rest ≡ others homes touched
+    → (settled : MapOf Home) → settled ≡ fold moved let-in rest
+    → (roomy : List (Option Block)) → roomy ≡ blocks
+    → AreStillHoused roomy settled
+still-settled history homes blocks works k touched up let-in lets rest lists settled settles roomy same' =
+    let found : settled ≡ fold moved (fold admitted homes touched) (others homes touched) =
+    settles ∙ ap (λ all. fold moved all rest) lets ∙ ap (fold moved (fold admitted homes touched)) lists in
+    record {
+      each = λ n e q h₀ stands bears at.
+          let (home, old, is) = k.housed.only n e q (sym (ap (λ (bs : List (Option Block)). block_at bs n) same') ∙ stands) bears in
+          block-settled (at_id touched q) home h₀
+          (ap (settled_at (at_id touched q)) (sym old)
+          ∙ sym (home-settled touched homes q up (ordered-kept history homes blocks works k))
+          ∙ sym (ap (λ (all : MapOf Home). at_id all q) found) ∙ at)
+          ∙ is;
+    }
+
 module _ (history : List HistoryEntry) (entry : HistoryEntry) (homes : MapOf Home) (blocks : List (Option Block)) (works : KeptWorks) (k : IsKept history homes blocks works) (closed : List ℕ) (opened : List Block) (touched : MapOf (Option Place)) (numbers : List ℕ) (p : IsPlanned (batches history ++ entry.batch ∷ []) homes blocks (after_batch (current history) entry.batch) closed opened touched) where
   abbrev all : List Batch
   all = batches history ++ entry.batch ∷ []
@@ -147,9 +180,7 @@ module _ (history : List HistoryEntry) (entry : HistoryEntry) (homes : MapOf Hom
   homes' = housed_all settled opened numbers
 
   ordered-homes : IsStrictlySortedBy id_cmp (keys_of homes)
-  ordered-homes = subst (IsStrictlySortedBy id_cmp)
-      (sym (keys-values Some (current history)) ∙ ap keys_of (sym k.current.loads) ∙ keys-values (loaded_at (batches history)) (places_in homes) ∙ keys-values (λ (home : Home). home.place) homes)
-      (ordered-current history)
+  ordered-homes = ordered-kept history homes blocks works k
 
   ordered-homes' : IsStrictlySortedBy id_cmp (keys_of homes')
   ordered-homes' = ordered-housed_all opened numbers settled (ordered-moved (others homes touched) let-in (ordered-admitted touched homes ordered-homes))
@@ -208,7 +239,7 @@ module _ (history : List HistoryEntry) (entry : HistoryEntry) (homes : MapOf Hom
                 | inl (n, e, stands, open', same') ↦
                     (let has' : IsTrue (has_contributor q e.value) = ap (has_contributor q) same' ∙ bears in
                     let (home, old, is) = k.housed.only n e q stands has' in
-                    let number' : h₀.block ≡ home.block = moved-block (at_id touched q) home h₀ (sym (at-settled q ∙ ap (settled_at (at_id touched q)) old) ∙ at₀) in
+                    let number' : h₀.block ≡ home.block = block-settled (at_id touched q) home h₀ (sym (at-settled q ∙ ap (settled_at (at_id touched q)) old) ∙ at₀) in
                     (e, ap (block_at blocks') (block ∙ number' ∙ is) ∙ kept n e stands open', has'))
                 | inr (e, ce, same') ↦ absurd (none e ce (ap (has_contributor q) same' ∙ bears))
               ])
@@ -216,11 +247,6 @@ module _ (history : List HistoryEntry) (entry : HistoryEntry) (homes : MapOf Hom
       where
         got-number : (i m : ℕ) → i < length opened → slice_get numbers i ≡ Some m → m ≡ number_at closed (length blocks) i
         got-number i m below is = sym (get_or_from_slice_get numbers i m 0 is) ∙ given.each i below
-
-        moved-block : (t : Option (Option Place)) (home h₀ : Home) → settled_at t (Some home) ≡ Some h₀ → h₀.block ≡ home.block
-        moved-block None home h₀ is = let one : home ≡ h₀ = cc in ap (λ (x : Home). x.block) (sym one)
-        moved-block (Some None) home h₀ is = cc
-        moved-block (Some (Some place)) home h₀ is = let one : ◌≡◌ {A = Home} (record { place = place; block = home.block }) h₀ = cc in ap (λ (x : Home). x.block) (sym one)
 
     housed-only : (n : ℕ) (e : Block) (q : RecordId) → block_at blocks' n ≡ Some e → IsTrue (has_contributor q e.value) → (home : Home) × (at_id homes' q ≡ Some home) × (home.block ≡ n)
     housed-only n e q stands bears =

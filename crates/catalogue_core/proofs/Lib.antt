@@ -3,6 +3,7 @@ mod Placing
 mod Growing
 pub mod Looking
 mod Housing
+mod StayLaws
 mod PlanLaws
 mod TurnLaws
 mod InstallLaws

@@ -32,6 +32,10 @@ pub record AreHoused (blocks : List (Option Block)) (homes : MapOf Home) : Type 
   pub each : (id : RecordId) (home : Home) → at_id homes id ≡ Some home → (e : Block) × (block_at blocks home.block ≡ Some e) × IsTrue (has_contributor id e.value)
   pub only : (number : ℕ) (e : Block) (id : RecordId) → block_at blocks number ≡ Some e → IsTrue (has_contributor id e.value) → (home : Home) × (at_id homes id ≡ Some home) × (home.block ≡ number)
 
+-- each contributor of a block that still has a home has it in that block
+pub record AreStillHoused (blocks : List (Option Block)) (homes : MapOf Home) : Type 0 where
+  pub each : (number : ℕ) (e : Block) (id : RecordId) (home : Home) → block_at blocks number ≡ Some e → IsTrue (has_contributor id e.value) → at_id homes id ≡ Some home → home.block ≡ number
+
 -- the place under the id: what a plan made of it, where the plan touched it, and else where the record was loaded
 abbrev pub place_of : MapOf Home → MapOf (Option Place) → RecordId → Option Place
 place_of homes touched id = unwrap_or (at_id touched id) (option_map (λ home. home.place) (at_id homes id))
@@ -73,6 +77,14 @@ abbrev pub housed_all : MapOf Home → List Block → List ℕ → MapOf Home
 housed_all homes [] numbers = homes
 housed_all homes (e ∷ opened) [] = homes
 housed_all homes (e ∷ opened) (number ∷ numbers) = housed_all (housed number homes e.value.content.contributors) opened numbers
+
+-- the contributors of the edition under the number, and none where no block has it
+abbrev pub contributors_at : List (Option Block) → ℕ → List RecordId
+contributors_at blocks number = unwrap_or (option_map (λ e. e.value.content.contributors) (block_at blocks number)) []
+
+-- the homes of the ids that are in both lists have that number already
+pub record StayAt (number : ℕ) (homes : MapOf Home) (before ids : List RecordId) : Type 0 where
+  pub each : (id : RecordId) (home : Home) → IsTrue (has id_cmp before id) → IsTrue (has id_cmp ids id) → at_id homes id ≡ Some home → home.block ≡ number
 
 -- the edition that is the block of the home, where its least contributor is the id
 abbrev pub named : List (Option Block) → RecordId × Home → Option Edition

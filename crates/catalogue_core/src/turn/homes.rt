@@ -8,10 +8,17 @@
 //! other ids that the turn touched. The calls after it (`move_all`, `house_all`) change or remove homes that are there. They take
 //! no memory and cannot fail.
 //!
+//! An opened block often takes the number of a closed one, from which it differs by a few contributors. The homes of the others
+//! have that number already, and `house_all` leaves them as they are.
+//!
 //! Cost: `admit` searches the table once for each id that is current after the turn, `move_all` once for each touched id that is
-//! not new, and `house_all` once for each contributor of a block that the turn opens.
+//! not new, and `house_all` once for each contributor of a block that the turn opens which the block that stood under its number
+//! has not. It finds these by one walk along the contributors of both blocks.
 ghost use Rattle.std.specs.Prelude.{◌≡◌, ◌≤◌, length, map, fold, IfOk, OnOk, OnErr};
-ghost use Rattle.catalogue_core.specs.Homes.{is_new, admitted, others, taken_back, moved, housed, housed_all};
+ghost use Rattle.merge_laws.specs.Resolution.{AreApart};
+ghost use Rattle.swoosh_resolver.specs.Tables.{values_of};
+ghost use Rattle.catalogue_core.specs.Homes.{is_new, admitted, others, taken_back, moved, housed, housed_all, contributors_at, AreStillHoused, StayAt};
+ghost use Rattle.catalogue_editions.specs.Matching.{match as edition_match};
 
 use crate::turn::ascending_ids::AscendingIds;
 use catalogue_editions::edition::Edition;
@@ -19,6 +26,8 @@ use record_homes::home::Home;
 use record_homes::place::Place;
 use record_homes::table::HomeTable;
 use std::alloc::Global;
+use std::cmp::Ordering;
+use swoosh_resolver::blocks::Blocks;
 use swoosh_resolver::keyed::Placed;
 use union_base::copied::Copied;
 use union_base::memory::Memory;
@@ -139,16 +148,76 @@ fn house(homes: &mut HomeTable, ids: &[RecordId], number: u64)
     }
 }
 
-/// Sets the block in the home of each contributor of an opened block to the number of that block. Takes no memory.
-pub fn house_all(homes: &mut HomeTable, opened: &[Placed<Edition>], numbers: &[u64])
-    requires { length opened.now ≤ length numbers.now }
+/// The same, but an id that is among `before` too is passed over: its home has that number already. Both lists are walked once, side
+/// by side, in the order of the ids. Takes no memory.
+fn house_newcomers(homes: &mut HomeTable, before: &[RecordId], ids: &[RecordId], number: u64)
+    requires { StayAt number homes.old.entries before.now ids.now }
+    ensures { homes.new.entries ≡ housed number homes.old.entries ids.now }
+{
+    let mut left = ids;
+    let mut right = before;
+    while let (Some((id, lefts)), Some((other, rights))) = (
+        left.split_first(),
+        right.split_first(),
+    ) {
+        match id.cmp(other) {
+            Ordering::Less => {
+                homes.set_block(id, number);
+                left = lefts;
+            }
+            Ordering::Equal => {
+                (left, right) = (lefts, rights);
+            }
+            Ordering::Greater => {
+                right = rights;
+            }
+        }
+    }
+    house(homes, left, number);
+}
+
+/// The contributors of the edition under the number, and none where no block has it. Takes no memory.
+fn contributors_at(blocks: &Blocks<Edition>, number: u64) -> &[RecordId]
+    ensures { result.now ≡ contributors_at blocks.now.blocks number }
+{
+    match blocks.block(number) {
+        Some(edition) => edition.contributors().as_slice(),
+        None => &[],
+    }
+}
+
+/// Sets the block in the home of each contributor of the opened block to that number. Those that the block which stands under the
+/// number has too are passed over. Takes no memory.
+fn house_block(
+    homes: &mut HomeTable,
+    blocks: &Blocks<Edition>,
+    placed: &Placed<Edition>,
+    number: u64,
+)
+    requires { StayAt number homes.old.entries (contributors_at blocks.now.blocks number)
+        placed.now.value.content.contributors }
+    ensures { homes.new.entries
+        ≡ housed number homes.old.entries placed.now.value.content.contributors }
+{
+    let before = contributors_at(blocks, number);
+    let ids = placed.value.contributors().as_slice();
+    house_newcomers(homes, before, ids, number);
+}
+
+/// Sets the block in the home of each contributor of an opened block to the number of that block. `blocks` are those before the
+/// change. Takes no memory.
+pub fn house_all(
+    homes: &mut HomeTable,
+    blocks: &Blocks<Edition>,
+    opened: &[Placed<Edition>],
+    numbers: &[u64],
+)
+    requires numbered { length opened.now ≤ length numbers.now }
+    requires apart { AreApart edition_match (values_of opened.now) }
+    requires still { AreStillHoused blocks.now.blocks homes.old.entries }
     ensures { homes.new.entries ≡ housed_all homes.old.entries opened.now numbers.now }
 {
     for (place, placed) in opened.iter().enumerate() {
-        house(
-            homes,
-            placed.value.contributors().as_slice(),
-            numbers[place],
-        );
+        house_block(homes, blocks, placed, numbers[place]);
     }
 }

@@ -155,7 +155,12 @@ pub fn install(
     let touched = touched.into_list(alloc)?;
     let rest = admit(alloc, homes, &touched)?;
     move_all(homes, rest);
-    house_all(homes, ready.opened.as_slice(), ready.numbers.as_slice());
+    house_all(
+        homes,
+        blocks,
+        ready.opened.as_slice(),
+        ready.numbers.as_slice(),
+    );
     blocks.install(ready);
     regroup(&mut works.works, regrouped);
     let _ = history.push(entry);
