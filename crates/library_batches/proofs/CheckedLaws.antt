@@ -1,4 +1,4 @@
--- One more frame of a block is checked.
+-- One more frame of a block is checked, or more frames.
 use Rattle.std.proofs.Common.{◌≡◌, ℕ, suc, ◌+◌, Bool, true, false, List, [], ◌∷◌, ◌++◌, length, append_assoc, append-nil, refl, sym, ap, ◌∙◌, arith, add-zero}
 use Rattle.std.specs.Prelude.{map, filter, is_none, Some, None, IsTrue}
 use Rattle.std.specs.List.{AllZip, list_all}
@@ -57,9 +57,26 @@ AllZip-one_more R [] (b ∷ ys) x y all one = absurd all
 AllZip-one_more R (a ∷ xs) [] x y all one = absurd all
 AllZip-one_more R (a ∷ xs) (b ∷ ys) x y all one = (all.0, AllZip-one_more R xs ys x y all.1 one)
 
+-- two lists that go together, and two more behind them
+AllZip-more : {A B : Type 0} (R : A → B → Type 0) (xs : List A) (ys : List B) (vs : List A) (ws : List B) → AllZip R xs ys → AllZip R vs ws
+    → AllZip R (xs ++ vs) (ys ++ ws)
+AllZip-more R [] [] vs ws all more = more
+AllZip-more R [] (b ∷ ys) vs ws all more = absurd all
+AllZip-more R (a ∷ xs) [] vs ws all more = absurd all
+AllZip-more R (a ∷ xs) (b ∷ ys) vs ws all more = (all.0, AllZip-more R xs ys vs ws all.1 more)
+
 -- one more that passes
 list_all-one_more : {A : Type 0} (p : A → Bool) (xs : List A) (x : A) → list_all p xs ≡ true → p x ≡ true → list_all p (xs ++ x ∷ []) ≡ true
 list_all-one_more p xs x all one = list_all-append p xs (x ∷ []) ∙ (rw (all, one) refl)
+
+-- more that pass
+list_all-more : {A : Type 0} (p : A → Bool) (xs ys : List A) → list_all p xs ≡ true → list_all p ys ≡ true → list_all p (xs ++ ys) ≡ true
+list_all-more p xs ys all more = list_all-append p xs ys ∙ (rw (all, more) refl)
+
+-- the accepted ones of frames in two parts
+accepted-append : (xs ys : List Frame) → accepted (xs ++ ys) ≡ accepted xs ++ accepted ys
+accepted-append xs ys =
+    ap (map (λ (f : Frame). f.1)) (filter-append is_accepted xs ys) ∙ map-append (λ (f : Frame). f.1) (filter is_accepted xs) (filter is_accepted ys)
 
 -- nothing is checked at first
 pub IsChecked-none : (prefer : List (List ℕ)) (library : List ℕ) (start : ℕ) (before : List RefusedFrame) → IsChecked prefer library start [] [] before before
@@ -92,4 +109,15 @@ IsChecked-refused prefer library start number taken frame ops before now now' fa
       ∙ (append_assoc before _ _ ∙ sym (ap (λ xs. before ++ xs) (refused_from-one_more start taken frame
       ∙ (ap (λ f. refused_from start taken ++ refusal_of (start + length taken) f) fails
       ∙ ap (λ k. refused_from start taken ++ refusal_of k (Some failure)) (sym place))))));
+}
+
+-- frames, and more frames behind them
+pub IsChecked-more : (prefer : List (List ℕ)) (library : List ℕ) (start : ℕ) (xs ys : List Frame) (ops more : List Op) (before now later : List RefusedFrame)
+    → IsChecked prefer library start xs ops before now → IsChecked prefer library (start + length xs) ys more [] later
+    → IsChecked prefer library start (xs ++ ys) (ops ++ more) before (now ++ later)
+IsChecked-more prefer library start xs ys ops more before now later one two = record {
+  asked = rw (accepted-append xs ys) (AllZip-more (IsOpOf prefer library) (accepted xs) ops (accepted ys) more one.asked two.asked);
+  own = list_all-more (is_own_op library) ops more one.own two.own;
+  refused = ap (λ r. r ++ later) one.refused ∙ (append_assoc before (refused_from start xs) later
+      ∙ (ap (λ r. before ++ (refused_from start xs ++ r)) two.refused ∙ sym (ap (λ r. before ++ r) (refused_from-append start xs ys))));
 }

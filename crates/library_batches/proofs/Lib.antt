@@ -1,4 +1,5 @@
 pub mod CheckedLaws
+pub mod ShareLaws
 pub mod BlockLaws
 pub mod PassedLaws
 pub mod HandingLaws

@@ -14,7 +14,7 @@ use Rattle.library_batches.specs.Streams.{Frame, is_accepted, accepted}
 use Rattle.library_batches.specs.Refused.{refused_from}
 use Rattle.library_batches.specs.Batches.{AreBatches, AreFirstBatches, IsBatchOf, IsOpOf, block_size}
 use Rattle.library_batches.specs.Reading.{Batching, AnswersBatch, KeepsFrames, ahead}
-use Rattle.library_batches.specs.Blocks.{IsBlock, IsChecked, IsFull, StopsBehind, BlockAnswers}
+use Rattle.library_batches.specs.Blocks.{IsBlock, IsChecked, IsFull, StopsBehind, BlockAnswers, AnswersCut}
 use Rattle.library_batches.specs.declared.block.Block.{Block}
 use Rattle.library_batches.specs.declared.refused.RefusedFrame.{RefusedFrame}
 use Rattle.library_batches.specs.declared.stop.Stop.{Stop}
@@ -163,6 +163,13 @@ pub Answers-stopped : (stop : Stop) (a b c : Batching) (one two three : Option (
 Answers-stopped TooLong a b c one two three passed stops = Answers-long a b c one two three passed stops.0 stops.1
 Answers-stopped Failed a b c one two three passed stops = Answers-failed a b c one two three passed stops
 Answers-stopped Memory a b c one two three passed stops = Answers-memory a b c one two three passed stops
+
+-- the cutting of a block stopped
+pub BlockAnswers-stopped : (stop : Stop) (a b : Batching) (one two : Option (List ℕ)) (taken : List Frame) → AnswersCut (Err stop) a.stream one b.stream two taken
+    → BlockAnswers (Err stop) a one b two
+BlockAnswers-stopped TooLong a b one two taken stops = stops
+BlockAnswers-stopped Failed a b one two taken stops = stops
+BlockAnswers-stopped Memory a b one two taken stops = stops
 
 -- no fewer operations than one and no more than frames: they fit a batch
 pub is_batch-block : (prefer : List (List ℕ)) (library : List ℕ) (start : ℕ) (taken : List Frame) (ops : List Op) (before now : List RefusedFrame)

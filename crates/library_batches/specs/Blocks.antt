@@ -48,3 +48,11 @@ BlockAnswers (Ok block) before left now left' = IsBlock before left now left' bl
 BlockAnswers (Err TooLong) before left now left' = StopsBehind before.stream left now.stream left' × (now.stream ≡ stopped)
 BlockAnswers (Err Failed) before left now left' = StopsBehind before.stream left now.stream left'
 BlockAnswers (Err Memory) before left now left' = StopsBehind before.stream left now.stream left'
+
+-- what an answer on the cutting of a block says of the frames that were cut: these were ahead, and the block is full, unless the
+-- source ended within it
+abbrev pub AnswersCut : Result Bool Stop → Streaming → Option (List ℕ) → Streaming → Option (List ℕ) → List Frame → Type 0
+AnswersCut (Ok ended) before left now left' taken = Takes before left now left' taken × IsFull ended now (length taken)
+AnswersCut (Err TooLong) before left now left' taken = StopsBehind before left now left' × (now ≡ stopped)
+AnswersCut (Err Failed) before left now left' taken = StopsBehind before left now left'
+AnswersCut (Err Memory) before left now left' taken = StopsBehind before left now left'

@@ -3,6 +3,7 @@ pub mod Refused
 pub mod Batches
 pub mod Reading
 pub mod Blocks
+pub mod Shares
 pub mod Within
 pub mod Handing
 pub mod Outcomes

@@ -25,11 +25,11 @@ use union_io::source::Source;
 /// loaded, the library, what the source still gives, how many frames were cut, and which of them are refused.
 #[derive(Drop)]
 pub struct BatchReader {
-    prefer: Preference,
-    library: LibraryCode,
-    frames: u64,
-    refused: Vec<RefusedFrame>,
-    reader: FrameReader,
+    pub(crate) prefer: Preference,
+    pub(crate) library: LibraryCode,
+    pub(crate) frames: u64,
+    pub(crate) refused: Vec<RefusedFrame>,
+    pub(crate) reader: FrameReader,
 }
 
 impl Model for BatchReader {

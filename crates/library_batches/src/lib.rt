@@ -2,17 +2,22 @@
 //!
 //! A source is read to its end, its frames are cut and checked (ISO 2709; the nineteen rules), and the accepted ones of each
 //! 256 frames make one batch of operations, which is one turn at a catalogue. `batch_reader::BatchReader` hands the batches
-//! out one after the other and keeps the refused frames. The definitions are `AreBatches`, of specs/Batches, and `refused`,
+//! out one after the other and keeps the refused frames; its call `next_by` has the frames of a batch checked by several
+//! workers, and hands out the same. The definitions are `AreBatches`, of specs/Batches, and `refused`,
 //! of specs/Refused, on the frames of the whole source; `outcome_counts::OutcomeCounts` counts what came of the operations.
 //!
 //! Each frame is checked once and made into a record once, which is gone when its operation is made. Memory grows with the
-//! operations of one batch and with the refused frames.
+//! operations of one batch and with the refused frames, and where several workers check them with the frames of one batch.
 #![tactic(auto)]
 
 pub mod batch_reader;
 mod block;
+mod by_workers;
 mod checking;
+mod cut_frame;
+mod cutting;
 pub mod laws;
 pub mod outcome_counts;
 pub mod refused;
+mod shares;
 pub mod stop;
