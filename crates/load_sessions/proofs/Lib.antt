@@ -1,3 +1,4 @@
 pub mod TallyLaws
 pub mod TurnLaws
+pub mod AheadLaws
 pub mod AskLaws

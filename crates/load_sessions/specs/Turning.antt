@@ -2,6 +2,7 @@
 use Rattle.std.specs.Prelude.{◌≡◌, ◌≢◌, ℕ, ◌<◌, List, length, take, Option, Result, Ok, Err, IfSome, OnOk}
 use Rattle.iso2709_frame.specs.Frames.{frames}
 use Rattle.union_io.specs.Causes.{Rose}
+use Rattle.catalogue_editions.specs.declared.batch.Batch.{Batch}
 use Rattle.catalogue_lock.specs.Tokens.{view}
 use Rattle.library_batches.specs.Batches.{AreFirstBatches}
 use Rattle.library_batches.specs.Handing.{IsRead}
@@ -38,3 +39,10 @@ Ends (Ok done) end = end ≡ Done
 Ends (Err TooLong) end = end ≡ TooLongEnd
 Ends (Err Failed) end = end ≡ ReadFault
 Ends (Err Memory) end = end ≡ MemoryEnd
+
+-- why a session stops whose turn was refused memory, where its reader answered that beside the turn: a read that failed is told first
+abbrev pub stop_beside : Result (Option Batch) Stop → Stop
+stop_beside (Ok next) = Memory
+stop_beside (Err TooLong) = Memory
+stop_beside (Err Failed) = Failed
+stop_beside (Err Memory) = Memory

@@ -2,22 +2,27 @@
 //!
 //! A session reads the source of one library and makes one turn at the desk for each of its batches (`library_batches`). Before it
 //! asks for the turn, it resolves the records of the batch among themselves (`preparing`), so that the turn inserts what they
-//! come to.
+//! come to. A session that has several workers reads and prepares its next batch while it makes the turn of the one
+//! before it (`ahead`).
 //! `running::run_sessions` runs some sessions on some threads. Whatever their turns' order, each session's pass has gained
 //! the first batches of its source in their order, and all of them where its end is Done; its report then has the frames, the
 //! refused ones, and what came of its operations in the one history of the desk. The machine of the desk is
 //! `served::Served`, whose entries are the history of a catalogue. Definitions: specs/Sessions.antt, specs/Tallies.antt,
 //! specs/Askers.antt.
 //!
-//! Cost: a turn for each batch, and of memory the reader of one source for each session that is under way.
+//! Cost: a turn for each batch, and of memory the reader of one source for each session that is under way, with one batch, or two
+//! where it reads ahead, which makes a thread for each turn.
 #![tactic(auto)]
 
+mod ahead;
 pub mod asker;
 pub mod asking;
 pub mod crew;
+mod due;
 pub mod end;
 pub mod preparing;
 pub mod questions;
+mod reading;
 pub mod report;
 pub mod running;
 pub mod served;

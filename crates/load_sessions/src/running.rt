@@ -54,7 +54,7 @@ fn report_of(reader: BatchReader, counts: OutcomeCounts) -> Report
 }
 
 /// Runs a session with a reader that was made for it.
-fn run_reader<R: Threads + Wait + Sync, S: Source, G: Gate>(
+fn run_reader<R: Threads + Wait + Sync, S: Source + Send, G: Gate>(
     rt: &R,
     alloc: Global,
     desk: &Desk<Served>,
@@ -84,8 +84,8 @@ fn run_reader<R: Threads + Wait + Sync, S: Source, G: Gate>(
     session.end = end_of(turned);
 }
 
-/// Runs a session: reads its source, and makes a turn for each of its batches, which the crew prepares.
-pub(crate) fn run_session<R: Threads + Wait + Sync, S: Source, G: Gate>(
+/// Runs a session: reads its source, and makes a turn for each of its batches, which the crew reads and prepares.
+pub(crate) fn run_session<R: Threads + Wait + Sync, S: Source + Send, G: Gate>(
     rt: &R,
     alloc: Global,
     desk: &Desk<Served>,
@@ -104,17 +104,17 @@ pub(crate) fn run_session<R: Threads + Wait + Sync, S: Source, G: Gate>(
     }
 }
 
-/// Who prepares the batches of each session: all workers where there is one session. Else there is one for each, since the sessions
-/// themselves are in threads of their own, and while one waits for its turn the others prepare.
+/// Who reads and prepares the batches of each session: its share of the workers, and one where there are fewer workers than sessions.
+/// The sessions themselves are in threads of their own, and while one waits for its turn the others prepare.
 fn preparers(crew: Crew, sessions: usize) -> Crew
     requires some { 1 ≤ crew.workers }
     requires most { crew.workers ≤ 64 }
     ensures some { 1 ≤ result.workers }
     ensures most { result.workers ≤ 64 }
 {
-    let workers = if sessions == 1 { crew.workers } else { 1 };
+    let share = crew.workers as usize / sessions.max(1);
     Crew {
-        workers,
+        workers: share.max(1).min(64) as u32,
         hashing: crew.hashing,
     }
 }
@@ -148,7 +148,8 @@ fn run_each<R: Threads + Wait + Sync, S: Source + Send, G: Gate>(
 ///
 /// Each session reads its source, cuts and checks its frames, and makes a turn with its pass for each batch of accepted
 /// operations; `gate` is told before and after each turn. With one worker the sessions run in their order and the asker runs
-/// last. With more they run on as many threads, each of which has neighbouring sessions, and the asker runs beside them.
+/// last. With more they run on as many threads, each of which has neighbouring sessions, and the asker runs beside them. Where there
+/// are twice as many workers as sessions, each session reads its next batch while it makes a turn.
 ///
 /// A session ends with `ReadFault` only where a read of its source failed, with `TooLong` where its source gave `limit` bytes
 /// and at least one more, with `Memory` where allocation failed, and else with `Done`. The batches that a session turned are the
