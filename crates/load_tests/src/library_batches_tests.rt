@@ -1,5 +1,5 @@
-//! Sources of few and of many records in pieces of several sizes, refused frames among them, limits, and a read that fails.
-//! `batches_of` is the loop of a caller that keeps each batch.
+//! Sources of few and of many records in pieces of several sizes, refused frames among them, limits, and a read that fails; by one
+//! reader, and with several workers. `batches_of` is the loop of a caller that keeps each batch.
 ghost use Rattle.std.specs.Prelude.{◌≤◌};
 
 use catalogue_core::batch::Batch;
@@ -14,6 +14,7 @@ use library_stream::frame_reader::LARGEST_SOURCE;
 use marc_fields::rules::Rule;
 use std::alloc::Global;
 use std::test::Fail;
+use std::thread::Threads;
 use union_base::bytes::Bytes;
 use union_base::library_code::LibraryCode;
 use union_base::memory::Memory;
@@ -41,6 +42,27 @@ fn batches_of<S: Source>(
     let mut batches = Vec::new(alloc);
     loop {
         match reader.next(alloc, source)? {
+            Some(batch) => keep(&mut batches, batch)?,
+            None => return Ok((batches, reader)),
+        }
+    }
+}
+
+/// The same with the frames checked by so many workers.
+fn batches_by<R: Threads + Sync, S: Source>(
+    rt: &R,
+    alloc: Global,
+    library: &LibraryCode,
+    source: &mut S,
+    workers: u32,
+) -> Result<(Vec<Batch>, BatchReader), Stop>
+    requires least { 1 ≤ workers }
+    requires most { workers ≤ 64 }
+{
+    let mut reader = BatchReader::open(alloc, &Preference::none(), library, LARGEST_SOURCE)?;
+    let mut batches = Vec::new(alloc);
+    loop {
+        match reader.next_by(rt, alloc, source, workers)? {
             Some(batch) => keep(&mut batches, batch)?,
             None => return Ok((batches, reader)),
         }
@@ -77,6 +99,19 @@ fn records(alloc: Global, times: usize, tail: &[u8]) -> Result<Bytes, Memory> {
         stream.extend_from_slice(ONE)?;
     }
     stream.extend_from_slice(tail)?;
+    Ok(Bytes::from(stream))
+}
+
+/// 321 frames: 280 records, a refused frame after each seventh of them, and a withdrawal.
+fn mixed(alloc: Global) -> Result<Bytes, Memory> {
+    let mut stream = Vec::new(alloc);
+    for place in 1..281 {
+        stream.extend_from_slice(ONE)?;
+        if place % 7 == 0 {
+            stream.push(b'\x1D')?;
+        }
+    }
+    stream.extend_from_slice(WITHDRAWAL)?;
     Ok(Bytes::from(stream))
 }
 
@@ -131,6 +166,57 @@ fn the_reading_stops_at_the_limit_and_at_a_failure(rt: HostRuntime) -> Result<()
     let mut failing = MemSource::of(records(alloc, 2, b"")?, [1].to_vec(alloc)?, 100);
     let answer = batches_of(alloc, &library, 228, &mut failing);
     assert!(rt; matches!(&answer, Err(Stop::Failed)));
+    Ok(())
+}
+
+/// Whether so many workers hand out batches with this text, of all 321 frames, and refuse these.
+fn are_handed_out<R: Threads + Sync>(
+    rt: &R,
+    alloc: Global,
+    library: &LibraryCode,
+    workers: u32,
+    text: &[u8],
+    refused: &[RefusedFrame],
+) -> Result<bool, Stop>
+    requires least { 1 ≤ workers }
+    requires most { workers ≤ 64 }
+{
+    let mut source = SureSource::of(mixed(alloc)?, 4096);
+    let (batches, reader) = batches_by(rt, alloc, library, &mut source, workers)?;
+    let found = shown(alloc, batches.as_slice())?;
+    Ok(found.as_slice() == text && reader.frames() == 321 && reader.refused() == refused)
+}
+
+#[test]
+fn several_workers_hand_out_the_same(rt: HostRuntime) -> Result<(), Fail> {
+    let alloc = rt.alloc();
+    let library = LibraryCode::read(b"LIBA").ok_or("a library code")?;
+    let mut source = SureSource::of(mixed(alloc)?, 4096);
+    let (batches, alone) = batches_of(alloc, &library, LARGEST_SOURCE, &mut source)?;
+    let text = shown(alloc, batches.as_slice())?;
+    assert!(rt; (batches.len(), alone.frames(), alone.refused().len()) == (2, 321, 40));
+    let same = are_handed_out(&rt, alloc, &library, 1, text.as_slice(), alone.refused())?;
+    assert!(rt; same, "one worker");
+    let same = are_handed_out(&rt, alloc, &library, 2, text.as_slice(), alone.refused())?;
+    assert!(rt; same, "two workers");
+    let same = are_handed_out(&rt, alloc, &library, 3, text.as_slice(), alone.refused())?;
+    assert!(rt; same, "three workers");
+    Ok(())
+}
+
+#[test]
+fn several_workers_stop_where_a_read_fails(rt: HostRuntime) -> Result<(), Fail> {
+    let alloc = rt.alloc();
+    let library = LibraryCode::read(b"LIBA").ok_or("a library code")?;
+    for workers in [1, 2, 3] {
+        let mut failing = MemSource::of(mixed(alloc)?, [2].to_vec(alloc)?, 4096);
+        let none = Preference::none();
+        let mut reader = BatchReader::open(alloc, &none, &library, LARGEST_SOURCE)?;
+        let answer = reader.next_by(&rt, alloc, &mut failing, workers);
+        assert!(rt; matches!(&answer, Err(Stop::Failed)));
+        assert_eq!(rt; reader.frames(), 40, "{workers} workers");
+        assert_eq!(rt; reader.refused().len(), 5, "{workers} workers");
+    }
     Ok(())
 }
 

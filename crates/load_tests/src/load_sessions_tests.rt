@@ -1,4 +1,5 @@
-//! Two libraries at one desk, on one worker and on two, beside an asker; and the limit of a source.
+//! Two libraries at one desk, on one worker and on two, beside an asker; one library by one worker and by more, which read ahead; and the
+//! limit of a source.
 ghost use Rattle.std.specs.Prelude.{◌≡◌, ◌≤◌, ◌+◌, IfOk};
 ghost use Rattle.catalogue_lock.specs.Tokens.{IsRootOf, root_of};
 ghost use Rattle.load_sessions.specs.Askers.{IsAsker};
@@ -126,6 +127,38 @@ fn two_libraries_are_loaded(rt: HostRuntime) -> Result<(), Fail> {
     Ok(())
 }
 
+/// The session of a library on this stream, of which `limit` bytes are read, run alone by so many workers.
+fn run_alone<R: Threads + Wait + Sync>(
+    rt: &R,
+    alloc: Global,
+    library: LibraryCode,
+    content: &[u8],
+    limit: u64,
+    workers: u32,
+) -> Result<Session<SureSource>, Memory>
+    requires least { 1 ≤ limit }
+    requires most { limit ≤ 100000 }
+    requires some { 1 ≤ workers }
+    requires few { workers ≤ 64 }
+{
+    let names = NameTable::empty(alloc, Hashing::fixed());
+    let (desk, mut root) = Desk::open(alloc, Served::open(alloc, names)?)?;
+    let session = session_at(alloc, &desk, &mut root, library, content, limit)?;
+    let mut asker = silent_asker(alloc, &desk, &mut root);
+    let mut sessions = [session];
+    run_sessions(
+        rt,
+        alloc,
+        &desk,
+        &mut sessions,
+        &mut asker,
+        crew_of(workers),
+        &OpenGate,
+    );
+    let [session] = sessions;
+    Ok(session)
+}
+
 /// The session of a library on `copies` copies of the record, of which 228 bytes are read, run alone by four workers.
 fn limited<R: Threads + Wait + Sync>(
     rt: &R,
@@ -137,22 +170,46 @@ fn limited<R: Threads + Wait + Sync>(
     for _ in 0..copies {
         content.extend_from_slice(ONE)?;
     }
-    let names = NameTable::empty(alloc, Hashing::fixed());
-    let (desk, mut root) = Desk::open(alloc, Served::open(alloc, names)?)?;
-    let session = session_at(alloc, &desk, &mut root, library, content.as_slice(), 228)?;
-    let mut asker = silent_asker(alloc, &desk, &mut root);
-    let mut sessions = [session];
-    run_sessions(
-        rt,
-        alloc,
-        &desk,
-        &mut sessions,
-        &mut asker,
-        crew_of(4),
-        &OpenGate,
-    );
-    let [session] = sessions;
-    Ok(session)
+    run_alone(rt, alloc, library, content.as_slice(), 228, 4)
+}
+
+/// Whether so many workers load 513 copies of the record, which are more than two batches, and the stream after them.
+fn are_all_loaded<R: Threads + Wait + Sync>(
+    rt: &R,
+    alloc: Global,
+    library: LibraryCode,
+    workers: u32,
+) -> Result<bool, Memory>
+    requires some { 1 ≤ workers }
+    requires few { workers ≤ 64 }
+{
+    let mut content = Vec::new(alloc);
+    for _ in 0..513 {
+        content.extend_from_slice(ONE)?;
+    }
+    content.extend_from_slice(STREAM)?;
+    let session = run_alone(rt, alloc, library, content.as_slice(), 100_000, workers)?;
+    let report = &session.report;
+    let counts = (report.added, report.replaced, report.removed, report.absent);
+    Ok(
+        session.end == End::Done
+            && report.frames == 516
+            && report.refused.len() == 1
+            && counts == (1, 513, 0, 1),
+    )
+}
+
+#[test]
+fn more_workers_load_one_library_as_one_does(rt: HostRuntime) -> Result<(), Fail> {
+    let alloc = rt.alloc();
+    let library = LibraryCode::read(b"LIBA").ok_or("a library code")?;
+    let loaded = are_all_loaded(&rt, alloc, library, 1)?;
+    assert!(rt; loaded, "one worker");
+    let loaded = are_all_loaded(&rt, alloc, library, 2)?;
+    assert!(rt; loaded, "two workers");
+    let loaded = are_all_loaded(&rt, alloc, library, 3)?;
+    assert!(rt; loaded, "three workers");
+    Ok(())
 }
 
 #[test]
