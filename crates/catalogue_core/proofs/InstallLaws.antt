@@ -1,6 +1,6 @@
 -- What a catalogue keeps once a plan is installed.
 use Rattle.std.proofs.Common.{◌≡◌, ℕ, ◌<◌, true, IsTrue, List, [], ◌∷◌, ◌++◌, length, Contains, refl, sym, ap, subst, ◌∙◌, inl, inr, arith}
-use Rattle.std.specs.Prelude.{fold, slice_get, Option, Some, None, is_some, unwrap_or}
+use Rattle.std.specs.Prelude.{fold, slice_get, slice_index, Option, Some, None, is_some, unwrap_or}
 use Rattle.std.specs.Option.{option_map}
 use Rattle.std.specs.List.{list_any}
 use Rattle.std.specs.List.Sorted.{IsPermutation, IsStrictlySortedBy}
@@ -18,10 +18,10 @@ use Rattle.merge_laws.proofs.Resolutions.{apart-from_resolution, IsResolution-pe
 use Rattle.match_features.proofs.MemberLaws.{member-from_has}
 use Rattle.field_merge.specs.Kept.{id_cmp}
 use Rattle.field_merge.specs.KeptLaws.{id_total}
-use Rattle.swoosh_resolver.specs.Changes.{AreNumbers, AreOpened, number_at, view_of, without}
+use Rattle.swoosh_resolver.specs.Changes.{AreNumbers, AreOpened, Fits, view_of, without}
 use Rattle.swoosh_resolver.specs.Tables.{block_at, blocks_in, values_of}
 use Rattle.swoosh_resolver.proofs.Places.{number-from_block}
-use Rattle.swoosh_resolver.proofs.Views.{fits-same, view-same}
+use Rattle.swoosh_resolver.proofs.Views.{view-same}
 use Rattle.work_clusters.specs.Works.{AreAfter, changed}
 use Rattle.work_clusters.proofs.MemberLaws.{changed-members, works_of-permutation}
 use Rattle.catalogue_editions.specs.EditionKeys.{work_key_by, work_pairs}
@@ -218,7 +218,7 @@ module _ (history : List HistoryEntry) (entry : HistoryEntry) (homes : MapOf Hom
   -- ---- blocks with their numbers
 
   module _ (blocks' : List (Option Block)) (kept : (n : ℕ) (e : Block) → block_at blocks n ≡ Some e → (Contains closed n → ⊥) → block_at blocks' n ≡ Some e)
-      (fresh : AreOpened (without blocks closed) closed (length blocks) opened blocks') (moved' : IsPermutation (view_of blocks closed opened) (values_of (blocks_in blocks')))
+      (fresh : AreOpened (without blocks closed) numbers opened blocks') (moved' : IsPermutation (view_of blocks closed opened) (values_of (blocks_in blocks')))
       (given : AreNumbers closed (length blocks) (length opened) numbers) where
     resolved' : IsResolution match join (values now) (values_of (blocks_in blocks'))
     resolved' = IsResolution-permutation edition_join_laws edition_match_laws (values now) (view_of blocks closed opened) (values_of (blocks_in blocks')) moved' p.resolved
@@ -228,7 +228,7 @@ module _ (history : List HistoryEntry) (entry : HistoryEntry) (homes : MapOf Hom
         elim (block-housed_all opened numbers settled q h (omega (arith, given.len)) at) [
           | inl (i, e, is, bears, number) ↦
               (let below : i < length opened = slice_get_within opened i e is in
-              let number' : h.block ≡ number_at closed (length blocks) i = got-number i h.block below number in
+              let number' : h.block ≡ slice_index numbers i = got-number i h.block number in
               (e, ap (block_at blocks') number' ∙ fresh.stand i e below (get_or_from_slice_get opened i e e is), bears))
           | inr (h₀, at₀, block, none) ↦
               (let there : is_current now q ≡ true = sym (current-settled q) ∙ ap is_some at in
@@ -245,8 +245,8 @@ module _ (history : List HistoryEntry) (entry : HistoryEntry) (homes : MapOf Hom
               ])
         ]
       where
-        got-number : (i m : ℕ) → i < length opened → slice_get numbers i ≡ Some m → m ≡ number_at closed (length blocks) i
-        got-number i m below is = sym (get_or_from_slice_get numbers i m 0 is) ∙ given.each i below
+        got-number : (i m : ℕ) → slice_get numbers i ≡ Some m → m ≡ slice_index numbers i
+        got-number i m is = sym (get_or_from_slice_get numbers i m 0 is)
 
     housed-only : (n : ℕ) (e : Block) (q : RecordId) → block_at blocks' n ≡ Some e → IsTrue (has_contributor q e.value) → (home : Home) × (at_id homes' q ≡ Some home) × (home.block ≡ n)
     housed-only n e q stands bears =
@@ -294,14 +294,14 @@ pub installed : (history : List HistoryEntry) (entry : HistoryEntry) (homes : Ma
     → (homes' : MapOf Home) → homes' ≡ housed_all settled opened numbers
     → (roomy : List (Option Block)) → roomy ≡ blocks
     → (blocks' : List (Option Block)) → ((n : ℕ) (e : Block) → block_at roomy n ≡ Some e → (Contains closed n → ⊥) → block_at blocks' n ≡ Some e)
-    → AreOpened (without roomy closed) closed (length roomy) opened blocks' → IsPermutation (view_of roomy closed opened) (values_of (blocks_in blocks'))
+    → AreOpened (without roomy closed) numbers opened blocks' → IsPermutation (view_of roomy closed opened) (values_of (blocks_in blocks'))
     → (works' : KeptWorks) → works'.names ≡ works.names
     → works'.works ≡ option_map (λ ws. changed ws (closed_pairs works.names blocks closed) (work_pairs works.names (values_of opened))) works.works
     → (history₁ history' : List HistoryEntry) → history₁ ≡ history → history' ≡ history₁ ++ entry ∷ []
     → IsKept history' homes' blocks' works'
 installed history entry homes blocks works k closed opened touched p within lets rest lists after settles numbers given homes' houses roomy same' blocks' kept fresh moved' works' same-names changes history₁ history' same-history appended =
     let kept' = subst (λ bs. (n : ℕ) (e : Block) → block_at bs n ≡ Some e → (Contains closed n → ⊥) → block_at blocks' n ≡ Some e) same' kept in
-    let fresh' = subst (λ bs. AreOpened (without bs closed) closed (length bs) opened blocks') same' fresh in
+    let fresh' = subst (λ bs. AreOpened (without bs closed) numbers opened blocks') same' fresh in
     let view = subst (λ bs. IsPermutation (view_of bs closed opened) (values_of (blocks_in blocks'))) same' moved' in
     let whole = kept-installed history entry homes blocks works k closed opened touched numbers p blocks' kept' fresh' view given works'.works changes in
     let found : homes' ≡ housed_all (fold moved (fold admitted homes touched) (others homes touched)) opened numbers =
@@ -311,14 +311,14 @@ installed history entry homes blocks works k closed opened touched p within lets
     (subst (λ names. IsKept (history ++ entry ∷ []) (housed_all (fold moved (fold admitted homes touched) (others homes touched)) opened numbers) blocks'
     (record { names = names; works = works'.works })) (sym same-names) whole))
 
--- a plan is told by the values that it opens
-pub planned-same : {all : List Batch} {homes : MapOf Home} {blocks : List (Option Block)} {editions : MapOf Edition} {closed : List ℕ} (opened opened' : List Block) {touched : MapOf (Option Place)} → values_of opened ≡ values_of opened'
+-- a plan is told by the values that it opens, where they fit
+pub planned-same : {all : List Batch} {homes : MapOf Home} {blocks : List (Option Block)} {editions : MapOf Edition} {closed : List ℕ} (opened opened' : List Block) {touched : MapOf (Option Place)} → values_of opened ≡ values_of opened' → Fits match blocks closed opened'
     → IsPlanned all homes blocks editions closed opened touched → IsPlanned all homes blocks editions closed opened' touched
-planned-same {all} {homes} {blocks} {editions} {closed} opened opened' {touched} same planned = record {
+planned-same {all} {homes} {blocks} {editions} {closed} opened opened' {touched} same fits planned = record {
   stands = planned.stands;
   ordered = planned.ordered;
   single = planned.single;
   touches = planned.touches;
-  fits = fits-same blocks closed opened opened' same planned.fits;
+  fits = fits;
   resolved = subst (IsResolution match join (values editions)) (view-same (blocks_in (without blocks closed)) opened opened' same) planned.resolved;
 }

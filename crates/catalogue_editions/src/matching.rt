@@ -6,7 +6,10 @@ ghost use Rattle.catalogue_editions.specs.MatchLaws.{edition_match_laws, edition
 ghost use Rattle.catalogue_editions.specs.ExactKeys.{exact_keys};
 
 use crate::edition::Edition;
-use match_features::keys::{FeatureKey, feature_keys, posted_keys, posted_of_sought, sought_keys};
+use match_features::keys::{
+    FeatureKey, feature_keys, posted_beside, posted_keys, posted_of_sought, sought_beside,
+    sought_keys,
+};
 use merge_laws::resolvable::Resolvable;
 use merge_laws::steps::Steps;
 use std::alloc::Global;
@@ -56,6 +59,18 @@ impl Resolvable for Edition {
         ensures once { IfOk result (λ keys. AllPairs (λ j k. j ≢ k) keys.items) }
     {
         posted_of_sought(alloc, self.features(), keys)
+    }
+
+    fn posted_beside(
+        &self,
+        alloc: Global,
+        base: &Edition,
+    ) -> Result<Option<Vec<FeatureKey>>, Memory> {
+        posted_beside(alloc, self.features(), base.features())
+    }
+
+    fn sought_beside(&self, alloc: Global, base: &Edition) -> Result<Vec<FeatureKey>, Memory> {
+        sought_beside(alloc, self.features(), base.features())
     }
 
     ghost match_laws = { edition_match_laws };

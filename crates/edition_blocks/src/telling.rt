@@ -16,13 +16,13 @@ use std::alloc::Global;
 use std::cmp::Ordering;
 use swoosh_resolver::blocks::Blocks;
 use swoosh_resolver::change::Change;
-use swoosh_resolver::keyed::Placed;
+use swoosh_resolver::keyed::Fresh;
 use union_base::memory::Memory;
 
 /// The values of the opened blocks. Returns `Memory` if allocation fails.
 fn opened_editions<'a>(
     alloc: Global,
-    opened: &'a [Placed<Edition>],
+    opened: &'a [Fresh<Edition>],
 ) -> Result<Vec<&'a Edition>, Memory>
     ensures { IfOk result (λ found. map (λ e. e.now) found.items ≡ values_of opened.now) }
 {

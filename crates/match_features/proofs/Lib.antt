@@ -1,5 +1,7 @@
 mod Loadable
 mod Made
+mod BesideSteps
+mod BesideLaws
 pub mod MemberLaws
 pub mod MeetLaws
 pub mod KeyLaws

@@ -15,7 +15,7 @@ use Rattle.match_features.specs.KeptLaws.{pairs_total, pairs_tie}
 use Rattle.match_features.specs.JoinLaws.{parts}
 use Rattle.match_features.specs.Meeting.{meet_by_control, meet_by_isbn, meet_by_issn, have_common_but_serials, meet_by_title, meet}
 use Rattle.match_features.specs.Keys.{keys, HasKey, share_key}
-use Rattle.match_features.specs.Posted.{has_few, IsPosted, is_posted, Seeks, dated_keys, description_keys, number_keys, posted, sought}
+use Rattle.match_features.specs.Posted.{has_few, IsPosted, is_posted, Seeks, dated_keys, description_keys, number_keys, posted, sought, sought_by_title}
 use Rattle.match_features.proofs.MemberLaws.{or_cases, has-from_member, member-from_has, member-from_common, member-map, member-from_map, member-flat_map, member-from_flat_map, once-flat_map, once-from_ascending, once-append}
 use Rattle.match_features.proofs.KeyLaws.{share-from_key, features_keys, features_keys_once}
 
@@ -105,7 +105,7 @@ posted-from_told x (TitleOfMany title) h =
 
 -- ---- the lists of the keys
 
-description-from_member : (titles dates names : List (List ℕ)) (k : FeatureKey) → Contains (description_keys titles dates names) k
+pub description-from_member : (titles dates names : List (List ℕ)) (k : FeatureKey) → Contains (description_keys titles dates names) k
     → (title : List ℕ) × (date : List ℕ) × (name : List ℕ) × Contains titles title × Contains dates date × Contains names name × (Description (title, date, name) ≡ k)
 description-from_member titles dates names k h =
     let (title, ct, later) = member-from_flat_map (λ (title : List ℕ). dated_keys title dates names) titles k h in
@@ -113,7 +113,7 @@ description-from_member titles dates names k h =
     let (name, cn, is) = member-from_map (λ (name : List ℕ). Description (title, date, name)) names k last in
     (title, date, name, ct, cd, cn, is)
 
-member-from_description : (titles dates names : List (List ℕ)) (title date name : List ℕ) → Contains titles title → Contains dates date → Contains names name
+pub member-from_description : (titles dates names : List (List ℕ)) (title date name : List ℕ) → Contains titles title → Contains dates date → Contains names name
     → Contains (description_keys titles dates names) (Description (title, date, name))
 member-from_description titles dates names title date name ct cd cn =
     member-flat_map (λ (title : List ℕ). dated_keys title dates names) titles title (Description (title, date, name)) ct
@@ -139,7 +139,7 @@ module _ (titles dates names : List (List ℕ)) where
       let (named, cm, its) = member-from_map (λ (name : List ℕ). Description (t, e, name)) names k q in
       ap (λ (p : List ℕ × List ℕ × List ℕ). p.1) (descriptions_apart (t, d, name) (t, e, named) (mine ∙ sym its))
 
-  descriptions_once : is_ascending texts_cmp titles ≡ true → is_ascending texts_cmp dates ≡ true → is_ascending texts_cmp names ≡ true
+  pub descriptions_once : is_ascending texts_cmp titles ≡ true → is_ascending texts_cmp dates ≡ true → is_ascending texts_cmp names ≡ true
       → AllPairs (λ j k. j ≢ k) (description_keys titles dates names)
   descriptions_once at ad an =
       once-flat_map (λ (t : List ℕ). dated_keys t dates names) one_title
@@ -153,7 +153,7 @@ none-few : (b : Bool) → not b ≡ true → b ≡ false
 none-few true h = cc
 none-few false h = refl
 
-posted-from_key : (x : Features) (k : FeatureKey) → HasKey x k → IsPosted x k
+pub posted-from_key : (x : Features) (k : FeatureKey) → HasKey x k → IsPosted x k
 posted-from_key x (Control pair) h = h
 posted-from_key x (Isbn isbn) h = h
 posted-from_key x (Issn issn) h = h
@@ -267,8 +267,23 @@ sought-from_member x k h =
 from_number : (x : Features) (k : FeatureKey) → Contains (number_keys x) k → Contains (sought x) k
 from_number x k h = Contains-append_left (number_keys x) (cond (has_few x) (map TitleOfMany x.titles ++ description_keys x.titles x.dates x.names) (map Title x.titles)) k h
 
-abbrev sought_by : Features → Bool → List FeatureKey
-sought_by x few = number_keys x ++ cond few (map TitleOfMany x.titles ++ description_keys x.titles x.dates x.names) (map Title x.titles)
+-- the keys of titles that features seek
+abbrev titled_by : Features → Bool → List FeatureKey
+titled_by x few = cond few (map TitleOfMany x.titles ++ description_keys x.titles x.dates x.names) (map Title x.titles)
+
+pub title-sought : (x : Features) (title : List ℕ) → Seeks x (Title title) → Contains (sought_by_title x) (Title title)
+title-sought x title (many, ct) =
+    subst (λ b. Contains (titled_by x b) (Title title)) (sym (none-few (has_few x) many)) (member-map Title x.titles title ct)
+
+pub description-sought : (x : Features) (key : List ℕ × List ℕ × List ℕ) → Seeks x (Description key) → Contains (sought_by_title x) (Description key)
+description-sought x key (few, ct, cd, cn) =
+    subst (λ b. Contains (titled_by x b) (Description key)) (sym few)
+    (Contains-append_right (map TitleOfMany x.titles) (description_keys x.titles x.dates x.names) (Description key) (member-from_description x.titles x.dates x.names key.0 key.1 key.2 ct cd cn))
+
+pub many-sought : (x : Features) (title : List ℕ) → Seeks x (TitleOfMany title) → Contains (sought_by_title x) (TitleOfMany title)
+many-sought x title (few, ct) =
+    subst (λ b. Contains (titled_by x b) (TitleOfMany title)) (sym few)
+    (Contains-append_left (map TitleOfMany x.titles) (description_keys x.titles x.dates x.names) (TitleOfMany title) (member-map TitleOfMany x.titles title ct))
 
 member-from_sought : (x : Features) (k : FeatureKey) → Seeks x k → Contains (sought x) k
 member-from_sought x (Control pair) h =
@@ -282,17 +297,9 @@ member-from_sought x (Isbn isbn) h =
 member-from_sought x (Issn issn) h =
     from_number x (Issn issn)
     (Contains-append_right (map Control x.control ++ map Isbn x.isbns) (map Issn x.issns) (Issn issn) (member-map Issn x.issns issn h))
-member-from_sought x (Title title) (many, ct) =
-    subst (λ b. Contains (sought_by x b) (Title title)) (sym (none-few (has_few x) many))
-    (Contains-append_right (number_keys x) (map Title x.titles) (Title title) (member-map Title x.titles title ct))
-member-from_sought x (Description key) (few, ct, cd, cn) =
-    subst (λ b. Contains (sought_by x b) (Description key)) (sym few)
-    (Contains-append_right (number_keys x) (map TitleOfMany x.titles ++ description_keys x.titles x.dates x.names) (Description key)
-    (Contains-append_right (map TitleOfMany x.titles) (description_keys x.titles x.dates x.names) (Description key) (member-from_description x.titles x.dates x.names key.0 key.1 key.2 ct cd cn)))
-member-from_sought x (TitleOfMany title) (few, ct) =
-    subst (λ b. Contains (sought_by x b) (TitleOfMany title)) (sym few)
-    (Contains-append_right (number_keys x) (map TitleOfMany x.titles ++ description_keys x.titles x.dates x.names) (TitleOfMany title)
-    (Contains-append_left (map TitleOfMany x.titles) (description_keys x.titles x.dates x.names) (TitleOfMany title) (member-map TitleOfMany x.titles title ct)))
+member-from_sought x (Title title) h = Contains-append_right (number_keys x) (sought_by_title x) (Title title) (title-sought x title h)
+member-from_sought x (Description key) h = Contains-append_right (number_keys x) (sought_by_title x) (Description key) (description-sought x key h)
+member-from_sought x (TitleOfMany title) h = Contains-append_right (number_keys x) (sought_by_title x) (TitleOfMany title) (many-sought x title h)
 
 pub features_sought : (x : Features) (k : FeatureKey) → Contains (sought x) k ↔ Seeks x k
 features_sought x k = (sought-from_member x k, member-from_sought x k)

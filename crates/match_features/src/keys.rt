@@ -1,8 +1,11 @@
 //! The keys that features have, as `specs/Keys.antt` has them, and those of an index, as `specs/Posted.antt` has them.
-ghost use Rattle.std.specs.Prelude.{◌≡◌, ◌≢◌, ◌↔◌, ◌++◌, IfOk, OnOk, Contains, AllPairs, map, min, length, ◌*◌, ◌-◌, ◌^◌, []};
+ghost use Rattle.std.specs.Prelude.{◌≡◌, ◌≢◌, ◌↔◌, ◌++◌, IfOk, IfSome, OnOk, IsTrue, is_some, false, Contains, AllPairs, map, min, length, ◌*◌, ◌-◌, ◌^◌, []};
+ghost use Rattle.match_features.specs.Meeting.{meet};
 ghost use Rattle.match_features.specs.Keys.{keys, HasKey};
 ghost use Rattle.match_features.specs.Posted.{has_few, IsPosted, Seeks, number_keys, description_keys, dated_keys, posted, posted_by_title, sought, sought_by_title, title_alone};
+ghost use Rattle.match_features.specs.Posted.{are_alike, has_keys_of, numbers_beside, descriptions_beside, beside_by_title, posted_beside, sought_beside};
 
+use crate::beside::{has_each_of, values_beside};
 use crate::control_pair::ControlPair;
 use crate::description_key::DescriptionKey;
 use crate::features::Features;
@@ -171,6 +174,156 @@ pub fn posted_of_sought(
         push_keys_of_many(alloc, &mut keys, features.titles.as_slice())?;
     }
     Ok(keys)
+}
+
+/// The keys under which an index has the features beside those under which it has `base`, each once. None where `base` has a
+/// control pair, an ISBN, an ISSN, a title, a date or a name that the features have not, or where one of the two has more than
+/// 64 triples of a title, a date and a name and the other has not.
+///
+/// Returns `Memory` if allocation fails.
+pub fn posted_beside(
+    alloc: Global,
+    features: &Features,
+    base: &Features,
+) -> Result<Option<Vec<FeatureKey>>, Memory>
+    ensures told { IfOk result (λ found. is_some found ≡ has_keys_of features.now base.now) }
+    ensures value { IfOk result (λ found. IfSome found (λ keys. keys.items
+        ≡ posted_beside features.now base.now)) }
+    ensures kept { IfOk result (λ found. IfSome found (λ keys. (k : FeatureKey)
+        → IsPosted base.now k → IsPosted features.now k)) }
+    ensures had { IfOk result (λ found. IfSome found (λ keys. (k : FeatureKey)
+        → Contains keys.items k ↔ (IsPosted features.now k × (IsPosted base.now k → ⊥)))) }
+    ensures once { IfOk result (λ found. IfSome found (λ keys. AllPairs (λ j k. j ≢ k) keys.items)) }
+{
+    if has_keys_of(features, base) {
+        Ok(Some(keys_beside(alloc, features, base)?))
+    } else {
+        Ok(None)
+    }
+}
+
+/// The keys by which an index is asked for features that may meet these where `base` does not meet them: those of
+/// `sought_keys`, but for the control pairs that `base` has.
+///
+/// Returns `Memory` if allocation fails.
+pub fn sought_beside(
+    alloc: Global,
+    features: &Features,
+    base: &Features,
+) -> Result<Vec<FeatureKey>, Memory>
+    ensures value { IfOk result (λ found. found.items ≡ sought_beside features.now base.now) }
+    ensures sought { IfOk result (λ found. (k : FeatureKey)
+        → Contains found.items k → Seeks features.now k) }
+    ensures whole { IfOk result (λ found. (x : Features) → IsTrue (meet features.now x)
+        → meet base.now x ≡ false → (k : FeatureKey) × Contains found.items k × IsPosted x k) }
+{
+    let control = values_beside(alloc, &features.control, &base.control)?;
+    let mut found = Vec::new(alloc);
+    push_control_keys(alloc, &mut found, control.as_slice())?;
+    push_isbn_keys(&mut found, features.isbns.as_slice())?;
+    push_issn_keys(&mut found, features.issns.as_slice())?;
+    push_sought_by_title(alloc, &mut found, features)?;
+    Ok(found)
+}
+
+/// Whether the features have all that `base` has, so that an index has them under each key under which it has `base`.
+fn has_keys_of(features: &Features, base: &Features) -> bool
+    ensures { result ≡ has_keys_of features.now base.now }
+{
+    are_alike(features, base)
+        && has_each_of(&features.control, &base.control)
+        && has_each_of(&features.isbns, &base.isbns)
+        && has_each_of(&features.issns, &base.issns)
+        && has_each_of(&features.titles, &base.titles)
+        && has_each_of(&features.dates, &base.dates)
+        && has_each_of(&features.names, &base.names)
+}
+
+/// Whether both have at most 64 triples of a title, a date and a name, or both have more.
+fn are_alike(features: &Features, base: &Features) -> bool
+    ensures { result ≡ are_alike features.now base.now }
+{
+    if has_few(features) {
+        has_few(base)
+    } else {
+        !has_few(base)
+    }
+}
+
+/// The keys under which an index has the features beside those under which it has `base`, whose keys they have.
+fn keys_beside(
+    alloc: Global,
+    features: &Features,
+    base: &Features,
+) -> Result<Vec<FeatureKey>, Memory>
+    ensures { IfOk result (λ found. found.items ≡ posted_beside features.now base.now) }
+{
+    let titles = values_beside(alloc, &features.titles, &base.titles)?;
+    let mut found = Vec::new(alloc);
+    push_numbers_beside(alloc, &mut found, features, base)?;
+    push_title_keys(alloc, &mut found, titles.as_slice())?;
+    push_beside_by_title(alloc, &mut found, features, base, titles.as_slice())?;
+    Ok(found)
+}
+
+/// Puts the keys of the control pairs, the ISBNs and the ISSNs that `base` has not last.
+fn push_numbers_beside(
+    alloc: Global,
+    found: &mut Vec<FeatureKey>,
+    features: &Features,
+    base: &Features,
+) -> Result<(), Memory>
+    ensures { OnOk result (found.new.items ≡ found.old.items
+        ++ numbers_beside features.now base.now) }
+{
+    let control = values_beside(alloc, &features.control, &base.control)?;
+    let isbns = values_beside(alloc, &features.isbns, &base.isbns)?;
+    let issns = values_beside(alloc, &features.issns, &base.issns)?;
+    push_control_keys(alloc, found, control.as_slice())?;
+    push_isbn_keys(found, isbns.as_slice())?;
+    push_issn_keys(found, issns.as_slice())
+}
+
+/// Puts each title with each date and each name last, where the title is one of `titles`, or the date or the name is none of
+/// `base`; or each of `titles` as that of many.
+fn push_beside_by_title(
+    alloc: Global,
+    found: &mut Vec<FeatureKey>,
+    features: &Features,
+    base: &Features,
+    titles: &[Bytes],
+) -> Result<(), Memory>
+    ensures { OnOk result (found.new.items ≡ found.old.items
+        ++ beside_by_title features.now base.now titles.now) }
+{
+    if has_few(features) {
+        push_descriptions_beside(alloc, found, features, base, titles)
+    } else {
+        push_keys_of_many(alloc, found, titles)
+    }
+}
+
+/// Puts each title with each date and each name last, where the title is one of `titles`, or the date or the name is none of
+/// `base`.
+fn push_descriptions_beside(
+    alloc: Global,
+    found: &mut Vec<FeatureKey>,
+    features: &Features,
+    base: &Features,
+    titles: &[Bytes],
+) -> Result<(), Memory>
+    ensures { OnOk result (found.new.items ≡ found.old.items
+        ++ descriptions_beside features.now base.now titles.now) }
+{
+    let new_dates = values_beside(alloc, &features.dates, &base.dates)?;
+    let new_names = values_beside(alloc, &features.names, &base.names)?;
+    let dates = features.dates.as_slice();
+    let names = features.names.as_slice();
+    let old_titles = base.titles.as_slice();
+    let old_dates = base.dates.as_slice();
+    push_all_keys(alloc, found, titles, dates, names)?;
+    push_all_keys(alloc, found, old_titles, new_dates.as_slice(), names)?;
+    push_all_keys(alloc, found, old_titles, old_dates, new_names.as_slice())
 }
 
 /// Makes each title as that of many a title alone. Takes no memory.

@@ -99,6 +99,18 @@ impl<'a> Resolvable for CountedSet<'a> {
         Ok(keys)
     }
 
+    fn posted_beside(
+        &self,
+        _alloc: Global,
+        _base: &CountedSet<'a>,
+    ) -> Result<Option<Vec<u32>>, Memory> {
+        Ok(None)
+    }
+
+    fn sought_beside(&self, alloc: Global, _base: &CountedSet<'a>) -> Result<Vec<u32>, Memory> {
+        self.sought_keys(alloc)
+    }
+
     ghost match_laws = { meet_laws };
 
     ghost key_laws = { one_key_laws };

@@ -115,6 +115,14 @@ impl Resolvable for SmallSet {
         Ok(keys)
     }
 
+    fn posted_beside(&self, _alloc: Global, _base: &SmallSet) -> Result<Option<Vec<u32>>, Memory> {
+        Ok(None)
+    }
+
+    fn sought_beside(&self, alloc: Global, _base: &SmallSet) -> Result<Vec<u32>, Memory> {
+        self.sought_keys(alloc)
+    }
+
     ghost match_laws = { meet_laws };
 
     ghost key_laws = { number_laws };

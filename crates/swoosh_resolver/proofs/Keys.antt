@@ -1,11 +1,8 @@
 -- Keys in lists, and the numbers under them.
-use Rattle.std.proofs.Common.{◌≡◌, ℕ, Bool, true, false, eqb, List, [], ◌∷◌, ◌++◌, refl, sym, ◌∙◌, subst, true≢false, inl, inr, arith}
-use Rattle.std.specs.Prelude.{◌↔◌, Contains}
-use Rattle.std.specs.List.{list_any, dedup}
-use Rattle.std.specs.List.Sorted.{IsPermutation}
+use Rattle.std.proofs.Common.{◌≡◌, ℕ, Bool, true, false, List, [], ◌∷◌, ◌++◌, refl, sym, ◌∙◌, subst, true≢false, inl, inr, arith}
+use Rattle.std.specs.Prelude.{◌↔◌, ◌⊎◌, Contains}
+use Rattle.std.specs.List.{list_any}
 use Rattle.std.proofs.lemmas.List.Elements.{Contains-append_left, Contains-append_right, Contains-append_cases, Contains-push, Contains-push_cases}
-use Rattle.std.proofs.lemmas.List.Kept.{Contains-dedup_nat, Contains-from_dedup}
-use Rattle.std.proofs.lemmas.List.Sorted.{IsPermutation-sym, Contains-permutation}
 use Rattle.std.specs.Cmp.{IsEquivalence}
 use Rattle.merge_laws.proofs.Places.{Contains-head, Contains-tail, Contains-cases}
 
@@ -31,33 +28,41 @@ module _ {K : Type 0} (eq : K → K → Bool) where
         ]
       ] refl
 
--- the numbers are those under the keys
-pub record AreGathered {K : Type 0} (under : K → List ℕ) (keys : List K) (numbers : List ℕ) : Type 0 where
-  pub members : (n : ℕ) → Contains numbers n ↔ ((k : K) × Contains keys k × Contains (under k) n)
+-- the numbers are the given ones and those under the keys
+pub record AreGathered {K : Type 0} (under : K → List ℕ) (given : List ℕ) (keys : List K) (numbers : List ℕ) : Type 0 where
+  pub members : (n : ℕ) → Contains numbers n ↔ (Contains given n ⊎ ((k : K) × Contains keys k × Contains (under k) n))
 
-module _ {K : Type 0} (under : K → List ℕ) where
-  pub gathered_none : AreGathered under [] []
-  gathered_none = record { members = λ n. (λ (i, il, e). absurd (omega arith), λ (k, (i, il, e), c). absurd (omega arith)) }
+module _ {K : Type 0} (under : K → List ℕ) (given : List ℕ) where
+  pub gathered_none : AreGathered under given [] given
+  gathered_none = record {
+    members = λ n. (
+      λ c. inl c,
+      λ w. elim w as (λ _. Contains given n) [ inl c ↦ c | inr (k, (i, il, e), c) ↦ absurd (omega arith) ],
+    );
+  }
 
-  pub gathered_more : (keys : List K) (numbers : List ℕ) (k : K) → AreGathered under keys numbers → AreGathered under (keys ++ k ∷ []) (numbers ++ under k)
+  pub gathered_more : (keys : List K) (numbers : List ℕ) (k : K) → AreGathered under given keys numbers → AreGathered under given (keys ++ k ∷ []) (numbers ++ under k)
   gathered_more keys numbers k h = record {
     members = λ n. (
-      λ c. elim (Contains-append_cases numbers (under k) n c) [
-        | inl old ↦ (let (j, cj, cn) = (h.members n).0 old in (j, Contains-append_left keys (k ∷ []) j cj, cn))
-        | inr new ↦ (k, Contains-push keys k, new)
+      λ c. elim (Contains-append_cases numbers (under k) n c) as (λ _. Contains given n ⊎ ((j : K) × Contains (keys ++ k ∷ []) j × Contains (under j) n)) [
+        | inl old ↦ elim ((h.members n).0 old) as (λ _. Contains given n ⊎ ((j : K) × Contains (keys ++ k ∷ []) j × Contains (under j) n)) [
+          | inl first ↦ inl first
+          | inr (j, cj, cn) ↦ inr (j, Contains-append_left keys (k ∷ []) j cj, cn)
+        ]
+        | inr new ↦ inr (k, Contains-push keys k, new)
       ],
-      λ (j, cj, cn). elim (Contains-push_cases keys k j cj) [
-        | inl old ↦ Contains-append_left numbers (under k) n ((h.members n).1 (j, old, cn))
-        | inr same ↦ Contains-append_right numbers (under k) n (subst (λ q. Contains (under q) n) (sym same) cn)
+      λ w. elim w as (λ _. Contains (numbers ++ under k) n) [
+        | inl first ↦ Contains-append_left numbers (under k) n ((h.members n).1 (inl first))
+        | inr (j, cj, cn) ↦ elim (Contains-push_cases keys k j cj) as (λ _. Contains (numbers ++ under k) n) [
+          | inl old ↦ Contains-append_left numbers (under k) n ((h.members n).1 (inr (j, old, cn)))
+          | inr same ↦ Contains-append_right numbers (under k) n (subst (λ q. Contains (under q) n) (sym same) cn)
+        ]
       ],
     );
   }
 
-  -- in ascending order and without repeats they are the same numbers
-  pub gathered_sorted : (keys : List K) (numbers sorted : List ℕ) → AreGathered under keys numbers → IsPermutation numbers sorted → AreGathered under keys (dedup eqb sorted)
-  gathered_sorted keys numbers sorted h p = record {
-    members = λ n. (
-      λ c. (h.members n).0 (Contains-permutation sorted numbers n (IsPermutation-sym numbers sorted p) (Contains-from_dedup eqb sorted n c)),
-      λ c. Contains-dedup_nat sorted n (Contains-permutation numbers sorted n p ((h.members n).1 c)),
-    );
+  -- in another order they are the same numbers
+  pub gathered_same : (keys : List K) (numbers sorted : List ℕ) → AreGathered under given keys numbers → ((n : ℕ) → Contains sorted n ↔ Contains numbers n) → AreGathered under given keys sorted
+  gathered_same keys numbers sorted h same = record {
+    members = λ n. (λ c. (h.members n).0 ((same n).0 c), λ c. (same n).1 ((h.members n).1 c));
   }

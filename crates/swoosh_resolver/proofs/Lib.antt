@@ -1,6 +1,12 @@
+mod Across
 mod Adding
+mod Bases
 mod Counting
+mod Finding
+mod Giving
+mod Installing
 mod Keys
+mod Laying
 mod Listing
 mod Looking
 mod Moving
@@ -9,6 +15,11 @@ mod Numbering
 mod Opening
 pub mod Pairing
 mod Placing
+mod Putting
+mod Seats
+mod Standing
 mod Unmerged
+mod Vacating
 pub mod Splitting
 pub mod Views
+mod Whole

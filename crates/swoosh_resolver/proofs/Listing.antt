@@ -5,9 +5,9 @@ use Rattle.std.proofs.lemmas.List.{map-append, length-map, length-set, get_or_de
 use Rattle.std.proofs.lemmas.List.Sorted.{IsPermutation-sym, IsPermutation-swap_remove, Contains-permutation}
 use Rattle.merge_laws.proofs.Places.{Contains-tail}
 use Rattle.feature_index.specs.Postings.{Posting, numbers_of}
-use Rattle.swoosh_resolver.specs.Tables.{Entry, ArePosted, AreListed, block_at, blocks_in, put_block}
+use Rattle.swoosh_resolver.specs.Tables.{ArePosted, AreListed, block_at, blocks_in}
 use Rattle.swoosh_resolver.specs.Insertions.{passes}
-use Rattle.swoosh_resolver.proofs.Opening.{posted-put, put-past, put-within, one_or_not}
+use Rattle.swoosh_resolver.proofs.Opening.{put_block, posted-put, put-past, put-within, one_or_not}
 
 module _ {X : Type 0} where
   -- the value at a place, and none past them
@@ -20,6 +20,11 @@ module _ {X : Type 0} where
   listed-past [] n h = refl
   listed-past (y ∷ ys) zero h = absurd (omega arith)
   listed-past (y ∷ ys) (suc n) h = listed-past ys n (omega arith)
+
+  pub there-from_listed : (xs : List X) (n : ℕ) (x : X) → block_at (map Some xs) n ≡ Some x → Contains xs x
+  there-from_listed [] n x e = absurd cc
+  there-from_listed (y ∷ ys) zero x e = (zero, omega arith, cc)
+  there-from_listed (y ∷ ys) (suc n) x e = Contains-tail y ys x (there-from_listed ys n x e)
 
   -- all values are blocks
   pub blocks-listed : (xs : List X) → blocks_in (map Some xs) ≡ xs
@@ -78,26 +83,26 @@ module _ {X : Type 0} where
               ]
         ]
 
-module _ {R P K : Type 0} {eq : K → K → Bool} {has_key : R → K → Type 0} where
-  posted-same : (L M : List (Option (Entry R P))) (p : List (K × Posting)) → ((n : ℕ) → block_at L n ≡ block_at M n) → ArePosted eq has_key L p → ArePosted eq has_key M p
+module _ {X K : Type 0} {eq : K → K → Bool} {has_key : X → K → Type 0} where
+  posted-same : (L M : List (Option X)) (p : List (K × Posting)) → ((n : ℕ) → block_at L n ≡ block_at M n) → ArePosted eq has_key L p → ArePosted eq has_key M p
   posted-same L M p same posted = record {
-    stands = λ k n. subst (λ o. Contains (numbers_of eq p k) n ↔ ((e : Entry R P) × (o ≡ Some e) × has_key e.value k)) (same n) (posted.stands k n);
+    stands = λ k n. subst (λ o. Contains (numbers_of eq p k) n ↔ ((e : X) × (o ≡ Some e) × has_key e k)) (same n) (posted.stands k n);
   }
 
   -- a value is put last
-  pub listed-pushed : (xs : List (Entry R P)) (e : Entry R P) (old new : List (K × Posting)) → AreListed eq has_key xs old
-      → ((k : K) (m : ℕ) → Contains (numbers_of eq new k) m ↔ (Contains (numbers_of eq old k) m ⊎ (has_key e.value k × (m ≡ length xs))))
+  pub listed-pushed : (xs : List X) (e : X) (old new : List (K × Posting)) → AreListed eq has_key xs old
+      → ((k : K) (m : ℕ) → Contains (numbers_of eq new k) m ↔ (Contains (numbers_of eq old k) m ⊎ (has_key e k × (m ≡ length xs))))
       → AreListed eq has_key (xs ++ e ∷ []) new
   listed-pushed xs e old new listed changed =
       let len = length-map xs Some in
       let put' = posted-put (map Some xs) old listed new (length xs) e (listed-past xs (length xs) (omega arith)) (omega arith) changed in
       rw (map-append Some xs (e ∷ [])) (subst (λ L. ArePosted eq has_key L new) (put-past (map Some xs) (length xs) e (omega arith)) put')
 
-  module _ (xs : List (Entry R P)) (i : ℕ) (d : Entry R P) (m : ℕ) (len : length xs ≡ suc m) where
+  module _ (xs : List X) (i : ℕ) (d : X) (m : ℕ) (len : length xs ≡ suc m) where
     -- the last value is taken out
     pub unlisted-last : (p : List (K × Posting)) → i ≡ m → ArePosted eq has_key (slice_set (map Some xs) i None) p → AreListed eq has_key (swap_remove xs i d) p
     unlisted-last p same posted =
-        let mapped : length (map {B = Option (Entry R P)} Some xs) ≡ length xs = length-map xs Some in
+        let mapped : length (map {B = Option X} Some xs) ≡ length xs = length-map xs Some in
         let is : length xs - 1 ≡ m = omega arith in
         rw is (posted-same (slice_set (map Some xs) i None) _ p
         (λ n. subst (λ i. block_at (slice_set (map Some xs) i None) n ≡ block_at (map Some (take m (slice_set xs i (get_or xs m d)))) n) (sym same)
@@ -107,7 +112,7 @@ module _ {R P K : Type 0} {eq : K → K → Bool} {has_key : R → K → Type 0}
     -- another is taken out, and the last is put in its place
     pub unlisted-moved : (p : List (K × Posting)) → i < m → ArePosted eq has_key (put_block (slice_set (slice_set (map Some xs) i None) m None) i (get_or xs m d)) p → AreListed eq has_key (swap_remove xs i d) p
     unlisted-moved p less posted =
-        let mapped : length (map {B = Option (Entry R P)} Some xs) ≡ length xs = length-map xs Some in
+        let mapped : length (map {B = Option X} Some xs) ≡ length xs = length-map xs Some in
         let is : length xs - 1 ≡ m = omega arith in
         let one = length-set (map Some xs) i None in
         let two = length-set (slice_set (map Some xs) i None) m None in

@@ -4,7 +4,7 @@ use Rattle.std.specs.Prelude.{Contains, IsSome, slice_get, slice_index}
 use Rattle.std.specs.Map.{keys_of}
 use Rattle.merge_laws.proofs.Places.{Contains-head, Contains-tail}
 use Rattle.feature_index.specs.Postings.{Posting, key_at}
-use Rattle.swoosh_resolver.specs.Tables.{Entry, AreKeys, ArePlaced, IsPlaced, at_rows, keys_at, values_of}
+use Rattle.swoosh_resolver.specs.Tables.{Entry, AreKeys, ArePlaced, HasOwn, IsOnBase, IsPlaced, at_rows, keys_at, standings_of}
 use Rattle.swoosh_resolver.proofs.Placing.{some-key}
 
 -- what is not changed yet stands where it stood
@@ -13,9 +13,16 @@ over-at f [] i h = absurd (omega arith)
 over-at f (x ∷ xs) zero h = refl
 over-at f (x ∷ xs) (suc i) h = over-at f xs i (omega arith)
 
-pub values-moved : {R : Type 0} (rows : List ℕ) (entries : List (Entry R ℕ)) → values_of (map (at_rows rows) entries) ≡ values_of entries
+pub values-moved : {R : Type 0} (rows : List ℕ) (entries : List (Entry R ℕ)) → standings_of (map (at_rows rows) entries) ≡ standings_of entries
 values-moved rows [] = refl
-values-moved rows (e ∷ es) = ap (λ vs. e.value ∷ vs) (values-moved rows es)
+values-moved rows (e ∷ es) = ap (λ vs. (e.value, e.base) ∷ vs) (values-moved rows es)
+
+-- and so do the values of which a fact holds
+pub based-moved : {R K : Type 0} {has_key : R → K → Type 0} {merge : R → R → R} (rows : List ℕ) (entries : List (Entry R ℕ)) → ((e : Entry R ℕ) → Contains entries e → IsOnBase has_key merge e.value e.base)
+    → (e : Entry R ℕ) → Contains (map (at_rows rows) entries) e → IsOnBase has_key merge e.value e.base
+based-moved rows [] based e (i, il, is) = absurd (omega arith)
+based-moved {R} {K} {has_key} {merge} rows (x ∷ xs) based e (zero, il, is) = subst (λ (f : Entry R ℕ). IsOnBase has_key merge f.value f.base) is (based x (Contains-head x xs))
+based-moved {R} {K} {has_key} {merge} rows (x ∷ xs) based e (suc i, il, is) = based-moved {has_key = has_key} {merge = merge} rows xs (λ f c. based f (Contains-tail x xs f c)) e (i, omega arith, is)
 
 module _ {K : Type 0} (new : List (K × Posting)) where
   -- the row of a key, in its new place
@@ -48,13 +55,13 @@ module _ {K : Type 0} (new : List (K × Posting)) where
         subst (λ n. IsSome (key_at new n)) is (rw there refl)
     rows-moved (p ∷ ps) some q (suc i, il, is) = rows-moved ps (λ q c. some q (Contains-tail p ps q c)) q (i, omega arith, is)
 
-    placed-moved : {R : Type 0} {has_key : R → K → Type 0} (e : Entry R ℕ) → IsPlaced has_key table e → IsPlaced has_key new (at_rows rows e)
-    placed-moved {R} {has_key} e placed = record {
-      rows = rows-moved e.keys placed.rows;
-      keys = subst (AreKeys has_key e.value) (sym (keys-moved e.keys placed.rows)) placed.keys;
+    placed-moved : {is_key : K → Type 0} (places : List ℕ) → IsPlaced is_key table places → IsPlaced is_key new (map (λ place. slice_index rows place) places)
+    placed-moved {is_key} places placed = record {
+      rows = rows-moved places placed.rows;
+      keys = subst (AreKeys is_key) (sym (keys-moved places placed.rows)) placed.keys;
     }
 
-    pub all-moved : {R : Type 0} {has_key : R → K → Type 0} (entries : List (Entry R ℕ)) → ArePlaced has_key table entries → ArePlaced has_key new (map (at_rows rows) entries)
-    all-moved [] placed e (i, il, is) = absurd (omega arith)
-    all-moved {R} {has_key} (x ∷ xs) placed e (zero, il, is) = subst (IsPlaced has_key new) is (placed-moved x (placed x (Contains-head x xs)))
-    all-moved (x ∷ xs) placed e (suc i, il, is) = all-moved xs (λ f c. placed f (Contains-tail x xs f c)) e (i, omega arith, is)
+    pub all-moved : {R : Type 0} (has_key : R → K → Type 0) (entries : List (Entry R ℕ)) → ArePlaced (HasOwn has_key) table entries → ArePlaced (HasOwn has_key) new (map (at_rows rows) entries)
+    all-moved has_key [] placed e (i, il, is) = absurd (omega arith)
+    all-moved {R} has_key (x ∷ xs) placed e (zero, il, is) = subst (λ (f : Entry R ℕ). IsPlaced (HasOwn has_key f) new f.keys) is (placed-moved x.keys (placed x (Contains-head x xs)))
+    all-moved {R} has_key (x ∷ xs) placed e (suc i, il, is) = all-moved has_key xs (λ f c. placed f (Contains-tail x xs f c)) e (i, omega arith, is)

@@ -1,9 +1,9 @@
 -- Values in two rows of which no two match, and what one value more makes of them.
-use Rattle.std.proofs.Common.{◌≡◌, ℕ, ◌+◌, ◌≤◌, Bool, true, false, IsTrue, List, [], ◌∷◌, ◌++◌, length, get_or, append_assoc, refl, sym, ◌∙◌, ap, subst, inl, inr, arith}
-use Rattle.std.specs.Prelude.{All, Contains, count_by, sum_by}
+use Rattle.std.proofs.Common.{◌≡◌, ℕ, ◌+◌, ◌≤◌, Bool, true, false, IsTrue, List, [], ◌∷◌, ◌++◌, Option, None, length, get_or, append_assoc, refl, sym, ◌∙◌, ap, subst, inl, inr, arith}
+use Rattle.std.specs.Prelude.{◌⊎◌, All, Contains, count_by, sum_by}
 use Rattle.std.specs.List.Sorted.{IsPermutation}
 use Rattle.std.proofs.lemmas.List.{get_or_append_left, get_or_at, length-append, map-append}
-use Rattle.std.proofs.lemmas.List.Elements.{All-append, All-contains, Contains-append_left, Contains-append_right, Contains-append_cases}
+use Rattle.std.proofs.lemmas.List.Elements.{All-append, All-contains, Contains-append_left, Contains-append_right, Contains-append_cases, Contains-push_cases}
 use Rattle.std.proofs.lemmas.List.Sorted.{IsPermutation-sym, IsPermutation-trans, IsPermutation-map, IsPermutation-middle, IsPermutation-to_front, IsPermutation-append_left, IsPermutation-append_right, Contains-permutation}
 use Rattle.std.proofs.lemmas.List.Sums.{sum_by-append, sum_by-cons, sum_by_push}
 use Rattle.merge_laws.specs.Reach.{near}
@@ -11,11 +11,15 @@ use Rattle.merge_laws.specs.Resolution.{JoinLaws, MatchLaws, IsResolution, membe
 use Rattle.merge_laws.proofs.Places.{Contains-head, Contains-tail, AllPairs-permutation, AllPairs-rest}
 use Rattle.merge_laws.proofs.Resolutions.{IsDominated-refl, IsResolution-from_apart, IsResolution-through}
 use Rattle.merge_laws.proofs.Resolving.{IsResolving, resolving_inserted, resolving_joined, resolving_kept, IsResolution-from_resolving}
-use Rattle.swoosh_resolver.specs.Tables.{Entry, values_of}
+use Rattle.swoosh_resolver.specs.Tables.{AreFree, Base, Entry, values_of}
 use Rattle.swoosh_resolver.specs.Insertions.{MergesMatch}
 use Rattle.swoosh_resolver.proofs.Views.{count-map}
 
 module _ {R K : Type 0} {match : R → R → Bool} {merge : R → R → R} where
+  -- values that stand on no block go on standing on none
+  pub free_before : (row row' : List (Entry R K)) (value merged : R) → MergesMatch match merge row value row' merged → AreFree row → AreFree row'
+  free_before row row' value merged m free e c = free e (Contains-permutation (m.by ∷ row') row e (IsPermutation-sym row (m.by ∷ row') m.taken) (Contains-tail m.by row' e c))
+
   -- a match in one of the rows is one in both
   pub merges_first : (met apart met' : List (Entry R K)) (value merged : R) → MergesMatch match merge met value met' merged → MergesMatch match merge (met ++ apart) value (met' ++ apart) merged
   merges_first met apart met' value merged m = record {
@@ -123,6 +127,29 @@ unmatched_before match list front rest value x whole apart (k, kl, e) =
     let never : DoNotMatch match (get_or (front ++ value ∷ rest) k x) (get_or (front ++ value ∷ rest) (length front) x) = all k (length front) x kl (omega arith) in
     let none : DoNotMatch match x value = rw (here, there) at never in
     fails (match value x) none.1
+
+-- what has no base is put aside with none
+pub base-none : {R : Type 0} {base base' : Option (Base R)} → (base ≡ None) ⊎ (base ≡ base') → base' ≡ None → base ≡ None
+base-none {R} {base} {base'} either none = elim either as (λ _. base ≡ None) [ inl is ↦ is | inr same ↦ same ∙ none ]
+
+-- so do two rows of them, with one more
+pub free_first : {R K : Type 0} (met apart : List (Entry R K)) (e : Entry R K) → AreFree (met ++ apart) → e.base ≡ None → AreFree ((met ++ e ∷ []) ++ apart)
+free_first {R} {K} met apart e free none f c = elim (Contains-append_cases (met ++ e ∷ []) apart f c) as (λ _. f.base ≡ None) [
+  | inl first ↦ elim (Contains-push_cases met e f first) as (λ _. f.base ≡ None) [
+    | inl before ↦ free f (Contains-append_left met apart f before)
+    | inr same ↦ subst (λ (z : Entry R K). z.base ≡ None) same none
+  ]
+  | inr second ↦ free f (Contains-append_right met apart f second)
+]
+
+pub free_second : {R K : Type 0} (met apart : List (Entry R K)) (e : Entry R K) → AreFree (met ++ apart) → e.base ≡ None → AreFree (met ++ (apart ++ e ∷ []))
+free_second {R} {K} met apart e free none f c = elim (Contains-append_cases met (apart ++ e ∷ []) f c) as (λ _. f.base ≡ None) [
+  | inl first ↦ free f (Contains-append_left met apart f first)
+  | inr second ↦ elim (Contains-push_cases apart e f second) as (λ _. f.base ≡ None) [
+    | inl before ↦ free f (Contains-append_right met apart f before)
+    | inr same ↦ subst (λ (z : Entry R K). z.base ≡ None) same none
+  ]
+]
 
 -- the tests of a value, counted over a row, are those over the list that the row has the values of
 pub paid_near : {R K : Type 0} (shares : R → R → Bool) (met : List (Entry R K)) (list : List R) (value : R) (now then' : ℕ) → values_of met ≡ list → then' ≤ now + count_by (λ e. shares e.value value) met → then' ≤ now + near shares list value

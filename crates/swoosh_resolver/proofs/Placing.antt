@@ -1,12 +1,12 @@
 -- The keys of the rows at places, and the places of the keys of a value.
-use Rattle.std.proofs.Common.{◌≡◌, ◌≢◌, ℕ, zero, suc, ◌+◌, ◌<◌, ◌≤◌, Bool, cond, List, [], ◌∷◌, ◌++◌, Option, None, Some, length, get_or, take, drop, map, refl, sym, ◌∙◌, ap, subst, append_assoc, arith}
-use Rattle.std.specs.Prelude.{AllPairs, Contains, IsSome, count_by, filter_map}
+use Rattle.std.proofs.Common.{◌≡◌, ◌≢◌, ℕ, zero, suc, ◌+◌, ◌<◌, ◌≤◌, Bool, cond, List, [], ◌∷◌, ◌++◌, Option, None, Some, length, get_or, take, drop, map, refl, sym, ◌∙◌, ap, subst, append_assoc, inl, inr, arith}
+use Rattle.std.specs.Prelude.{◌↔◌, ◌⊎◌, AllPairs, Contains, IsSome, count_by, filter_map}
 use Rattle.std.proofs.lemmas.List.{take_more, take-append-drop}
 use Rattle.std.proofs.lemmas.List.Elements.{Contains-append_right, Contains-get_or, filter_map-append}
 use Rattle.std.proofs.lemmas.List.Sums.{sum_by-append}
 use Rattle.merge_laws.proofs.Places.{Contains-head, Contains-tail}
 use Rattle.feature_index.specs.Postings.{Posting, KeepsRows, key_at, numbers_of}
-use Rattle.swoosh_resolver.specs.Tables.{Entry, AreBlocks, AreKeys, ArePlaced, IsPlaced, keys_at}
+use Rattle.swoosh_resolver.specs.Tables.{Entry, AreBlocks, AreKeys, IsPlaced, keys_at}
 use Rattle.swoosh_resolver.specs.Changes.{keys_in}
 use Rattle.swoosh_resolver.proofs.Opening.{reposted}
 use Rattle.swoosh_resolver.proofs.Places.{not-before}
@@ -96,15 +96,15 @@ module _ {K : Type 0} (old new : List (K × Posting)) (stay : KeepsRows old new)
       let rest = keys_at-stay ps (λ q c. rows q (Contains-tail p ps q c)) in
       rw (at, at', rest) refl
 
-  pub placed-stays : {R : Type 0} {has_key : R → K → Type 0} (e : Entry R ℕ) → IsPlaced has_key old e → IsPlaced has_key new e
-  placed-stays {R} {has_key} e placed = record {
+  pub placed-stays : {is_key : K → Type 0} (places : List ℕ) → IsPlaced is_key old places → IsPlaced is_key new places
+  placed-stays {is_key} places placed = record {
     rows = λ place c. row-stays place (placed.rows place c);
-    keys = subst (AreKeys has_key e.value) (sym (keys_at-stay e.keys placed.rows)) placed.keys;
+    keys = subst (AreKeys is_key) (sym (keys_at-stay places placed.rows)) placed.keys;
   }
 
-  pub keys_in-stay : {R : Type 0} {has_key : R → K → Type 0} (entries : List (Entry R ℕ)) → ArePlaced has_key old entries → keys_in new entries ≡ keys_in old entries
-  keys_in-stay [] placed = refl
-  keys_in-stay (e ∷ es) placed = (λ i. keys_at-stay e.keys (placed e (Contains-head e es)).rows i ++ keys_in-stay es (λ f c. placed f (Contains-tail e es f c)) i)
+  pub keys_in-stay : (lists : List (List ℕ)) → ((places : List ℕ) → Contains lists places → (place : ℕ) → Contains places place → IsSome (key_at old place)) → keys_in new lists ≡ keys_in old lists
+  keys_in-stay [] rows = refl
+  keys_in-stay (l ∷ ls) rows = (λ i. keys_at-stay l (rows l (Contains-head l ls)) i ++ keys_in-stay ls (λ m c. rows m (Contains-tail l ls m c)) i)
 
 module _ {K : Type 0} (postings : List (K × Posting)) where
   -- the keys at the places are these keys
@@ -123,11 +123,46 @@ module _ {K : Type 0} (postings : List (K × Posting)) where
   rows-are (p ∷ ps) (k ∷ ks) e place (zero, il, is) = let at : key_at postings p ≡ Some k = cc in rw (← is, at) refl
   rows-are (p ∷ ps) (k ∷ ks) e place (suc i, il, is) = let rest : map (key_at postings) ps ≡ map Some ks = cc in rows-are ps ks rest place (i, omega arith, is)
 
-  pub placed-are : {R : Type 0} {has_key : R → K → Type 0} (value : R) (places : List ℕ) (keys : List K) → map (key_at postings) places ≡ map Some keys → AreKeys has_key value keys → IsPlaced has_key postings (record { value = value; keys = places })
-  placed-are {R} {has_key} value places keys e are = record {
+  pub placed-are : {is_key : K → Type 0} (places : List ℕ) (keys : List K) → map (key_at postings) places ≡ map Some keys → AreKeys is_key keys → IsPlaced is_key postings places
+  placed-are {is_key} places keys e are = record {
     rows = rows-are places keys e;
-    keys = subst (AreKeys has_key value) (sym (keys_at-are places keys e)) are;
+    keys = subst (AreKeys is_key) (sym (keys_at-are places keys e)) are;
   }
+
+module _ {K : Type 0} {is_key : K → Type 0} (eq : K → K → Bool) (old new : List (K × Posting)) (places : List ℕ) (number : ℕ) (placed : IsPlaced is_key old places) where
+  -- what stands under the keys at the places stands under the keys of which these are
+  pub gained-keys : ((k : K) (n : ℕ) → Contains (numbers_of eq new k) n ↔ (Contains (numbers_of eq old k) n ⊎ (Contains (keys_at old places) k × (n ≡ number))))
+      → (k : K) (n : ℕ) → Contains (numbers_of eq new k) n ↔ (Contains (numbers_of eq old k) n ⊎ (is_key k × (n ≡ number)))
+  gained-keys changed k n = (
+    λ c. elim ((changed k n).0 c) as (λ _. Contains (numbers_of eq old k) n ⊎ (is_key k × (n ≡ number))) [
+      | inl before ↦ inl before
+      | inr (at, e) ↦ inr ((placed.keys.members k).0 at, e)
+    ],
+    λ w. (changed k n).1 (elim w as (λ _. Contains (numbers_of eq old k) n ⊎ (Contains (keys_at old places) k × (n ≡ number))) [
+      | inl before ↦ inl before
+      | inr (is, e) ↦ inr ((placed.keys.members k).1 is, e)
+    ]),
+  )
+
+  pub lost-keys : ((k : K) (n : ℕ) → Contains (numbers_of eq new k) n ↔ (Contains (numbers_of eq old k) n × (Contains (keys_at old places) k → n ≢ number)))
+      → (k : K) (n : ℕ) → Contains (numbers_of eq new k) n ↔ (Contains (numbers_of eq old k) n × (is_key k → n ≢ number))
+  lost-keys changed k n = (
+    λ c. (let (before, ne) = (changed k n).0 c in (before, λ is. ne ((placed.keys.members k).1 is))),
+    λ (before, ne). (changed k n).1 (before, λ at. ne ((placed.keys.members k).0 at)),
+  )
+
+  pub moved-keys : (to : ℕ) → ((k : K) (n : ℕ) → Contains (numbers_of eq new k) n ↔ ((Contains (numbers_of eq old k) n × (Contains (keys_at old places) k → n ≢ number)) ⊎ (Contains (keys_at old places) k × (n ≡ to))))
+      → (k : K) (n : ℕ) → Contains (numbers_of eq new k) n ↔ ((Contains (numbers_of eq old k) n × (is_key k → n ≢ number)) ⊎ (is_key k × (n ≡ to)))
+  moved-keys to changed k n = (
+    λ c. elim ((changed k n).0 c) as (λ _. (Contains (numbers_of eq old k) n × (is_key k → n ≢ number)) ⊎ (is_key k × (n ≡ to))) [
+      | inl (before, ne) ↦ inl (before, λ is. ne ((placed.keys.members k).1 is))
+      | inr (at, e) ↦ inr ((placed.keys.members k).0 at, e)
+    ],
+    λ w. (changed k n).1 (elim w as (λ _. (Contains (numbers_of eq old k) n × (Contains (keys_at old places) k → n ≢ number)) ⊎ (Contains (keys_at old places) k × (n ≡ to))) [
+      | inl (before, ne) ↦ inl (before, λ at. ne ((placed.keys.members k).0 at))
+      | inr (is, e) ↦ inr ((placed.keys.members k).1 is, e)
+    ]),
+  )
 
 -- blocks stay what they are where the index keeps its rows and its numbers
 pub blocks-stay : {R K : Type 0} {match : R → R → Bool} {eq : K → K → Bool} {has_key : R → K → Type 0} (blocks : List (Option (Entry R ℕ))) (old new : List (K × Posting)) (count : ℕ)
@@ -135,6 +170,6 @@ pub blocks-stay : {R K : Type 0} {match : R → R → Bool} {eq : K → K → Bo
 blocks-stay blocks old new count same stay are = record {
   apart = are.apart;
   posted = reposted blocks old new same are.posted;
-  placed = λ e there. placed-stays old new stay e (are.placed e there);
+  placed = λ e there. placed-stays old new stay e.keys (are.placed e there);
   counted = are.counted;
 }

@@ -1,16 +1,18 @@
 -- Views of blocks and a change, when a member is taken apart.
-use Rattle.std.proofs.Common.{Bor, ◌≡◌, ℕ, zero, suc, ◌≢◌, ◌+◌, ◌-◌, ◌<◌, Bool, List, [], ◌∷◌, ◌++◌, Option, None, Some, length, get_or, take, append_assoc, refl, sym, ◌∙◌, ap, subst, arith}
+use Rattle.std.proofs.Common.{Bor, ◌≡◌, ℕ, zero, suc, ◌≢◌, ◌+◌, ◌-◌, ◌<◌, Bool, List, [], ◌∷◌, ◌++◌, Option, None, Some, length, get_or, take, append_assoc, refl, sym, ◌∙◌, ap, subst, inl, inr, arith}
 use Rattle.std.specs.Prelude.{AllPairs, IfSome, IsSome, Contains, option_copied, option_map, remove, swap_remove, slice_get, slice_set}
 use Rattle.std.specs.List.Sorted.{IsPermutation}
-use Rattle.std.proofs.lemmas.List.{map-append, take_more, take_all}
-use Rattle.std.proofs.lemmas.List.Sorted.{IsPermutation-refl, IsPermutation-cons, IsPermutation-trans, IsPermutation-middle, IsPermutation-map, IsPermutation-to_front, IsPermutation-append_left, IsPermutation-append_right, IsPermutation-remove}
+use Rattle.std.proofs.lemmas.List.{get_or_default, map-append, take_more, take_all}
+use Rattle.std.proofs.lemmas.List.Quantifiers.{all_pairs_remove}
+use Rattle.std.proofs.lemmas.List.Elements.{Contains-append_cases, Contains-append_left, Contains-get_or}
+use Rattle.std.proofs.lemmas.List.Sorted.{Contains-permutation, IsPermutation-sym, IsPermutation-refl, IsPermutation-cons, IsPermutation-trans, IsPermutation-middle, IsPermutation-map, IsPermutation-to_front, IsPermutation-append_left, IsPermutation-append_right, IsPermutation-remove}
 use Rattle.std.proofs.lemmas.Option.{slice_get_within, get_or_from_slice_get}
 use Rattle.merge_laws.specs.Resolution.{AreApart, DoNotMatch}
-use Rattle.merge_laws.proofs.Places.{AllPairs-permutation}
+use Rattle.merge_laws.proofs.Places.{AllPairs-append, AllPairs-permutation, Contains-tail}
 use Rattle.swoosh_resolver.specs.declared.change.Place.{Place}
 use Rattle.swoosh_resolver.specs.declared.change.Place.TheVariants.{Kept, Fresh}
-use Rattle.swoosh_resolver.specs.Tables.{Entry, block_at, blocks_in, values_of}
-use Rattle.swoosh_resolver.specs.Changes.{without, view_of, Fits}
+use Rattle.swoosh_resolver.specs.Tables.{Base, Entry, block_at, blocks_in, values_of}
+use Rattle.swoosh_resolver.specs.Changes.{without, view_of, Fits, IsClosed, StandApart}
 use Rattle.swoosh_resolver.specs.Splits.{member_at, closed_after, opened_after, others_of, Splits}
 use Rattle.swoosh_resolver.proofs.Views.{taken-kept, fits-kept}
 
@@ -74,6 +76,20 @@ module _ {R K : Type 0} (blocks : List (Option (Entry R K))) (closed : List ℕ)
         go None e = absurd (let no = rw e at stands in cc)
         go (Some x) e = let kept = fits-kept blocks closed opened fits n x e in kept.named
 
+    -- the opened values stand on closed blocks, each alone, also once the member is taken out
+    based_after : (at : Place) → IsSome (member_at blocks closed opened at) → (e : Entry R K) (b : Base R) → Contains (opened_after opened at) e → e.base ≡ Some b → IsClosed blocks (closed_after closed at) b
+    based_after (Kept n) stands e b c is = let old = fits.based e b c is in record { closes = Contains-append_left closed (n ∷ []) b.number old.closes; is = old.is }
+    based_after (Fresh i) stands e b c is =
+        let within = within-from_got opened i stands in
+        let x = get_or opened i e in
+        fits.based e b (Contains-permutation (x ∷ remove opened i) opened e
+        (IsPermutation-sym opened (x ∷ remove opened i) (IsPermutation-remove opened i x within (get_or_default opened i e x within)))
+        (Contains-tail x (remove opened i) e c)) is
+
+    alone_after : (at : Place) → IsSome (member_at blocks closed opened at) → AllPairs StandApart (opened_after opened at)
+    alone_after (Kept n) stands = fits.alone
+    alone_after (Fresh i) stands = all_pairs_remove StandApart opened i (within-from_got opened i stands) fits.alone
+
   module _ {at : Place} {parts : List R} {closed' : List ℕ} {opened' : List (Entry R K)} (s : Splits closed opened at parts closed' opened') where
     -- the parts take the place of the member
     pub split-view : IsPermutation (others_of blocks closed opened at ++ parts) (view_of blocks closed' opened')
@@ -94,4 +110,12 @@ module _ {R K : Type 0} (blocks : List (Option (Entry R K))) (closed : List ℕ)
       distinct = rw s.closes (distinct_after fits at stands);
       named = rw s.closes (named_after fits at stands);
       apart = AllPairs-permutation (DoNotMatch match) (λ x y h. (h.1, h.0)) (others_of blocks closed opened at ++ parts) (view_of blocks closed' opened') split-view apart;
+      based = λ e b c is. elim (Contains-append_cases s.left s.opens.fresh e (subst (λ xs. Contains xs e) s.opens.last c)) as (λ _. IsClosed blocks closed' b) [
+        | inl before ↦ (let old = based_after fits at stands e b (Contains-permutation s.left (opened_after opened at) e (IsPermutation-sym (opened_after opened at) s.left s.stay) before) is in rw s.closes old)
+        | inr new ↦ (let none = s.opens.free e new in absurd cc)
+      ];
+      alone = rw s.opens.last (AllPairs-append StandApart s.left s.opens.fresh
+          (AllPairs-permutation StandApart (λ x y h a b is is' same. h b a is' is (sym same)) (opened_after opened at) s.left s.stay (alone_after fits at stands))
+          (λ i j d ij jl a b is is'. (let none = s.opens.free (get_or s.opens.fresh i d) (Contains-get_or s.opens.fresh i d (omega arith)) in absurd cc))
+          (λ x y cx cy a b is is'. (let none = s.opens.free y cy in absurd cc)));
     }

@@ -1,19 +1,19 @@
 -- Views of blocks and a change, when a member is taken out.
-use Rattle.std.proofs.Common.{◌≡◌, ◌≢◌, ℕ, ◌+◌, ◌≤◌, Bool, cond, IsTrue, List, [], ◌∷◌, ◌++◌, Option, None, Some, append_assoc, refl, sym, ◌∙◌, ap, subst, inl, inr, arith}
-use Rattle.std.specs.Prelude.{All, Contains, IsSome, count_by}
+use Rattle.std.proofs.Common.{◌≡◌, ◌≢◌, ℕ, ◌+◌, ◌<◌, ◌≤◌, Bool, cond, IsTrue, List, [], ◌∷◌, ◌++◌, Option, None, Some, get_or, append_assoc, refl, sym, ◌∙◌, ap, subst, inl, inr, arith}
+use Rattle.std.specs.Prelude.{All, AllPairs, Contains, IsSome, count_by}
 use Rattle.std.specs.List.Sorted.{IsPermutation}
-use Rattle.std.proofs.lemmas.List.{append-nil, map-append}
-use Rattle.std.proofs.lemmas.List.Elements.{All-append, All-map, Contains-get_or, Contains-push_cases}
+use Rattle.std.proofs.lemmas.List.{append-nil, get_or-map, length-map, map-append}
+use Rattle.std.proofs.lemmas.List.Elements.{All-append, All-contains, All-map, Contains-append_left, Contains-append_right, Contains-get_or, Contains-push_cases}
 use Rattle.std.proofs.lemmas.List.Quantifiers.{all_pairs_push}
-use Rattle.std.proofs.lemmas.List.Sorted.{IsPermutation-append_left, IsPermutation-append_right, IsPermutation-trans, IsPermutation-middle, IsPermutation-map}
+use Rattle.std.proofs.lemmas.List.Sorted.{Contains-permutation, IsPermutation-sym, IsPermutation-append_left, IsPermutation-append_right, IsPermutation-trans, IsPermutation-middle, IsPermutation-map}
 use Rattle.std.proofs.lemmas.List.Sums.{sum_by-cons, sum_by-append}
 use Rattle.merge_laws.specs.Resolution.{JoinLaws, MatchLaws, IsDominated, AreApart, DoNotMatch}
 use Rattle.merge_laws.specs.Reach.{near}
-use Rattle.merge_laws.proofs.Places.{AllPairs-none, AllPairs-permutation, AllPairs-rest}
+use Rattle.merge_laws.proofs.Places.{All-from_members, AllPairs-none, AllPairs-permutation, AllPairs-rest, Contains-tail}
 use Rattle.merge_laws.proofs.Resolutions.{IsDominated-left}
-use Rattle.swoosh_resolver.specs.Tables.{Entry, block_at, blocks_in, values_of}
-use Rattle.swoosh_resolver.specs.Changes.{without, view_of, Fits}
-use Rattle.swoosh_resolver.specs.Insertions.{IsMatchAt, MergesMatch, Merges}
+use Rattle.swoosh_resolver.specs.Tables.{AreFree, Entry, block_at, blocks_in, values_of}
+use Rattle.swoosh_resolver.specs.Changes.{without, view_of, CanStand, Fits, IsClosed, StandApart}
+use Rattle.swoosh_resolver.specs.Insertions.{IsMatchAt, MergesMatch, Merges, TakesMatch}
 use Rattle.swoosh_resolver.proofs.Unmerged.{unmerged_kept, unmerged_fresh}
 use Rattle.swoosh_resolver.proofs.Places.{without-push, block-closed, block-from_open, taken-from_set}
 
@@ -59,13 +59,21 @@ module _ {R K : Type 0} (blocks : List (Option (Entry R K))) (closed : List ℕ)
         | inr same ↦ subst (λ m. IsSome (block_at blocks m)) same (let there = block-from_open closed blocks n e stands in rw there refl)
       ];
       apart = apart-taken e.value (view_of blocks (closed ++ n ∷ []) opened) (taken-kept n e stands);
+      based = λ f b c is. (let old = fits.based f b c is in record { closes = Contains-append_left closed (n ∷ []) b.number old.closes; is = old.is });
+      alone = fits.alone;
     }
+
+    -- the values stand on blocks alone in whichever order
+    pub alone-taken : (e : Entry R K) (rest : List (Entry R K)) → IsPermutation opened (e ∷ rest) → AllPairs StandApart (e ∷ rest)
+    alone-taken e rest taken = AllPairs-permutation StandApart (λ x y h a b is is' same. h b a is' is (sym same)) opened (e ∷ rest) taken fits.alone
 
     pub fits-fresh : (e : Entry R K) (rest : List (Entry R K)) → IsPermutation opened (e ∷ rest) → Fits match blocks closed rest
     fits-fresh e rest taken = record {
       distinct = fits.distinct;
       named = fits.named;
       apart = apart-taken e.value (view_of blocks closed rest) (taken-fresh e rest taken);
+      based = λ f b c is. fits.based f b (Contains-permutation (e ∷ rest) opened f (IsPermutation-sym opened (e ∷ rest) taken) (Contains-tail e rest f c)) is;
+      alone = AllPairs-rest StandApart e rest (alone-taken e rest taken);
     }
 
   -- the members of the view that share a key are blocks, or opened values
@@ -94,6 +102,17 @@ module _ {R K : Type 0} (blocks : List (Option (Entry R K))) (closed : List ℕ)
       All-map P (λ (e : Entry R K). e.value) (blocks_in (without blocks closed) ++ opened)
       (All-append (λ (e : Entry R K). P e.value) (blocks_in (without blocks closed)) opened kept fresh)
 
+  -- what holds of the view holds of the blocks and of the opened values
+  pub All-of_view : (P : R → Type 0) → All P (view_of blocks closed opened) → All (λ e. P e.value) (blocks_in (without blocks closed)) × All (λ e. P e.value) opened
+  All-of_view P all =
+      let left = blocks_in (without blocks closed) in
+      let at : (e : Entry R K) → Contains (left ++ opened) e → P e.value = λ e (i, il, is).
+      All-contains P (view_of blocks closed opened) e.value all
+      (i, let len = length-map (left ++ opened) (λ (e : Entry R K). e.value) in omega arith, get_or-map (λ (e : Entry R K). e.value) (left ++ opened) i e e.value il ∙ ap (λ (z : Entry R K). z.value) is) in (
+        All-from_members (λ (e : Entry R K). P e.value) left (λ e c. at e (Contains-append_left left opened e c)),
+        All-from_members (λ (e : Entry R K). P e.value) opened (λ e c. at e (Contains-append_right left opened e c)),
+      )
+
   -- the value is merged with an open block
   pub merges-kept : {match : R → R → Bool} {merge : R → R → R} (join : JoinLaws merge) (laws : MatchLaws match merge) (value block merged : R) (n : ℕ) → IsMatchAt match (without blocks closed) value n block → merged ≡ merge block value → Merges match merge blocks closed opened value (closed ++ n ∷ []) opened merged
   merges-kept {match} {merge} join laws value block merged n m is = record {
@@ -115,17 +134,26 @@ module _ {R K : Type 0} (blocks : List (Option (Entry R K))) (closed : List ℕ)
     others = unmerged_fresh blocks closed opened opened' m.by merged m.taken (subst (IsDominated match merge m.by.value) (sym m.is) (IsDominated-left join laws m.by.value value));
   }
 
+  pub merges-taken : {match : R → R → Bool} {merge : R → R → R} (join : JoinLaws merge) (laws : MatchLaws match merge) (value merged : R) (opened' : List (Entry R K)) (by : Entry R K) → TakesMatch match opened value opened' by → merged ≡ merge by.value value
+      → Merges match merge blocks closed opened value closed opened' merged
+  merges-taken join laws value merged opened' by t is = merges-fresh join laws value merged opened' (record { by = by; taken = t.taken; matches = t.matches; is = is })
+
   -- one value more is opened
   pub view-push : (e : Entry R K) → view_of blocks closed (opened ++ e ∷ []) ≡ view_of blocks closed opened ++ e.value ∷ []
   view-push e =
       ap values_of (sym (append_assoc (blocks_in (without blocks closed)) opened (e ∷ [])))
       ∙ map-append (λ (e : Entry R K). e.value) (blocks_in (without blocks closed) ++ opened) (e ∷ [])
 
-  pub fits-push : {match : R → R → Bool} → Fits match blocks closed opened → (e : Entry R K) → AreApart match (view_of blocks closed opened ++ e.value ∷ []) → Fits match blocks closed (opened ++ e ∷ [])
-  fits-push {match} fits e apart = record {
+  pub fits-push : {match : R → R → Bool} → Fits match blocks closed opened → (e : Entry R K) → CanStand match blocks closed opened e.base → AreApart match (view_of blocks closed opened ++ e.value ∷ []) → Fits match blocks closed (opened ++ e ∷ [])
+  fits-push {match} fits e can apart = record {
     distinct = fits.distinct;
     named = fits.named;
     apart = subst (AreApart match) (sym (view-push e)) apart;
+    based = λ f b c is. elim (Contains-push_cases opened e f c) as (λ _. IsClosed blocks closed b) [
+      | inl before ↦ fits.based f b before is
+      | inr same ↦ can.closes b (subst (λ (z : Entry R K). z.base ≡ Some b) (sym same) is)
+    ];
+    alone = all_pairs_push StandApart opened e fits.alone (λ k d kl a b is is'. can.free b is' (get_or opened k d) a (Contains-get_or opened k d kl) is);
   }
 
 -- a view is told by the values that are opened
@@ -133,11 +161,14 @@ pub view-same : {R P : Type 0} (left : List (Entry R P)) (opened opened' : List 
 view-same {R} {P} left opened opened' same =
     map-append (λ (e : Entry R P). e.value) left opened ∙ ap (λ vs. values_of left ++ vs) same ∙ sym (map-append (λ (e : Entry R P). e.value) left opened')
 
-pub fits-same : {R P : Type 0} {match : R → R → Bool} (blocks : List (Option (Entry R P))) (closed : List ℕ) (opened opened' : List (Entry R P)) → values_of opened ≡ values_of opened' → Fits match blocks closed opened → Fits match blocks closed opened'
-fits-same {R} {P} {match} blocks closed opened opened' same fits = record {
+-- so is the fit of values that stand on no block
+pub fits-whole : {R P : Type 0} {match : R → R → Bool} (blocks : List (Option (Entry R P))) (closed : List ℕ) (opened opened' : List (Entry R P)) → values_of opened ≡ values_of opened' → AreFree opened' → Fits match blocks closed opened → Fits match blocks closed opened'
+fits-whole {R} {P} {match} blocks closed opened opened' same free fits = record {
   distinct = fits.distinct;
   named = fits.named;
   apart = subst (AreApart match) (view-same (blocks_in (without blocks closed)) opened opened' same) fits.apart;
+  based = λ e b c is. (let none = free e c in absurd cc);
+  alone = λ i j d ij jl a b is is'. (let none = free (get_or opened' i d) (Contains-get_or opened' i d (omega arith)) in absurd cc);
 }
 
 -- a change of nothing fits
@@ -146,4 +177,6 @@ fits-none {match} blocks apart = record {
   distinct = AllPairs-none (λ m n. m ≢ n);
   named = λ n c. let none = c.1 in absurd (omega arith);
   apart = subst (AreApart match) (sym (ap values_of (append-nil (blocks_in blocks)))) apart;
+  based = λ e b (k, kl, is) is'. absurd (omega arith);
+  alone = AllPairs-none StandApart;
 }

@@ -1,9 +1,9 @@
 -- Changes of blocks that are planned: their view, the room that they want, and what they make of the blocks.
-use Rattle.std.specs.Prelude.{◌≡◌, ◌≢◌, ℕ, ◌+◌, ◌-◌, ◌<◌, ◌≤◌, ◌++◌, nat_lt, if◌then◌else◌, Bool, List, Option, None, Some, IsSome, length, slice_set, slice_index, slice_index_or, count_by, Contains, AllPairs}
+use Rattle.std.specs.Prelude.{◌≡◌, ◌≢◌, ℕ, ◌+◌, ◌-◌, ◌<◌, ◌≤◌, ◌++◌, ◌⊎◌, ◌∷◌, nat_lt, if◌then◌else◌, false, Bool, List, [], Option, None, Some, IsSome, All, drop, take, length, slice_set, slice_index, slice_index_or, count_by, Contains, AllPairs}
 use Rattle.std.specs.List.{fold, flat_map}
 use Rattle.feature_index.specs.Postings.{Posting, spare_of}
 use Rattle.merge_laws.specs.Resolution.{AreApart}
-use Rattle.swoosh_resolver.specs.Tables.{Entry, Table, ArePlaced, block_at, blocks_in, keys_at, values_of}
+use Rattle.swoosh_resolver.specs.Tables.{Base, Entry, Table, ArePlaced, Has, block_at, blocks_in, keys_at, places_at, value_at, values_of}
 
 -- the blocks but those under the numbers
 abbrev pub without : {X : Type 0} → List (Option X) → List ℕ → List (Option X)
@@ -13,32 +13,102 @@ without blocks closed = fold (λ left n. slice_set left n None) blocks closed
 abbrev pub view_of : {R K : Type 0} → List (Option (Entry R K)) → List ℕ → List (Entry R K) → List R
 view_of blocks closed opened = values_of (blocks_in (without blocks closed) ++ opened)
 
--- each number that is closed is that of a block, once, and no two members of the view match
+-- the base is a block that is closed
+pub record IsClosed {R K : Type 0} (blocks : List (Option (Entry R K))) (closed : List ℕ) (base : Base R) : Type 0 where
+  pub closes : Contains closed base.number
+  pub is : value_at blocks base.number ≡ Some base.value
+
+-- two entries do not stand on one block
+abbrev pub StandApart : {R K : Type 0} → Entry R K → Entry R K → Type 0
+StandApart {R} e f = (a b : Base R) → e.base ≡ Some a → f.base ≡ Some b → a.number ≢ b.number
+
+-- each number that is closed is that of a block, once, no two members of the view match, and an opened value that stands on a
+-- block stands on a closed one, alone
 pub record Fits {R K : Type 0} (match : R → R → Bool) (blocks : List (Option (Entry R K))) (closed : List ℕ) (opened : List (Entry R K)) : Type 0 where
   pub distinct : AllPairs (λ m n. m ≢ n) closed
   pub named : (n : ℕ) → Contains closed n → IsSome (block_at blocks n)
   pub apart : AreApart match (view_of blocks closed opened)
+  pub based : (e : Entry R K) (b : Base R) → Contains opened e → e.base ≡ Some b → IsClosed blocks closed b
+  pub alone : AllPairs StandApart opened
 
--- the keys of the entries, one entry after another
-abbrev pub keys_in : {R K : Type 0} → List (K × Posting) → List (Entry R ℕ) → List K
-keys_in postings entries = flat_map (λ e. keys_at postings e.keys) entries
+-- a value may be opened on the base: it is a closed block, no opened value stands on it, and it matches no member of the view
+pub record CanStand {R K : Type 0} (match : R → R → Bool) (blocks : List (Option (Entry R K))) (closed : List ℕ) (opened : List (Entry R K)) (base : Option (Base R)) : Type 0 where
+  pub closes : (b : Base R) → base ≡ Some b → IsClosed blocks closed b
+  pub free : (b : Base R) → base ≡ Some b → (e : Entry R K) (a : Base R) → Contains opened e → e.base ≡ Some a → a.number ≢ b.number
+  pub beside : (b : Base R) → base ≡ Some b → All (λ w. match b.value w ≡ false) (view_of blocks closed opened)
 
--- a number for each opened value, without taking memory, and room under each of its keys, whose places in the index it has
-pub record HasRoom {R K : Type 0} (eq : K → K → Bool) (has_key : R → K → Type 0) (table : Table R K) (closed : List ℕ) (opened : List (Entry R ℕ)) : Type 0 where
-  pub places : length opened ≤ length closed + table.room
-  pub spares : (k : K) → count_by (eq k) (keys_in table.postings opened) ≤ spare_of eq table.postings k
-  pub placed : ArePlaced has_key table.postings opened
+-- the number that the opened value is given is that of its base, where it has one
+pub record AreSeated {R K : Type 0} (opened : List (Entry R K)) (numbers : List ℕ) : Type 0 where
+  pub seated : (i : ℕ) (e : Entry R K) (b : Base R) → i < length opened → slice_index_or opened i e ≡ e → e.base ≡ Some b → slice_index numbers i ≡ b.number
 
--- the number of the opened value at this place: first the closed numbers are given again, and then new ones
+-- one of the opened values stands on the block under the number
+abbrev pub IsStoodOn : {R K : Type 0} → List (Entry R K) → ℕ → Type 0
+IsStoodOn {R} {K} opened n = (e : Entry R K) × (b : Base R) × Contains opened e × (e.base ≡ Some b) × (b.number ≡ n)
+
+-- the closed numbers on which no opened value stands
+pub record AreVacated {R K : Type 0} (closed : List ℕ) (opened : List (Entry R K)) (vacated : List ℕ) : Type 0 where
+  pub members : (n : ℕ) → Contains vacated n → Contains closed n
+  pub free : (n : ℕ) → Contains vacated n → IsStoodOn opened n → ⊥
+  pub whole : (n : ℕ) → Contains closed n → Contains vacated n ⊎ IsStoodOn opened n
+  pub distinct : AllPairs (λ m n. m ≢ n) vacated
+
+-- the number at this place among those of the values that stand on no block: first the vacated numbers are given again, and then
+-- new ones
 abbrev pub number_at : List ℕ → ℕ → ℕ → ℕ
-number_at closed first place = if nat_lt place (length closed) then slice_index closed place else first + (place - length closed)
+number_at vacated first place = if nat_lt place (length vacated) then slice_index vacated place else first + (place - length vacated)
 
--- the numbers of `opened` opened values, in their order
+-- a number for each opened value, each once: that of its base, or else a vacated one, or a new one where all vacated ones and all
+-- new ones before it are given
+pub record AreGiven {R K : Type 0} (vacated : List ℕ) (first : ℕ) (opened : List (Entry R K)) (numbers : List ℕ) : Type 0 where
+  pub len : length numbers ≡ length opened
+  pub distinct : AllPairs (λ m n. m ≢ n) numbers
+  pub seated : AreSeated opened numbers
+  pub fresh : (i : ℕ) (e : Entry R K) → i < length opened → slice_index_or opened i e ≡ e → e.base ≡ None → Contains vacated (slice_index numbers i) ⊎ (first ≤ slice_index numbers i)
+  pub within : (n : ℕ) → Contains numbers n → first ≤ n → n < first + length opened
+  pub saved : (n : ℕ) → Contains numbers n → first ≤ n → (m : ℕ) → Contains vacated m ⊎ ((first ≤ m) × (m < n)) → Contains numbers m
+
+-- numbers for that many opened values, each once: closed ones, and new ones only where all closed ones and all new ones before
+-- them are given
 pub record AreNumbers (closed : List ℕ) (first opened : ℕ) (numbers : List ℕ) : Type 0 where
   pub len : length numbers ≡ opened
-  pub each : (i : ℕ) → i < opened → slice_index numbers i ≡ number_at closed first i
+  pub distinct : AllPairs (λ m n. m ≢ n) numbers
+  pub each : (n : ℕ) → Contains numbers n → Contains closed n ⊎ (first ≤ n)
+  pub saved : (n : ℕ) → Contains numbers n → first ≤ n → (m : ℕ) → Contains closed m ⊎ ((first ≤ m) × (m < n)) → Contains numbers m
+
+-- the places of the keys of the base: those of the block that stands under its number
+abbrev pub base_places : {R : Type 0} → List (Option (Entry R ℕ)) → Option (Base R) → List ℕ
+base_places blocks None = []
+base_places blocks (Some b) = places_at blocks b.number
+
+-- the opened value with all places of its keys: those of its base first
+abbrev pub whole_at : {R : Type 0} → List (Option (Entry R ℕ)) → Entry R ℕ → Entry R ℕ
+whole_at blocks e = record { value = e.value; keys = base_places blocks e.base ++ e.keys; base = None }
+
+-- the places of each opened value but those that the block under its number has already
+abbrev pub added : {R : Type 0} → List (Option (Entry R ℕ)) → List (Entry R ℕ) → List ℕ → List (List ℕ)
+added blocks [] numbers = []
+added blocks (e ∷ es) [] = []
+added blocks (e ∷ es) (n ∷ ns) = drop (length (places_at blocks n)) e.keys ∷ added blocks es ns
+
+-- the keys at the places, one list of places after another
+abbrev pub keys_in : {K : Type 0} → List (K × Posting) → List (List ℕ) → List K
+keys_in postings lists = flat_map (λ places. keys_at postings places) lists
+
+-- room for the opened values under their numbers, without taking memory: each has the places of its keys in the index, first of
+-- all those of the block that stands under its number once the vacated ones are taken out, and there is room under each other key
+pub record HasRoom {R K : Type 0} (eq : K → K → Bool) (has_key : R → K → Type 0) (table : Table R K) (closed : List ℕ) (opened : List (Entry R ℕ)) (numbers vacated : List ℕ) : Type 0 where
+  pub places : length opened ≤ length closed + table.room
+  pub numbered : AreNumbers closed (length table.blocks) (length opened) numbers
+  pub within : (n : ℕ) → Contains numbers n → n < length table.blocks + table.room
+  pub vacates : (n : ℕ) → Contains vacated n → Contains closed n
+  pub once : AllPairs (λ m n. m ≢ n) vacated
+  pub covers : (n : ℕ) → Contains closed n → Contains vacated n ⊎ Contains numbers n
+  pub starts : (i : ℕ) (e : Entry R ℕ) → i < length opened → slice_index_or opened i e ≡ e
+      → places_at (without table.blocks vacated) (slice_index numbers i) ≡ take (length (places_at (without table.blocks vacated) (slice_index numbers i))) e.keys
+  pub placed : ArePlaced (Has has_key) table.postings opened
+  pub spares : (k : K) → count_by (eq k) (keys_in table.postings (added (without table.blocks vacated) opened numbers)) ≤ spare_of eq table.postings k
 
 -- each opened value stands under its number, and under all other numbers stands what stood there
-pub record AreOpened {X : Type 0} (blocks : List (Option X)) (closed : List ℕ) (first : ℕ) (opened : List X) (blocks' : List (Option X)) : Type 0 where
-  pub stand : (i : ℕ) (x : X) → i < length opened → slice_index_or opened i x ≡ x → block_at blocks' (number_at closed first i) ≡ Some x
-  pub others : (n : ℕ) → ((i : ℕ) → i < length opened → n ≢ number_at closed first i) → block_at blocks' n ≡ block_at blocks n
+pub record AreOpened {X : Type 0} (blocks : List (Option X)) (numbers : List ℕ) (opened : List X) (blocks' : List (Option X)) : Type 0 where
+  pub stand : (i : ℕ) (x : X) → i < length opened → slice_index_or opened i x ≡ x → block_at blocks' (slice_index numbers i) ≡ Some x
+  pub others : (n : ℕ) → (Contains numbers n → ⊥) → block_at blocks' n ≡ block_at blocks n

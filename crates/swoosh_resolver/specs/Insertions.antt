@@ -17,6 +17,11 @@ pub record IsMatchAt {R K : Type 0} (match : R → R → Bool) (blocks : List (O
   pub is : block ≡ by.value
   pub matches : IsTrue (match value block)
 
+-- an opened value that the other value matches is taken out
+pub record TakesMatch {R K : Type 0} (match : R → R → Bool) (opened : List (Entry R K)) (value : R) (opened' : List (Entry R K)) (by : Entry R K) : Type 0 where
+  pub taken : IsPermutation opened (by ∷ opened')
+  pub matches : IsTrue (match value by.value)
+
 -- an opened value that the other value matches is taken out, and the two are merged
 pub record MergesMatch {R K : Type 0} (match : R → R → Bool) (merge : R → R → R) (opened : List (Entry R K)) (value : R) (opened' : List (Entry R K)) (merged : R) : Type 0 where
   pub by : Entry R K

@@ -3,7 +3,7 @@ use Rattle.std.specs.Prelude.{◌≡◌, ℕ, ◌++◌, ◌∷◌, List, [], Opt
 use Rattle.std.specs.List.Sorted.{IsPermutation}
 use Rattle.swoosh_resolver.specs.declared.change.Place.{Place}
 use Rattle.swoosh_resolver.specs.declared.change.Place.TheVariants.{Kept, Fresh}
-use Rattle.swoosh_resolver.specs.Tables.{Entry, block_at, values_of}
+use Rattle.swoosh_resolver.specs.Tables.{AreFree, Entry, block_at, values_of}
 use Rattle.swoosh_resolver.specs.Changes.{without, view_of}
 
 -- what stands at a place: the block under the number, where it is not closed, or the opened value at this position
@@ -25,11 +25,12 @@ opened_after opened (Fresh i) = remove opened i
 abbrev pub others_of : {R K : Type 0} → List (Option (Entry R K)) → List ℕ → List (Entry R K) → Place → List R
 others_of blocks closed opened at = view_of blocks (closed_after closed at) (opened_after opened at)
 
--- the values are opened last, in their order
+-- the values are opened last, in their order, and stand on no block
 pub record Opens {R K : Type 0} (opened : List (Entry R K)) (values : List R) (opened' : List (Entry R K)) : Type 0 where
   pub fresh : List (Entry R K)
   pub last : opened' ≡ opened ++ fresh
   pub are : values_of fresh ≡ values
+  pub free : AreFree fresh
 
 -- the member at the place is taken out of the change, the parts are opened last, and nothing else changed
 pub record Splits {R K : Type 0} (closed : List ℕ) (opened : List (Entry R K)) (at : Place) (parts : List R) (closed' : List ℕ) (opened' : List (Entry R K)) : Type 0 where

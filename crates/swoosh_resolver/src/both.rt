@@ -4,14 +4,14 @@
 //! values of the first list, and against merges, that are posted under a key which it seeks: it is known to match no value of its own
 //! list. A merge may match any value, and is tested against those of both lists that are posted under a key which it seeks. Where no
 //! two values match, the tests are at most the pairs, one value of each list, that share a key. Values are moved and never copied.
-ghost use Rattle.std.specs.Prelude.{◌≡◌, ◌≤◌, ◌+◌, ◌++◌, ◌∷◌, [], false};
+ghost use Rattle.std.specs.Prelude.{◌≡◌, ◌≤◌, ◌+◌, ◌++◌, ◌∷◌, [], None, false};
 ghost use Rattle.std.specs.Prelude.{IfOk, IfSome, IfNone, OnOk, All, Contains, count_by, sum_by};
 ghost use Rattle.merge_laws.specs.Resolution.{AreApart, IsResolution};
 ghost use Rattle.merge_laws.specs.Reach.{near};
-ghost use Rattle.swoosh_resolver.specs.Tables.{values_of};
+ghost use Rattle.swoosh_resolver.specs.Tables.{AreFree, values_of};
 ghost use Rattle.swoosh_resolver.specs.Insertions.{MergesMatch};
 
-use crate::keyed::{Placed, Seeker};
+use crate::keyed::{Fresh, Seeker};
 use crate::opened::Opened;
 use crate::split::open_values;
 use key_hashing::hashing::Hashing;
@@ -22,12 +22,16 @@ use std::sync::ledger::Ledger;
 use union_base::memory::Memory;
 
 /// The values alone, in their order. Returns `Memory` if allocation fails.
-fn values_in<R: Resolvable>(entries: Vec<Placed<R>>) -> Result<Vec<R>, Memory>
+fn values_in<R: Resolvable>(entries: Vec<Fresh<R>>) -> Result<Vec<R>, Memory>
     ensures { IfOk result (λ values. values.items ≡ values_of entries.items) }
 {
     let mut values = Vec::with_capacity(*entries.allocator(), entries.len())?;
     for entry in entries {
-        let Placed { value, places: _ } = entry;
+        let Fresh {
+            value,
+            places: _,
+            standing: _,
+        } = entry;
         values.push(value)?;
     }
     Ok(values)
@@ -46,6 +50,7 @@ impl<R: Resolvable> Both<R> {
     fn of(alloc: Global, hashing: Hashing, list: Vec<R>) -> Result<Both<R>, Memory>
         ensures met { IfOk result (λ both. values_of both.met.items ≡ list.items) }
         ensures apart { IfOk result (λ both. both.apart.items ≡ []) }
+        ensures free { IfOk result (λ both. AreFree (both.met.items ++ both.apart.items)) }
     {
         let met = open_values(alloc, Opened::empty(alloc, hashing), list)?;
         Ok(Both {
@@ -62,6 +67,8 @@ impl<R: Resolvable> Both<R> {
         value: &Seeker<R>,
         steps: &mut Steps<L>,
     ) -> Result<Option<R>, Memory>
+        requires free { AreFree (self.old.met.items ++ self.old.apart.items) }
+        requires whole { value.now.base ≡ None }
         ensures merged { IfOk result (λ o. IfSome o (λ merged. MergesMatch R.meets R.join
             (self.old.met.items ++ self.old.apart.items) value.now.value
             (self.new.met.items ++ self.new.apart.items) merged)) }
@@ -86,7 +93,9 @@ impl<R: Resolvable> Both<R> {
         merge: R,
         steps: &mut Steps<L>,
     ) -> Result<Both<R>, Memory>
-        requires { AreApart R.meets (values_of (self.met.items ++ self.apart.items)) }
+        requires apart { AreApart R.meets (values_of (self.met.items ++ self.apart.items)) }
+        requires free { AreFree (self.met.items ++ self.apart.items) }
+        ensures free { IfOk result (λ new. AreFree (new.met.items ++ new.apart.items)) }
         ensures resolved { IfOk result (λ new. IsResolution R.meets R.join
             (values_of (self.met.items ++ self.apart.items) ++ merge ∷ [])
             (values_of (new.met.items ++ new.apart.items))) }
@@ -113,6 +122,8 @@ impl<R: Resolvable> Both<R> {
     ) -> Result<Both<R>, Memory>
         requires apart { AreApart R.meets (values_of (self.met.items ++ self.apart.items)) }
         requires unmatched { All (λ w. R.meets value w ≡ false) (values_of self.apart.items) }
+        requires free { AreFree (self.met.items ++ self.apart.items) }
+        ensures free { IfOk result (λ new. AreFree (new.met.items ++ new.apart.items)) }
         ensures resolved { IfOk result (λ new. IsResolution R.meets R.join
             (values_of (self.met.items ++ self.apart.items) ++ value ∷ [])
             (values_of (new.met.items ++ new.apart.items))) }

@@ -11,12 +11,14 @@ pub struct Change<R: Resolvable> {
 }
 
 /// A change for which blocks have room: the numbers of the blocks that it closes, the values that it opens, with their places in
-/// the index of the blocks, and the numbers under which these will stand, in the same order.
+/// the index of the blocks, and the numbers under which these will stand, in the same order. Of the closed numbers, those on which
+/// no opened value stands are vacated: their blocks leave the index, and those of the others stay there.
 #[derive(Drop)]
 pub struct Ready<R: Resolvable> {
     pub closed: Vec<u64>,
     pub opened: Vec<Placed<R>>,
     pub numbers: Vec<u64>,
+    pub vacated: Vec<u64>,
 }
 
 /// Where a member of a view stands.

@@ -1,21 +1,34 @@
 //! The insertion of a value.
-ghost use Rattle.std.specs.Prelude.{◌≡◌, ◌+◌, ◌<◌, ◌≤◌, ◌++◌, [], ◌∷◌, Some, false, is_some, if◌then◌else◌};
+ghost use Rattle.std.specs.Prelude.{◌≡◌, ◌+◌, ◌<◌, ◌≤◌, ◌++◌, ◌↔◌, ◌⊎◌, ℕ, [], ◌∷◌, Some, false, is_some, if◌then◌else◌};
 ghost use Rattle.std.specs.Prelude.{IfOk, IfSome, IfNone, OnOk, All, List, Contains, count_by};
 ghost use Rattle.merge_laws.specs.Resolution.{IsResolution, IsDominated};
 ghost use Rattle.merge_laws.specs.Reach.{near, reach};
-ghost use Rattle.swoosh_resolver.specs.Tables.{block_at, blocks_in};
-ghost use Rattle.swoosh_resolver.specs.Changes.{without, view_of, Fits};
+ghost use Rattle.swoosh_resolver.specs.Tables.{Base, Entry, Has, IsOnBase, block_at, blocks_in};
+ghost use Rattle.swoosh_resolver.specs.Changes.{without, view_of, CanStand, Fits};
+ghost use Rattle.swoosh_resolver.specs.Looks.{IsLook, IsUnder};
 ghost use Rattle.swoosh_resolver.specs.Insertions.{passes, IsMatchAt, Merges, Inserts};
 
 use crate::blocks::Blocks;
 use crate::change::Change;
-use crate::keyed::Seeker;
-use crate::posting::candidates;
+use crate::keyed::{Fresh, Seeker, Standing};
+use crate::posting::{candidates, push_if};
 use merge_laws::resolvable::Resolvable;
 use merge_laws::steps::Steps;
 use std::alloc::Global;
 use std::sync::ledger::Ledger;
 use union_base::memory::Memory;
+
+/// Those of the numbers that are closed, in their order. Returns `Memory` if allocation fails.
+fn closed_among(alloc: Global, closed: &[u64], numbers: &[u64]) -> Result<Vec<u64>, Memory>
+    ensures { IfOk result (λ shut. (n : ℕ) → Contains shut.items n
+        ↔ (Contains numbers.now n × Contains closed.now n)) }
+{
+    let mut shut = Vec::new(alloc);
+    for number in numbers.iter() {
+        push_if(&mut shut, *number, closed.contains(number))?;
+    }
+    Ok(shut)
+}
 
 impl<R: Resolvable> Blocks<R> {
     /// The block under the number, where it is not closed and the value matches it. Takes no memory.
@@ -41,30 +54,212 @@ impl<R: Resolvable> Blocks<R> {
         }
     }
 
-    /// The first block that the value matches among those that are not closed, with its number. Returns `Memory` if allocation fails.
+    /// The numbers of the blocks that have one of the keys, in ascending order. Returns `Memory` if allocation fails.
+    fn under(&self, alloc: Global, keys: &[R::Key]) -> Result<Vec<u64>, Memory>
+        ensures { IfOk result (λ numbers. IsLook (IsUnder (Has R.is_posted) keys.now)
+            self.now.blocks numbers.items) }
+    {
+        candidates::<R>(alloc, &self.postings, keys, Vec::new(alloc))
+    }
+
+    /// The first block that the value matches among those that are not closed, with its number. The numbers are those of the blocks
+    /// under the keys that it seeks. Takes no memory.
     fn first_kept<L: Ledger>(
         &self,
-        alloc: Global,
         closed: &[u64],
+        numbers: &[u64],
         value: &Seeker<R>,
         steps: &mut Steps<L>,
-    ) -> Result<Option<(u64, &R)>, Memory>
-        ensures found { IfOk result (λ o. IfSome o (λ p. IsMatchAt R.meets
-            (without self.now.blocks closed.now) value.now.value p.0 p.1.now)) }
-        ensures none { IfOk result (λ o. IfNone o
-            (All (λ e. R.meets value.now.value e.value ≡ false) (blocks_in
-            (without self.now.blocks closed.now)))) }
-        ensures cost { steps.new ≤ steps.old + count_by (λ e. R.shares e.value value.now.value)
-            (blocks_in
+    ) -> Option<(u64, &R)>
+        requires look { IsLook (IsUnder (Has R.is_posted) value.now.keys) self.now.blocks
+            numbers.now }
+        requires beside { (b : Base R) → value.now.base ≡ Some b
+            → All (λ e. R.meets b.value e.value ≡ false) (blocks_in
             (without self.now.blocks closed.now)) }
+        ensures found { IfSome result (λ p. IsMatchAt R.meets
+            (without self.now.blocks closed.now) value.now.value p.0 p.1.now) }
+        ensures none { IfNone result (All (λ e. R.meets value.now.value e.value ≡ false) (blocks_in
+            (without self.now.blocks closed.now))) }
+        ensures cost { steps.new ≤ steps.old + count_by (λ e. R.shares e.value value.now.value)
+            (blocks_in (without self.now.blocks closed.now)) }
     {
-        let numbers = candidates::<R>(alloc, &self.postings, value.sought.as_slice())?;
+        let _ = &value.sought;
         for number in numbers.iter() {
             if let Some(block) = self.kept_match(closed, *number, value, steps) {
-                return Ok(Some((*number, block)));
+                return Some((*number, block));
             }
         }
-        Ok(None)
+        None
+    }
+
+    /// How many keys the block under the number has: none where no block has it. Takes no memory.
+    fn size(&self, number: u64) -> usize {
+        match self.blocks.get(number as usize) {
+            Some(Some(placed)) => placed.places.len(),
+            _ => 0,
+        }
+    }
+
+    /// Of the two blocks the one with more keys. Takes no memory.
+    fn larger(&self, one: Option<Standing<R>>, other: Option<Standing<R>>) -> Option<Standing<R>>
+        ensures { (result ≡ one) ⊎ (result ≡ other) }
+    {
+        match one {
+            None => other,
+            Some(one) => match other {
+                None => Some(one),
+                Some(other) => {
+                    if self.size(one.number) < self.size(other.number) {
+                        Some(other)
+                    } else {
+                        Some(one)
+                    }
+                }
+            },
+        }
+    }
+
+    /// What the value merges to with the other one, which has the block in it where one is given. Returns `Memory` if allocation
+    /// fails.
+    fn merged(
+        &self,
+        alloc: Global,
+        other: &R,
+        standing: Option<Standing<R>>,
+        value: &Seeker<R>,
+    ) -> Result<Seeker<R>, Memory>
+        requires { IfSome standing (λ b. R.join b.value other.now ≡ other.now) }
+        ensures value { IfOk result (λ s. s.value ≡ R.join other.now value.now.value) }
+        ensures base { IfOk result (λ s. (s.base ≡ standing) ⊎ (s.base ≡ value.now.base)) }
+    {
+        let _ = &value.value;
+        let before = value.standing(alloc)?;
+        let standing = self.larger(standing, before);
+        value.merged(alloc, other, standing)
+    }
+
+    /// What the value merges to with the block under the number. Returns `Memory` if allocation fails.
+    fn merged_kept(
+        &self,
+        alloc: Global,
+        number: u64,
+        block: &R,
+        value: &Seeker<R>,
+    ) -> Result<Seeker<R>, Memory>
+        ensures value { IfOk result (λ s. s.value ≡ R.join block.now value.now.value) }
+        ensures base { IfOk result (λ s. (s.base ≡ Some (record {
+          number = number;
+          value = block.now;
+        })) ⊎ (s.base ≡ value.now.base)) }
+    {
+        let base = block.copied(alloc)?;
+        self.merged(alloc, block, Some(Standing { number, base }), value)
+    }
+
+    /// What the value merges to with the opened one. Returns `Memory` if allocation fails.
+    fn merged_fresh(
+        &self,
+        alloc: Global,
+        other: Fresh<R>,
+        value: &Seeker<R>,
+    ) -> Result<Seeker<R>, Memory>
+        requires { IsOnBase R.is_posted R.join other.value other.base }
+        ensures value { IfOk result (λ s. s.value ≡ R.join other.value value.now.value) }
+        ensures base { IfOk result (λ s. (s.base ≡ other.base) ⊎ (s.base ≡ value.now.base)) }
+    {
+        let Fresh {
+            value: block,
+            places: _,
+            standing,
+        } = other;
+        self.merged(alloc, &block, standing, value)
+    }
+
+    /// What the value merges to with an open block that it matches, and then this block is closed. None where it matches none. The
+    /// numbers are those of the blocks under the keys that it seeks. Returns `Memory` if allocation fails.
+    fn merge_kept<L: Ledger>(
+        &self,
+        alloc: Global,
+        change: &mut Change<R>,
+        numbers: &[u64],
+        value: &Seeker<R>,
+        steps: &mut Steps<L>,
+    ) -> Result<Option<Seeker<R>>, Memory>
+        requires fits { Fits R.meets self.now.blocks change.old.closed.items
+            change.old.opened.items }
+        requires stands { CanStand R.meets self.now.blocks change.old.closed.items
+            change.old.opened.items value.now.base }
+        requires look { IsLook (IsUnder (Has R.is_posted) value.now.keys) self.now.blocks
+            numbers.now }
+        ensures merged { IfOk result (λ o. IfSome o
+            (λ merged. Merges R.meets R.join self.now.blocks change.old.closed.items
+            change.old.opened.items value.now.value change.new.closed.items change.new.opened.items
+            merged.value)) }
+        ensures fits { OnOk result (Fits R.meets self.now.blocks change.new.closed.items
+            change.new.opened.items) }
+        ensures stands { IfOk result (λ o. IfSome o (λ merged. CanStand R.meets self.now.blocks
+            change.new.closed.items change.new.opened.items merged.base)) }
+        ensures none { IfOk result (λ o. IfNone o
+            ((change.new.closed.items ≡ change.old.closed.items)
+            × (change.new.opened.items ≡ change.old.opened.items)
+            × All (λ e. R.meets value.now.value e.value ≡ false) (blocks_in
+            (without self.now.blocks change.old.closed.items)))) }
+        ensures cost { steps.new ≤ steps.old + count_by (λ e. R.shares e.value value.now.value)
+            (blocks_in (without self.now.blocks change.old.closed.items)) }
+    {
+        match self.first_kept(change.closed.as_slice(), numbers, value, steps) {
+            Some((number, block)) => {
+                let merged = self.merged_kept(alloc, number, block, value)?;
+                change.closed.push(number)?;
+                Ok(Some(merged))
+            }
+            None => Ok(None),
+        }
+    }
+
+    /// What the value merges to with an opened value that it matches, and then the change is without this one. None where it matches
+    /// none. The numbers are those of the blocks under the keys that it seeks. Returns `Memory` if allocation fails.
+    fn merge_opened<L: Ledger>(
+        &self,
+        alloc: Global,
+        change: &mut Change<R>,
+        numbers: &[u64],
+        value: &Seeker<R>,
+        steps: &mut Steps<L>,
+    ) -> Result<Option<Seeker<R>>, Memory>
+        requires fits { Fits R.meets self.now.blocks change.old.closed.items
+            change.old.opened.items }
+        requires stands { CanStand R.meets self.now.blocks change.old.closed.items
+            change.old.opened.items value.now.base }
+        requires look { IsLook (IsUnder (Has R.is_posted) value.now.keys) self.now.blocks
+            numbers.now }
+        ensures merged { IfOk result (λ o. IfSome o
+            (λ merged. Merges R.meets R.join self.now.blocks change.old.closed.items
+            change.old.opened.items value.now.value change.new.closed.items change.new.opened.items
+            merged.value)) }
+        ensures fits { OnOk result (Fits R.meets self.now.blocks change.new.closed.items
+            change.new.opened.items) }
+        ensures stands { IfOk result (λ o. IfSome o (λ merged. CanStand R.meets self.now.blocks
+            change.new.closed.items change.new.opened.items merged.base)) }
+        ensures none { IfOk result (λ o. IfNone o
+            ((change.new.closed.items ≡ change.old.closed.items)
+            × (change.new.opened.items ≡ change.old.opened.items)
+            × All (λ e. R.meets value.now.value e.value ≡ false) change.old.opened.items)) }
+        ensures cost { steps.new ≤ steps.old + count_by (λ e. R.shares e.value value.now.value)
+            change.old.opened.items }
+    {
+        let _ = &value.sought;
+        let shut = closed_among(alloc, change.closed.as_slice(), numbers)?;
+        match change
+            .opened
+            .take_match(alloc, shut.as_slice(), value, steps)?
+        {
+            Some(other) => {
+                let merged = self.merged_fresh(alloc, other, value)?;
+                Ok(Some(merged))
+            }
+            None => Ok(None),
+        }
     }
 
     /// What the value merges to with a member of the view that it matches, and then the change is without this member. None
@@ -75,14 +270,19 @@ impl<R: Resolvable> Blocks<R> {
         change: &mut Change<R>,
         value: &Seeker<R>,
         steps: &mut Steps<L>,
-    ) -> Result<Option<R>, Memory>
-        requires { Fits R.meets self.now.blocks change.old.closed.items change.old.opened.items }
+    ) -> Result<Option<Seeker<R>>, Memory>
+        requires fits { Fits R.meets self.now.blocks change.old.closed.items
+            change.old.opened.items }
+        requires stands { CanStand R.meets self.now.blocks change.old.closed.items
+            change.old.opened.items value.now.base }
         ensures merged { IfOk result (λ o. IfSome o
             (λ merged. Merges R.meets R.join self.now.blocks change.old.closed.items
             change.old.opened.items value.now.value change.new.closed.items change.new.opened.items
-            merged)) }
+            merged.value)) }
         ensures fits { OnOk result (Fits R.meets self.now.blocks change.new.closed.items
             change.new.opened.items) }
+        ensures stands { IfOk result (λ o. IfSome o (λ merged. CanStand R.meets self.now.blocks
+            change.new.closed.items change.new.opened.items merged.base)) }
         ensures none { IfOk result (λ o. IfNone o
             ((change.new.closed.items ≡ change.old.closed.items) ×
             (change.new.opened.items ≡ change.old.opened.items)
@@ -92,17 +292,11 @@ impl<R: Resolvable> Blocks<R> {
             (view_of self.now.blocks change.old.closed.items change.old.opened.items)
             value.now.value }
     {
-        if let Some((number, block)) = self.first_kept(
-            alloc,
-            change.closed.as_slice(),
-            value,
-            steps,
-        )? {
-            let merged = block.joined(alloc, &value.value)?;
-            change.closed.push(number)?;
-            return Ok(Some(merged));
+        let numbers = self.under(alloc, value.sought.as_slice())?;
+        match self.merge_kept(alloc, change, numbers.as_slice(), value, steps)? {
+            Some(merged) => Ok(Some(merged)),
+            None => self.merge_opened(alloc, change, numbers.as_slice(), value, steps),
         }
-        change.opened.merge_match(alloc, value, steps)
     }
 
     /// The change with the value inserted: its view is the resolution of the view so far and the value, and it closes no block
@@ -133,7 +327,7 @@ impl<R: Resolvable> Blocks<R> {
         let mut change = change;
         let mut value = Seeker::of(alloc, value)?;
         while let Some(merged) = self.merge_next(alloc, &mut change, &value, steps)? {
-            value = Seeker::of(alloc, merged)?;
+            value = merged;
         }
         let keyed = value.keyed(alloc)?;
         let Change { closed, opened } = change;

@@ -1,34 +1,24 @@
 //! Changes take effect.
-ghost use Rattle.std.specs.Prelude.{◌≡◌, ◌≢◌, ◌+◌, ◌-◌, ◌^◌, ◌<◌, ◌≤◌, ◌⊎◌, ◌++◌, ℕ, Some, None, IsSome, IfOk};
-ghost use Rattle.std.specs.Prelude.{OnOk, AllPairs, Contains, length, map, slice_index, slice_set, vec_capacity};
+ghost use Rattle.std.specs.Prelude.{◌≡◌, ◌≢◌, ◌+◌, ◌<◌, ◌≤◌, ◌++◌, ◌⊎◌, ℕ, Some, None, IsSome, IfOk};
+ghost use Rattle.std.specs.Prelude.{OnOk, AllPairs, Contains, drop, take, length, map, slice_index, slice_index_or, slice_set, vec_capacity};
 ghost use Rattle.std.specs.Prelude.{count_by};
 ghost use Rattle.std.specs.List.Sorted.{IsPermutation};
 ghost use Rattle.feature_index.specs.Postings.{KeepsRows, numbers_of, posting_of, spare_of};
-ghost use Rattle.swoosh_resolver.specs.Tables.{Entry, ArePlaced, ArePosted, IsPlaced, at_rows};
-ghost use Rattle.swoosh_resolver.specs.Tables.{block_at, blocks_in, keys_at, put_block, values_of};
-ghost use Rattle.swoosh_resolver.specs.Changes.{AreNumbers, AreOpened, Fits, HasRoom, keys_in, number_at, view_of, without};
+ghost use Rattle.swoosh_resolver.specs.Tables.{Entry, ArePlaced, ArePosted, Has, HasOwn, IsOnBase, IsPlaced, at_rows};
+ghost use Rattle.swoosh_resolver.specs.Tables.{block_at, blocks_in, keys_at, places_at, standings_of, values_of};
+ghost use Rattle.swoosh_resolver.specs.Changes.{AreNumbers, AreOpened, AreSeated, Fits, HasRoom};
+ghost use Rattle.swoosh_resolver.specs.Changes.{added, base_places, keys_in, view_of, whole_at, without};
 
 use crate::blocks::Blocks;
 use crate::change::{Change, Ready};
-use crate::keyed::Placed;
+use crate::keyed::{Fresh, Placed, Standing};
+use crate::numbers::{numbers_for, vacated};
 use crate::opened::Opened;
 use crate::posting::{make_room_for, post, rows_of, unpost};
 use feature_index::postings::Postings;
 use merge_laws::resolvable::Resolvable;
 use std::alloc::Global;
 use union_base::memory::Memory;
-
-/// The number of the opened value at this place: first the closed numbers are given again, and then new ones.
-fn number_at(closed: &[u64], first: usize, place: usize) -> u64
-    requires { first + (place - length closed.now) < 2 ^ 64 }
-    ensures { result ≡ number_at closed.now first place }
-{
-    if place < closed.len() {
-        closed[place]
-    } else {
-        (first + (place - closed.len())) as u64
-    }
-}
 
 /// Takes the block from under the number. Takes no memory.
 fn close<R: Resolvable>(
@@ -37,49 +27,18 @@ fn close<R: Resolvable>(
     number: u64,
 )
     requires stands { IsSome (block_at blocks.old.items number) }
-    requires posted { ArePosted R.Key.eq R.is_posted blocks.old.items postings.old }
-    requires placed { ArePlaced R.is_posted postings.old (blocks_in blocks.old.items) }
+    requires posted { ArePosted R.Key.eq (Has R.is_posted) blocks.old.items postings.old }
+    requires placed { ArePlaced (Has R.is_posted) postings.old (blocks_in blocks.old.items) }
     ensures blocks { blocks.new.items ≡ slice_set blocks.old.items number None }
-    ensures posted { ArePosted R.Key.eq R.is_posted blocks.new.items postings.new }
-    ensures placed { ArePlaced R.is_posted postings.new (blocks_in blocks.new.items) }
+    ensures posted { ArePosted R.Key.eq (Has R.is_posted) blocks.new.items postings.new }
+    ensures placed { ArePlaced (Has R.is_posted) postings.new (blocks_in blocks.new.items) }
     ensures spares { (k : R.Key) → spare_of R.Key.eq postings.new k
         ≡ spare_of R.Key.eq postings.old k }
     ensures rows { KeepsRows postings.old postings.new }
     ensures capacity { vec_capacity blocks.new ≡ vec_capacity blocks.old }
 {
     if let Some(placed) = blocks[number as usize].take() {
-        unpost(postings, &placed, number);
-    }
-}
-
-/// Puts a block under a number that has none, in the room that was made. Takes no memory.
-fn open<R: Resolvable>(
-    blocks: &mut Vec<Option<Placed<R>>>,
-    postings: &mut Postings<R::Key>,
-    number: u64,
-    placed: Placed<R>,
-)
-    requires free { block_at blocks.old.items number ≡ None }
-    requires within { number ≤ length blocks.old.items }
-    requires place { number < vec_capacity blocks.old }
-    requires room { (k : R.Key) → count_by (R.Key.eq k) (keys_at postings.old placed.keys)
-        ≤ spare_of R.Key.eq postings.old k }
-    requires posted { ArePosted R.Key.eq R.is_posted blocks.old.items postings.old }
-    requires placed { IsPlaced R.is_posted postings.old placed }
-    ensures blocks { blocks.new.items ≡ put_block blocks.old.items number placed }
-    ensures posted { ArePosted R.Key.eq R.is_posted blocks.new.items postings.new }
-    ensures spares { (k : R.Key) → spare_of R.Key.eq postings.old k
-        ≤ spare_of R.Key.eq postings.new k + count_by
-        (R.Key.eq k) (keys_at postings.old placed.keys) }
-    ensures rows { KeepsRows postings.old postings.new }
-    ensures capacity { vec_capacity blocks.old ≤ vec_capacity blocks.new }
-{
-    post(postings, &placed, number);
-    let place = number as usize;
-    if place < blocks.len() {
-        blocks[place] = Some(placed);
-    } else {
-        let _ = blocks.push(Some(placed));
+        unpost::<R>(postings, placed.places.as_slice(), number);
     }
 }
 
@@ -91,11 +50,11 @@ fn close_all<R: Resolvable>(
 )
     requires distinct { AllPairs (λ m n. m ≢ n) closed.now }
     requires named { (n : ℕ) → Contains closed.now n → IsSome (block_at blocks.old.items n) }
-    requires posted { ArePosted R.Key.eq R.is_posted blocks.old.items postings.old }
-    requires placed { ArePlaced R.is_posted postings.old (blocks_in blocks.old.items) }
+    requires posted { ArePosted R.Key.eq (Has R.is_posted) blocks.old.items postings.old }
+    requires placed { ArePlaced (Has R.is_posted) postings.old (blocks_in blocks.old.items) }
     ensures blocks { blocks.new.items ≡ without blocks.old.items closed.now }
-    ensures posted { ArePosted R.Key.eq R.is_posted blocks.new.items postings.new }
-    ensures placed { ArePlaced R.is_posted postings.new (blocks_in blocks.new.items) }
+    ensures posted { ArePosted R.Key.eq (Has R.is_posted) blocks.new.items postings.new }
+    ensures placed { ArePlaced (Has R.is_posted) postings.new (blocks_in blocks.new.items) }
     ensures spares { (k : R.Key) → spare_of R.Key.eq postings.new k
         ≡ spare_of R.Key.eq postings.old k }
     ensures rows { KeepsRows postings.old postings.new }
@@ -106,33 +65,98 @@ fn close_all<R: Resolvable>(
     }
 }
 
-/// Opens each of the values under its number. Takes no memory.
-fn open_all<R: Resolvable>(
+/// How many places the block under the number has: none where no block stands there. Takes no memory.
+fn kept_at<R: Resolvable>(blocks: &[Option<Placed<R>>], number: u64) -> usize
+    ensures { result ≡ length (places_at blocks.now number) }
+{
+    match blocks.get(number as usize) {
+        Some(Some(placed)) => placed.places.len(),
+        _ => 0,
+    }
+}
+
+/// Makes the row of blocks long enough for the number, in the room that was made. Takes no memory.
+fn lengthen<R: Resolvable>(blocks: &mut Vec<Option<Placed<R>>>, number: u64)
+    requires { number < vec_capacity blocks.old }
+    ensures blocks { (n : ℕ) → block_at blocks.new.items n ≡ block_at blocks.old.items n }
+    ensures within { number < length blocks.new.items }
+    ensures capacity { vec_capacity blocks.old ≤ vec_capacity blocks.new }
+{
+    let end = number as usize + 1;
+    for place in blocks.len()..end {
+        let _ = blocks.push(None);
+    }
+}
+
+/// The value's places but the first ones, which are that many. Takes no memory.
+fn places_from<R: Resolvable>(placed: &Placed<R>, kept: usize) -> &[usize]
+    requires { kept ≤ length placed.now.keys }
+    ensures { result.now ≡ drop kept placed.now.keys }
+{
+    &placed.places.as_slice()[kept..]
+}
+
+/// Puts the value under the number, in the room that was made. Where a block stands there, the value has its places first, and at
+/// these its number stands in the index already. Takes no memory.
+fn put<R: Resolvable>(
     blocks: &mut Vec<Option<Placed<R>>>,
     postings: &mut Postings<R::Key>,
-    closed: &[u64],
+    number: u64,
+    placed: Placed<R>,
+)
+    requires place { number < vec_capacity blocks.old }
+    requires starts { places_at blocks.old.items number
+        ≡ take (length (places_at blocks.old.items number)) placed.keys }
+    requires room { (k : R.Key) → count_by (R.Key.eq k) (keys_at postings.old
+        (drop (length (places_at blocks.old.items number)) placed.keys))
+        ≤ spare_of R.Key.eq postings.old k }
+    requires posted { ArePosted R.Key.eq (Has R.is_posted) blocks.old.items postings.old }
+    requires standing { (e : Entry R ℕ) → block_at blocks.old.items number ≡ Some e
+        → IsPlaced (R.is_posted e.value) postings.old e.keys }
+    requires placed { IsPlaced (R.is_posted placed.value) postings.old placed.keys }
+    ensures here { block_at blocks.new.items number ≡ Some placed }
+    ensures others { (n : ℕ) → n ≢ number → block_at blocks.new.items n
+        ≡ block_at blocks.old.items n }
+    ensures posted { ArePosted R.Key.eq (Has R.is_posted) blocks.new.items postings.new }
+    ensures spares { (k : R.Key) → spare_of R.Key.eq postings.old k
+        ≤ spare_of R.Key.eq postings.new k + count_by (R.Key.eq k) (keys_at postings.old
+        (drop (length (places_at blocks.old.items number)) placed.keys)) }
+    ensures rows { KeepsRows postings.old postings.new }
+    ensures capacity { vec_capacity blocks.old ≤ vec_capacity blocks.new }
+{
+    let kept = kept_at(blocks.as_slice(), number);
+    post::<R>(postings, places_from(&placed, kept), number);
+    lengthen(blocks, number);
+    blocks[number as usize] = Some(placed);
+}
+
+/// Puts each of the values under its number. Takes no memory.
+fn put_all<R: Resolvable>(
+    blocks: &mut Vec<Option<Placed<R>>>,
+    postings: &mut Postings<R::Key>,
+    numbers: &[u64],
     opened: Vec<Placed<R>>,
 )
-    requires distinct { AllPairs (λ m n. m ≢ n) closed.now }
-    requires free { (n : ℕ) → Contains closed.now n
-        → (n < length blocks.old.items) × (block_at blocks.old.items n ≡ None) }
-    requires places { length opened.items + length blocks.old.items
-        ≤ length closed.now + vec_capacity blocks.old }
-    requires room { (k : R.Key) → count_by (R.Key.eq k) (keys_in postings.old opened.items)
+    requires distinct { AllPairs (λ m n. m ≢ n) numbers.now }
+    requires each { length numbers.now ≡ length opened.items }
+    requires within { (n : ℕ) → Contains numbers.now n → n < vec_capacity blocks.old }
+    requires starts { (i : ℕ) (e : Entry R ℕ) → i < length opened.items
+        → slice_index_or opened.items i e ≡ e
+        → places_at blocks.old.items (slice_index numbers.now i)
+        ≡ take (length (places_at blocks.old.items (slice_index numbers.now i))) e.keys }
+    requires room { (k : R.Key) → count_by (R.Key.eq k)
+        (keys_in postings.old (added blocks.old.items opened.items numbers.now))
         ≤ spare_of R.Key.eq postings.old k }
-    requires posted { ArePosted R.Key.eq R.is_posted blocks.old.items postings.old }
-    requires placed { ArePlaced R.is_posted postings.old opened.items }
-    ensures opened { AreOpened blocks.old.items closed.now (length blocks.old.items) opened.items
-        blocks.new.items }
-    ensures view { IsPermutation (blocks_in blocks.old.items ++ opened.items)
-        (blocks_in blocks.new.items) }
-    ensures posted { ArePosted R.Key.eq R.is_posted blocks.new.items postings.new }
+    requires posted { ArePosted R.Key.eq (Has R.is_posted) blocks.old.items postings.old }
+    requires standing { ArePlaced (Has R.is_posted) postings.old (blocks_in blocks.old.items) }
+    requires placed { ArePlaced (Has R.is_posted) postings.old opened.items }
+    ensures opened { AreOpened blocks.old.items numbers.now opened.items blocks.new.items }
+    ensures posted { ArePosted R.Key.eq (Has R.is_posted) blocks.new.items postings.new }
     ensures rows { KeepsRows postings.old postings.new }
 {
-    let first = blocks.len();
     let mut place = 0;
     for placed in opened {
-        open(blocks, postings, number_at(closed, first, place), placed);
+        put(blocks, postings, numbers[place], placed);
         place += 1;
     }
 }
@@ -141,17 +165,17 @@ fn open_all<R: Resolvable>(
 fn make_room_for_all<R: Resolvable>(
     alloc: Global,
     postings: &mut Postings<R::Key>,
-    opened: &[Placed<R>],
+    opened: &[Fresh<R>],
 ) -> Result<(), Memory>
-    requires { ArePlaced R.is_posted postings.old opened.now }
+    requires { ArePlaced (HasOwn R.is_posted) postings.old opened.now }
     ensures numbers { (k : R.Key) → numbers_of R.Key.eq postings.new k
         ≡ numbers_of R.Key.eq postings.old k }
     ensures room { OnOk result ((k : R.Key) → count_by (R.Key.eq k)
-        (keys_in postings.old opened.now) ≤ spare_of R.Key.eq postings.new k) }
+        (keys_in postings.old (map (λ e. e.keys) opened.now)) ≤ spare_of R.Key.eq postings.new k) }
     ensures rows { KeepsRows postings.old postings.new }
 {
-    for placed in opened.iter() {
-        make_room_for::<R>(alloc, postings, placed.places.as_slice())?;
+    for fresh in opened.iter() {
+        make_room_for::<R>(alloc, postings, fresh.places.as_slice())?;
     }
     Ok(())
 }
@@ -171,18 +195,26 @@ fn moved_places(places: Vec<usize>, rows: &[usize]) -> Vec<usize>
 /// The values, each with the places that `rows` lists at its places. Returns `Memory` if allocation fails.
 fn moved_all<R: Resolvable>(
     alloc: Global,
-    values: Vec<Placed<R>>,
+    values: Vec<Fresh<R>>,
     rows: &[usize],
-) -> Result<Vec<Placed<R>>, Memory>
+) -> Result<Vec<Fresh<R>>, Memory>
     requires { (e : Entry R ℕ) → Contains values.items e → (place : ℕ) → Contains e.keys place
         → place < length rows.now }
     ensures { IfOk result (λ moved. moved.items ≡ map (at_rows rows.now) values.items) }
 {
     let mut moved = Vec::with_capacity(alloc, values.len())?;
-    for placed in values {
-        let Placed { value, places } = placed;
+    for fresh in values {
+        let Fresh {
+            value,
+            places,
+            standing,
+        } = fresh;
         let places = moved_places(places, rows);
-        moved.push(Placed { value, places })?;
+        moved.push(Fresh {
+            value,
+            places,
+            standing,
+        })?;
     }
     Ok(moved)
 }
@@ -193,9 +225,13 @@ fn moved<R: Resolvable>(
     alloc: Global,
     postings: &mut Postings<R::Key>,
     opened: Opened<R>,
-) -> Result<Vec<Placed<R>>, Memory>
-    ensures values { IfOk result (λ moved. values_of moved.items ≡ values_of opened.items) }
-    ensures placed { IfOk result (λ moved. ArePlaced R.is_posted postings.new moved.items) }
+) -> Result<Vec<Fresh<R>>, Memory>
+    ensures values { IfOk result (λ moved. standings_of moved.items
+        ≡ standings_of opened.items) }
+    ensures placed { IfOk result (λ moved. ArePlaced (HasOwn R.is_posted) postings.new
+        moved.items) }
+    ensures based { IfOk result (λ moved. (e : Entry R ℕ) → Contains moved.items e
+        → IsOnBase R.is_posted R.join e.value e.base) }
     ensures postings { (k : R.Key) → posting_of R.Key.eq postings.new k
         ≡ posting_of R.Key.eq postings.old k }
     ensures rows { KeepsRows postings.old postings.new }
@@ -207,27 +243,71 @@ fn moved<R: Resolvable>(
     Ok(moved)
 }
 
-/// The numbers of the opened values, `opened` of them, in their order. Returns `Memory` if allocation fails.
-fn numbers_of_opened(
+/// The places of the block on which a value stands, where it stands on one, and then the given ones. Returns `Memory` if allocation
+/// fails.
+fn whole_places<R: Resolvable>(
     alloc: Global,
-    closed: &[u64],
-    first: usize,
-    opened: usize,
-) -> Result<Vec<u64>, Memory>
-    requires { first + opened < 2 ^ 64 }
-    ensures { IfOk result (λ numbers. AreNumbers closed.now first opened numbers.items) }
+    blocks: &[Option<Placed<R>>],
+    standing: Option<Standing<R>>,
+    places: Vec<usize>,
+) -> Result<Vec<usize>, Memory>
+    ensures { IfOk result (λ all. all.items ≡ base_places blocks.now standing ++ places.items) }
 {
-    let mut numbers = Vec::with_capacity(alloc, opened)?;
-    for place in 0..opened {
-        numbers.push(number_at(closed, first, place))?;
+    match standing {
+        None => Ok(places),
+        Some(standing) => {
+            let mut places = places;
+            let mut all = copied_places(alloc, blocks, standing.number)?;
+            all.append(&mut places)?;
+            Ok(all)
+        }
     }
-    Ok(numbers)
+}
+
+/// The places of the block under the number: none where no block stands there. Returns `Memory` if allocation fails.
+fn copied_places<R: Resolvable>(
+    alloc: Global,
+    blocks: &[Option<Placed<R>>],
+    number: u64,
+) -> Result<Vec<usize>, Memory>
+    ensures { IfOk result (λ all. all.items ≡ places_at blocks.now number) }
+{
+    match blocks.get(number as usize) {
+        Some(Some(placed)) => {
+            let mut all = Vec::new(alloc);
+            all.extend_from_slice(placed.places.as_slice())?;
+            Ok(all)
+        }
+        _ => Ok(Vec::new(alloc)),
+    }
+}
+
+/// The values, each with the places of the block on which it stands before its own. Returns `Memory` if allocation fails.
+fn whole_all<R: Resolvable>(
+    alloc: Global,
+    blocks: &[Option<Placed<R>>],
+    values: Vec<Fresh<R>>,
+) -> Result<Vec<Placed<R>>, Memory>
+    ensures { IfOk result (λ whole. whole.items ≡ map (whole_at blocks.now) values.items) }
+{
+    let mut whole = Vec::with_capacity(alloc, values.len())?;
+    for fresh in values {
+        let Fresh {
+            value,
+            places,
+            standing,
+        } = fresh;
+        let places = whole_places(alloc, blocks, standing, places)?;
+        whole.push(Placed { value, places })?;
+    }
+    Ok(whole)
 }
 
 impl<R: Resolvable> Blocks<R> {
-    /// Makes room for the change, and moves its keys into the index. Answers what `install` takes, with the numbers that it gives
-    /// to the opened values, in their order. They are distinct, and none of them is the number of a block that the change does not
-    /// close. The blocks stay. Returns `Memory` if allocation fails; the change is lost then.
+    /// Makes room for the change, and moves its keys into the index: of a value that stands on a block, those that the block has not.
+    /// Answers what `install` takes, with the numbers that it gives to the opened values, in their order: a value that stands on a
+    /// block gets its number. They are distinct, and none of them is the number of a block that the change does not close. The
+    /// blocks stay. Returns `Memory` if allocation fails; the change is lost then.
     pub fn make_room(&mut self, alloc: Global, change: Change<R>) -> Result<Ready<R>, Memory>
         requires { Fits R.meets self.old.blocks change.closed.items change.opened.items }
         ensures blocks { self.new.blocks ≡ self.old.blocks }
@@ -237,22 +317,27 @@ impl<R: Resolvable> Blocks<R> {
         ensures fits { IfOk result (λ ready. Fits R.meets self.new.blocks ready.closed.items
             ready.opened.items) }
         ensures room { IfOk result (λ ready. HasRoom R.Key.eq R.is_posted self.new
-            ready.closed.items ready.opened.items) }
+            ready.closed.items ready.opened.items ready.numbers.items ready.vacated.items) }
         ensures numbers { IfOk result (λ ready. AreNumbers ready.closed.items
             (length self.old.blocks) (length ready.opened.items) ready.numbers.items) }
+        ensures seated { IfOk result (λ ready. AreSeated change.opened.items ready.numbers.items) }
         ensures distinct { IfOk result (λ ready. AllPairs (λ m n. m ≢ n) ready.numbers.items) }
         ensures free { IfOk result (λ ready. (n : ℕ) → Contains ready.numbers.items n
             → Contains ready.closed.items n ⊎ (block_at self.old.blocks n ≡ None)) }
     {
         let Change { closed, opened } = change;
-        let opened = moved(alloc, &mut self.postings, opened)?;
-        make_room_for_all(alloc, &mut self.postings, opened.as_slice())?;
         self.blocks.reserve(opened.len())?;
-        let numbers = numbers_of_opened(alloc, closed.as_slice(), self.blocks.len(), opened.len())?;
+        let first = self.blocks.len();
+        let vacated = vacated(alloc, closed.as_slice(), opened.as_slice())?;
+        let numbers = numbers_for(alloc, vacated.as_slice(), first, opened.as_slice())?;
+        let fresh = moved(alloc, &mut self.postings, opened)?;
+        make_room_for_all(alloc, &mut self.postings, fresh.as_slice())?;
+        let opened = whole_all(alloc, self.blocks.as_slice(), fresh)?;
         Ok(Ready {
             closed,
             opened,
             numbers,
+            vacated,
         })
     }
 
@@ -261,12 +346,12 @@ impl<R: Resolvable> Blocks<R> {
     pub fn install(&mut self, ready: Ready<R>)
         requires fits { Fits R.meets self.old.blocks ready.closed.items ready.opened.items }
         requires room { HasRoom R.Key.eq R.is_posted self.old ready.closed.items
-            ready.opened.items }
+            ready.opened.items ready.numbers.items ready.vacated.items }
         ensures kept { (n : ℕ) (e : Entry R ℕ) → block_at self.old.blocks n ≡ Some e
             → (Contains ready.closed.items n
             → ⊥) → block_at self.new.blocks n ≡ Some e }
-        ensures opened { AreOpened (without self.old.blocks ready.closed.items) ready.closed.items
-            (length self.old.blocks) ready.opened.items self.new.blocks }
+        ensures opened { AreOpened (without self.old.blocks ready.closed.items) ready.numbers.items
+            ready.opened.items self.new.blocks }
         ensures view { IsPermutation (view_of self.old.blocks ready.closed.items
             ready.opened.items) (values_of
             (blocks_in self.new.blocks)) }
@@ -274,14 +359,15 @@ impl<R: Resolvable> Blocks<R> {
         let Ready {
             closed,
             opened: fresh,
-            numbers: _,
+            numbers,
+            vacated,
         } = ready;
         self.count = self.count - closed.len() + fresh.len();
-        close_all(&mut self.blocks, &mut self.postings, closed.as_slice());
-        open_all(
+        close_all(&mut self.blocks, &mut self.postings, vacated.as_slice());
+        put_all(
             &mut self.blocks,
             &mut self.postings,
-            closed.as_slice(),
+            numbers.as_slice(),
             fresh,
         );
     }

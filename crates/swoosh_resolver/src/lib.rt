@@ -9,6 +9,10 @@
 //! have an index of their own, so it asks one look-up a key of these too. Of two lists, a value is tested against values of its own
 //! list only once it is merged with one of the other. A key is moved into an index and not copied, and a value has the places of its
 //! keys there, by which its number is put in and taken out without a look-up. A split tests nothing. The definitions are in specs/.
+//!
+//! A value that is merged with a block stands on it: from then on it seeks only what this block does not match, only the keys that it
+//! has beside the block's are put into an index, and it gets the block's number, which stays under the block's keys. So an insertion
+//! into a large block costs look-ups for the keys that are new to the block, and not for all its keys.
 #![tactic(auto)]
 
 pub mod blocks;
@@ -17,6 +21,7 @@ pub mod change;
 mod insert;
 mod install;
 pub mod keyed;
+mod numbers;
 pub mod opened;
 mod posting;
 mod split;

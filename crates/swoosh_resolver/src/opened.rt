@@ -1,11 +1,13 @@
 //! The opened values of a change.
-ghost use Rattle.std.specs.Prelude.{◌≡◌, ℕ, ◌+◌, ◌<◌, ◌≤◌, ◌++◌, ◌∷◌, [], Some, false, IsTrue, is_some, map, if◌then◌else◌};
-ghost use Rattle.std.specs.Prelude.{IfOk, IfSome, IfNone, All, length, slice_index_or, swap_remove, count_by};
-ghost use Rattle.swoosh_resolver.specs.Tables.{Entry, AreListedAt, ArePlaced, block_at};
-ghost use Rattle.swoosh_resolver.specs.Insertions.{passes, MergesMatch};
+ghost use Rattle.std.specs.Prelude.{◌≡◌, ◌≢◌, ◌⊎◌, ℕ, ◌+◌, ◌<◌, ◌≤◌, ◌↔◌, ◌++◌, ◌∷◌, [], Some, None, true, false, IsTrue, is_some, map, if◌then◌else◌};
+ghost use Rattle.std.specs.Prelude.{IfOk, IfSome, IfNone, All, Contains, length, slice_index_or, swap_remove, count_by};
+ghost use Rattle.feature_index.specs.Postings.{KeepsRows, numbers_of};
+ghost use Rattle.swoosh_resolver.specs.Tables.{AreFree, AreListedAt, ArePlaced, Base, Entry, HasOwn, IsOnBase, IsPlaced, block_at};
+ghost use Rattle.swoosh_resolver.specs.Looks.{IsFound, IsLook, StandsOn};
+ghost use Rattle.swoosh_resolver.specs.Insertions.{passes, MergesMatch, TakesMatch};
 
-use crate::keyed::{Keyed, Placed, Seeker};
-use crate::posting::{candidates, make_room_for, post, repost, unpost, with_places};
+use crate::keyed::{Fresh, Keyed, Seeker};
+use crate::posting::{candidates, make_room_for, post, push_if, repost, unpost, with_places};
 use feature_index::postings::Postings;
 use key_hashing::hashing::Hashing;
 use merge_laws::resolvable::Resolvable;
@@ -15,10 +17,11 @@ use std::marker::Model;
 use std::sync::ledger::Ledger;
 use union_base::memory::Memory;
 
-/// Values in a row, with an index of their keys: which of the values have a key is found by one look-up.
+/// Values in a row, with an index of their keys: which of the values have a key is found by one look-up. A value that stands on a
+/// block is in the index by those of its keys alone that the block has not.
 #[derive(Drop)]
 pub struct Opened<R: Resolvable> {
-    values: Vec<Placed<R>>,
+    values: Vec<Fresh<R>>,
     postings: Postings<R::Key>,
 }
 
@@ -30,20 +33,54 @@ impl<R: Resolvable> Model for Opened<R> {
 
     ghost view = { λ o. record { items = o.values.items } };
 
-    ghost invariant = { λ o. AreListedAt R.Key.eq R.is_posted o.values.items o.postings };
+    ghost invariant = { λ o. AreListedAt R.Key.eq R.is_posted R.join o.values.items o.postings };
+}
+
+/// Takes the place from under each of the value's own keys. Takes no memory.
+fn unpost_fresh<R: Resolvable>(postings: &mut Postings<R::Key>, fresh: &Fresh<R>, place: u64)
+    requires placed { IsPlaced (HasOwn R.is_posted fresh.now) postings.old fresh.now.keys }
+    requires present { (k : R.Key) → HasOwn R.is_posted fresh.now k
+        → Contains (numbers_of R.Key.eq postings.old k) place }
+    ensures numbers { (k : R.Key) (n : ℕ) → Contains (numbers_of R.Key.eq postings.new k) n
+        ↔ (Contains (numbers_of R.Key.eq postings.old k) n
+        × (HasOwn R.is_posted fresh.now k → n ≢ place)) }
+    ensures rows { KeepsRows postings.old postings.new }
+{
+    unpost::<R>(postings, fresh.places.as_slice(), place);
+}
+
+/// Puts a place instead of another under each of the value's own keys. Takes no memory.
+fn repost_fresh<R: Resolvable>(
+    postings: &mut Postings<R::Key>,
+    fresh: &Fresh<R>,
+    from: u64,
+    to: u64,
+)
+    requires placed { IsPlaced (HasOwn R.is_posted fresh.now) postings.old fresh.now.keys }
+    requires present { (k : R.Key) → HasOwn R.is_posted fresh.now k
+        → Contains (numbers_of R.Key.eq postings.old k) from }
+    requires absent { (k : R.Key) → HasOwn R.is_posted fresh.now k
+        → Contains (numbers_of R.Key.eq postings.old k) to → ⊥ }
+    ensures numbers { (k : R.Key) (n : ℕ) → Contains (numbers_of R.Key.eq postings.new k) n
+        ↔ ((Contains (numbers_of R.Key.eq postings.old k) n
+        × (HasOwn R.is_posted fresh.now k → n ≢ from))
+        ⊎ (HasOwn R.is_posted fresh.now k × (n ≡ to))) }
+    ensures rows { KeepsRows postings.old postings.new }
+{
+    repost::<R>(postings, fresh.places.as_slice(), from, to);
 }
 
 /// Makes the index one of the values without that at the place, whose place the last one takes. Takes no memory.
-fn unlist<R: Resolvable>(postings: &mut Postings<R::Key>, values: &[Placed<R>], place: usize)
+fn unlist<R: Resolvable>(postings: &mut Postings<R::Key>, values: &[Fresh<R>], place: usize)
     requires within { place < length values.now }
-    requires listed { AreListedAt R.Key.eq R.is_posted values.now postings.old }
-    ensures { (d : Entry R ℕ) → AreListedAt R.Key.eq R.is_posted (swap_remove values.now place d)
-        postings.new }
+    requires listed { AreListedAt R.Key.eq R.is_posted R.join values.now postings.old }
+    ensures { (d : Entry R ℕ) → AreListedAt R.Key.eq R.is_posted R.join
+        (swap_remove values.now place d) postings.new }
 {
     let last = values.len() - 1;
-    unpost(postings, &values[place], place as u64);
+    unpost_fresh(postings, &values[place], place as u64);
     if place < last {
-        repost(postings, &values[last], last as u64, place as u64);
+        repost_fresh(postings, &values[last], last as u64, place as u64);
     }
 }
 
@@ -73,7 +110,7 @@ impl<R: Resolvable> Opened<R> {
     }
 
     /// The values, in their order. Takes no memory.
-    pub fn as_slice(&self) -> &[Placed<R>]
+    pub fn as_slice(&self) -> &[Fresh<R>]
         ensures value { result.now ≡ self.now.items }
     {
         self.values.as_slice()
@@ -87,7 +124,7 @@ impl<R: Resolvable> Opened<R> {
     }
 
     /// The values, in their order. Takes no memory.
-    pub(crate) fn into_values(self) -> Vec<Placed<R>>
+    pub(crate) fn into_values(self) -> Vec<Fresh<R>>
         ensures { result.items ≡ self.items }
     {
         let Opened {
@@ -98,9 +135,11 @@ impl<R: Resolvable> Opened<R> {
     }
 
     /// The values, in their order, and the index in which they have their places. Takes no memory.
-    pub(crate) fn into_parts(self) -> (Vec<Placed<R>>, Postings<R::Key>)
+    pub(crate) fn into_parts(self) -> (Vec<Fresh<R>>, Postings<R::Key>)
         ensures values { result.0.items ≡ self.items }
-        ensures placed { ArePlaced R.is_posted result.1 self.items }
+        ensures placed { ArePlaced (HasOwn R.is_posted) result.1 self.items }
+        ensures based { (e : Entry R ℕ) → Contains self.items e
+            → IsOnBase R.is_posted R.join e.value e.base }
     {
         let Opened { values, postings } = self;
         (values, postings)
@@ -109,23 +148,24 @@ impl<R: Resolvable> Opened<R> {
     /// The values, and the given one last. Its keys are moved into the index. Returns `Memory` if allocation fails.
     pub(crate) fn with_last(self, alloc: Global, keyed: Keyed<R>) -> Result<Opened<R>, Memory>
         ensures { IfOk result (λ o. (e : Entry R ℕ) × (o.items ≡ self.items ++ e ∷ [])
-            × (e.value ≡ keyed.value)) }
+            × (e.value ≡ keyed.value) × (e.base ≡ keyed.base)) }
     {
         let Opened { values, postings } = self;
         let mut values = values;
         let mut postings = postings;
         let last = with_places(alloc, &mut postings, keyed)?;
         make_room_for::<R>(alloc, &mut postings, last.places.as_slice())?;
-        post(&mut postings, &last, values.len() as u64);
+        post::<R>(&mut postings, last.places.as_slice(), values.len() as u64);
         values.push(last)?;
         Ok(Opened { values, postings })
     }
 
     /// Takes the value at the place out, and the last value takes its place. Takes no memory.
-    pub(crate) fn swap_remove(&mut self, place: usize) -> Placed<R>
+    pub(crate) fn swap_remove(&mut self, place: usize) -> Fresh<R>
         requires { place < length self.old.items }
         ensures value { result ≡ slice_index_or self.old.items place result }
         ensures items { self.new.items ≡ swap_remove self.old.items place result }
+        ensures based { IsOnBase R.is_posted R.join result.value result.base }
     {
         unlist(&mut self.postings, self.values.as_slice(), place);
         self.values.swap_remove(place)
@@ -144,30 +184,94 @@ impl<R: Resolvable> Opened<R> {
         }
     }
 
-    /// The place of the first of the values that the given one matches. Only those are tested that have a key which it seeks.
-    /// Returns `Memory` if allocation fails.
+    /// The places of the values that stand on one of the numbers. Where there are no numbers, nothing is looked through. Returns
+    /// `Memory` if allocation fails.
+    fn standing_on(&self, alloc: Global, numbers: &[u64]) -> Result<Vec<u64>, Memory>
+        ensures { IfOk result (λ places. (n : ℕ) → Contains places.items n
+            ↔ ((e : Entry R ℕ) × (block_at (map Some self.now.items) n ≡ Some e)
+            × StandsOn numbers.now e)) }
+    {
+        let mut places = Vec::new(alloc);
+        if numbers.is_empty() {
+            return Ok(places);
+        }
+        let mut place = 0;
+        for fresh in self.values.iter() {
+            push_if(&mut places, place, stands_on(fresh, numbers))?;
+            place += 1;
+        }
+        Ok(places)
+    }
+
+    /// The places of the values that have one of the keys, which their base has not, or that stand on one of the numbers. Returns
+    /// `Memory` if allocation fails.
+    fn found(&self, alloc: Global, keys: &[R::Key], numbers: &[u64]) -> Result<Vec<u64>, Memory>
+        ensures look { IfOk result (λ places. IsLook (IsFound R.is_posted keys.now numbers.now)
+            (map Some self.now.items) places.items) }
+        ensures based { IfOk result (λ places. (e : Entry R ℕ) → Contains self.now.items e
+            → IsOnBase R.is_posted R.join e.value e.base) }
+    {
+        let standing = self.standing_on(alloc, numbers)?;
+        candidates::<R>(alloc, &self.postings, keys, standing)
+    }
+
+    /// The place of the first of the values that the given one matches. Only those are tested that have a key which it seeks, or
+    /// that stand on one of the numbers. Returns `Memory` if allocation fails.
     fn first_match<L: Ledger>(
         &self,
         alloc: Global,
+        numbers: &[u64],
         value: &Seeker<R>,
         steps: &mut Steps<L>,
     ) -> Result<Option<usize>, Memory>
+        requires led { (e : Entry R ℕ) (b : Base R) → Contains self.now.items e → e.base ≡ Some b
+            → Contains numbers.now b.number
+            → (k : R.Key) × Contains value.now.keys k × R.is_posted b.value k }
         ensures within { IfOk result (λ o. IfSome o (λ i. i < length self.now.items)) }
         ensures found { IfOk result (λ o. IfSome o
             (λ i. (d : Entry R ℕ) → IsTrue (R.meets value.now.value
             (slice_index_or self.now.items i d).value))) }
-        ensures none { IfOk result (λ o. IfNone o
-            (All (λ e. R.meets value.now.value e.value ≡ false) self.now.items)) }
+        ensures none { IfOk result (λ o. IfNone o (All (λ e. IsFound R.is_posted value.now.keys
+            numbers.now e → R.meets value.now.value e.value ≡ false) self.now.items)) }
         ensures cost { steps.new ≤ steps.old + count_by (λ e. R.shares e.value value.now.value)
             self.now.items }
     {
-        let numbers = candidates::<R>(alloc, &self.postings, value.sought.as_slice())?;
-        for number in numbers.iter() {
-            if self.matches_at(*number, value, steps) {
-                return Ok(Some(*number as usize));
+        let places = self.found(alloc, value.sought.as_slice(), numbers)?;
+        for place in places.iter() {
+            if self.matches_at(*place, value, steps) {
+                return Ok(Some(*place as usize));
             }
         }
         Ok(None)
+    }
+
+    /// One of the values that the given one matches, which is then taken out. None where it matches none of those that are looked at:
+    /// those that have a key which it seeks and their base has not, and those that stand on one of the numbers. Only those are tested.
+    /// Returns `Memory` if allocation fails.
+    pub(crate) fn take_match<L: Ledger>(
+        &mut self,
+        alloc: Global,
+        numbers: &[u64],
+        value: &Seeker<R>,
+        steps: &mut Steps<L>,
+    ) -> Result<Option<Fresh<R>>, Memory>
+        requires led { (e : Entry R ℕ) (b : Base R) → Contains self.old.items e → e.base ≡ Some b
+            → Contains numbers.now b.number
+            → (k : R.Key) × Contains value.now.keys k × R.is_posted b.value k }
+        ensures taken { IfOk result (λ o. IfSome o (TakesMatch R.meets self.old.items
+            value.now.value self.new.items)) }
+        ensures based { IfOk result (λ o. IfSome o (λ by. IsOnBase R.is_posted R.join by.value
+            by.base)) }
+        ensures none { IfOk result (λ o. IfNone o ((self.new.items ≡ self.old.items)
+            × All (λ e. IsFound R.is_posted value.now.keys numbers.now e
+            → R.meets value.now.value e.value ≡ false) self.old.items)) }
+        ensures cost { steps.new ≤ steps.old + count_by (λ e. R.shares e.value value.now.value)
+            self.old.items }
+    {
+        match self.first_match(alloc, numbers, value, steps)? {
+            Some(place) => Ok(Some(self.swap_remove(place))),
+            None => Ok(None),
+        }
     }
 
     /// What the value merges to with one of the values that it matches, which is then taken out. None where it matches none. Only
@@ -178,6 +282,8 @@ impl<R: Resolvable> Opened<R> {
         value: &Seeker<R>,
         steps: &mut Steps<L>,
     ) -> Result<Option<R>, Memory>
+        requires free { AreFree self.old.items }
+        requires whole { value.now.base ≡ None }
         ensures merged { IfOk result (λ o. IfSome o (λ merged. MergesMatch R.meets R.join
             self.old.items value.now.value self.new.items merged)) }
         ensures none { IfOk result (λ o. IfNone o ((self.new.items ≡ self.old.items)
@@ -185,12 +291,20 @@ impl<R: Resolvable> Opened<R> {
         ensures cost { steps.new ≤ steps.old + count_by (λ e. R.shares e.value value.now.value)
             self.old.items }
     {
-        match self.first_match(alloc, value, steps)? {
-            Some(place) => {
-                let other = self.swap_remove(place);
-                Ok(Some(other.value.joined(alloc, &value.value)?))
-            }
+        match self.take_match(alloc, &[], value, steps)? {
+            Some(other) => Ok(Some(other.value.joined(alloc, &value.value)?)),
             None => Ok(None),
         }
+    }
+}
+
+/// Whether the value stands on one of the numbers. Takes no memory.
+fn stands_on<R: Resolvable>(fresh: &Fresh<R>, numbers: &[u64]) -> bool
+    ensures yes { result ≡ true → StandsOn numbers.now fresh.now }
+    ensures no { result ≡ false → StandsOn numbers.now fresh.now → ⊥ }
+{
+    match &fresh.standing {
+        Some(standing) => numbers.contains(&standing.number),
+        None => false,
     }
 }

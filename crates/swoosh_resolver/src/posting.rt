@@ -1,74 +1,73 @@
 //! The postings of one block, and the blocks under some keys.
-ghost use Rattle.std.specs.Prelude.{◌≡◌, ◌≢◌, ◌+◌, ◌≤◌, ◌↔◌, ◌⊎◌, ℕ, List, Option, Some, IsSome, map, IfOk, OnOk, Contains, count_by};
+ghost use Rattle.std.specs.Prelude.{◌≡◌, ◌≢◌, ◌+◌, ◌≤◌, ◌↔◌, ◌⊎◌, ◌++◌, ◌∷◌, [], ℕ, true, false, List, Some, IsSome, map, IfOk, OnOk, AllPairs, Contains, count_by};
 ghost use Rattle.feature_index.specs.Postings.{Ascends, KeepsRows, key_at, numbers_of, posting_of, spare_of};
-ghost use Rattle.swoosh_resolver.specs.Tables.{Entry, ArePosted, IsPlaced, block_at, keys_at};
+ghost use Rattle.swoosh_resolver.specs.Tables.{IsOnBase, IsPlaced, OwnKey, keys_at};
 
-use crate::keyed::{Keyed, Placed};
+use crate::keyed::{Fresh, Keyed};
 use feature_index::postings::Postings;
 use merge_laws::resolvable::Resolvable;
 use std::alloc::Global;
 use union_base::memory::Memory;
 
-/// Puts the number under each key of the value, in the room that was made. Takes no memory.
-pub(crate) fn post<R: Resolvable>(postings: &mut Postings<R::Key>, placed: &Placed<R>, number: u64)
-    requires placed { IsPlaced R.is_posted postings.old placed.now }
-    requires room { (k : R.Key) → count_by (R.Key.eq k) (keys_at postings.old placed.now.keys)
+/// Puts the number under the key of the row at each of the places, in the room that was made. Takes no memory.
+pub(crate) fn post<R: Resolvable>(postings: &mut Postings<R::Key>, places: &[usize], number: u64)
+    requires rows { (place : ℕ) → Contains places.now place → IsSome (key_at postings.old place) }
+    requires once { AllPairs (λ j k. j ≢ k) (keys_at postings.old places.now) }
+    requires room { (k : R.Key) → count_by (R.Key.eq k) (keys_at postings.old places.now)
         ≤ spare_of R.Key.eq postings.old k }
-    requires absent { (k : R.Key) → R.is_posted placed.now.value k
+    requires absent { (k : R.Key) → Contains (keys_at postings.old places.now) k
         → Contains (numbers_of R.Key.eq postings.old k) number → ⊥ }
     ensures numbers { (k : R.Key) (n : ℕ) → Contains (numbers_of R.Key.eq postings.new k) n
         ↔ (Contains (numbers_of R.Key.eq postings.old k) n
-        ⊎ (R.is_posted placed.now.value k × (n ≡ number))) }
+        ⊎ (Contains (keys_at postings.old places.now) k × (n ≡ number))) }
     ensures spares { (k : R.Key) → spare_of R.Key.eq postings.old k
         ≤ spare_of R.Key.eq postings.new k + count_by
-        (R.Key.eq k) (keys_at postings.old placed.now.keys) }
+        (R.Key.eq k) (keys_at postings.old places.now) }
     ensures rows { KeepsRows postings.old postings.new }
 {
-    for place in placed.places.iter() {
+    for place in places.iter() {
         postings.add_at(*place, number);
     }
 }
 
-/// Takes the number from under each key of the value. Takes no memory.
-pub(crate) fn unpost<R: Resolvable>(
-    postings: &mut Postings<R::Key>,
-    placed: &Placed<R>,
-    number: u64,
-)
-    requires placed { IsPlaced R.is_posted postings.old placed.now }
-    requires present { (k : R.Key) → R.is_posted placed.now.value k
+/// Takes the number from under the key of the row at each of the places. Takes no memory.
+pub(crate) fn unpost<R: Resolvable>(postings: &mut Postings<R::Key>, places: &[usize], number: u64)
+    requires rows { (place : ℕ) → Contains places.now place → IsSome (key_at postings.old place) }
+    requires once { AllPairs (λ j k. j ≢ k) (keys_at postings.old places.now) }
+    requires present { (k : R.Key) → Contains (keys_at postings.old places.now) k
         → Contains (numbers_of R.Key.eq postings.old k) number }
     ensures numbers { (k : R.Key) (n : ℕ) → Contains (numbers_of R.Key.eq postings.new k) n
         ↔ (Contains (numbers_of R.Key.eq postings.old k) n
-        × (R.is_posted placed.now.value k → n ≢ number)) }
+        × (Contains (keys_at postings.old places.now) k → n ≢ number)) }
     ensures spares { (k : R.Key) → spare_of R.Key.eq postings.new k
         ≡ spare_of R.Key.eq postings.old k }
     ensures rows { KeepsRows postings.old postings.new }
 {
-    for place in placed.places.iter() {
+    for place in places.iter() {
         postings.remove_at(*place, number);
     }
 }
 
-/// Puts a number in the place of another under each key of the value. Takes no memory.
+/// Puts a number in the place of another under the key of the row at each of the places. Takes no memory.
 pub(crate) fn repost<R: Resolvable>(
     postings: &mut Postings<R::Key>,
-    placed: &Placed<R>,
+    places: &[usize],
     from: u64,
     to: u64,
 )
-    requires placed { IsPlaced R.is_posted postings.old placed.now }
-    requires present { (k : R.Key) → R.is_posted placed.now.value k
+    requires rows { (place : ℕ) → Contains places.now place → IsSome (key_at postings.old place) }
+    requires once { AllPairs (λ j k. j ≢ k) (keys_at postings.old places.now) }
+    requires present { (k : R.Key) → Contains (keys_at postings.old places.now) k
         → Contains (numbers_of R.Key.eq postings.old k) from }
-    requires absent { (k : R.Key) → R.is_posted placed.now.value k
+    requires absent { (k : R.Key) → Contains (keys_at postings.old places.now) k
         → Contains (numbers_of R.Key.eq postings.old k) to → ⊥ }
     ensures numbers { (k : R.Key) (n : ℕ) → Contains (numbers_of R.Key.eq postings.new k) n
         ↔ ((Contains (numbers_of R.Key.eq postings.old k) n
-        × (R.is_posted placed.now.value k → n ≢ from))
-        ⊎ (R.is_posted placed.now.value k × (n ≡ to))) }
+        × (Contains (keys_at postings.old places.now) k → n ≢ from))
+        ⊎ (Contains (keys_at postings.old places.now) k × (n ≡ to))) }
     ensures rows { KeepsRows postings.old postings.new }
 {
-    for place in placed.places.iter() {
+    for place in places.iter() {
         postings.renumber_at(*place, from, to);
     }
 }
@@ -120,36 +119,71 @@ pub(crate) fn with_places<R: Resolvable>(
     alloc: Global,
     postings: &mut Postings<R::Key>,
     keyed: Keyed<R>,
-) -> Result<Placed<R>, Memory>
-    ensures value { IfOk result (λ p. p.value ≡ keyed.value) }
-    ensures placed { IfOk result (IsPlaced R.is_posted postings.new) }
+) -> Result<Fresh<R>, Memory>
+    ensures value { IfOk result (λ f. f.value ≡ keyed.value) }
+    ensures base { IfOk result (λ f. f.base ≡ keyed.base) }
+    ensures placed { IfOk result (λ f. IsPlaced (OwnKey R.is_posted f.value f.base) postings.new
+        f.keys) }
+    ensures based { IfOk result (λ f. IsOnBase R.is_posted R.join f.value f.base) }
     ensures postings { (k : R.Key) → posting_of R.Key.eq postings.new k
         ≡ posting_of R.Key.eq postings.old k }
     ensures rows { KeepsRows postings.old postings.new }
 {
-    let Keyed { value, keys } = keyed;
+    let Keyed {
+        value,
+        keys,
+        standing,
+    } = keyed;
     let places = rows_of::<R>(alloc, postings, keys)?;
-    Ok(Placed { value, places })
+    Ok(Fresh {
+        value,
+        places,
+        standing,
+    })
 }
 
-/// The numbers of the blocks that have one of the keys, in ascending order, whichever blocks the postings are of. Returns
-/// `Memory` if allocation fails.
+/// Appends the number where it is wanted. Returns `Memory` if allocation fails.
+pub(crate) fn push_if(numbers: &mut Vec<u64>, number: u64, wanted: bool) -> Result<(), Memory>
+    ensures yes { OnOk result (wanted ≡ true
+        → numbers.new.items ≡ numbers.old.items ++ number ∷ []) }
+    ensures no { OnOk result (wanted ≡ false → numbers.new.items ≡ numbers.old.items) }
+{
+    if wanted {
+        numbers.push(number)?;
+        Ok(())
+    } else {
+        Ok(())
+    }
+}
+
+/// The numbers in ascending order, each once. Returns `Memory` if allocation fails.
+pub(crate) fn in_order(numbers: Vec<u64>) -> Result<Vec<u64>, Memory>
+    ensures ascending { IfOk result (λ sorted. Ascends sorted.items) }
+    ensures members { IfOk result (λ sorted. (n : ℕ) → Contains sorted.items n
+        ↔ Contains numbers.items n) }
+{
+    let mut numbers = numbers;
+    numbers.sort()?;
+    numbers.dedup();
+    Ok(numbers)
+}
+
+/// The numbers that stand under one of the keys, and the given ones, in ascending order. Returns `Memory` if allocation fails.
 pub(crate) fn candidates<R: Resolvable>(
     alloc: Global,
     postings: &Postings<R::Key>,
     keys: &[R::Key],
+    given: Vec<u64>,
 ) -> Result<Vec<u64>, Memory>
     ensures ascending { IfOk result (λ numbers. Ascends numbers.items) }
-    ensures members { IfOk result (λ numbers. (blocks : List (Option (Entry R ℕ)))
-        → ArePosted R.Key.eq R.is_posted blocks postings.now → (n : ℕ) → Contains numbers.items n
-        ↔ ((k : R.Key) × Contains keys.now k × ((e : Entry R ℕ) × (block_at blocks n ≡ Some e)
-        × R.is_posted e.value k))) }
+    ensures members { IfOk result (λ numbers. (n : ℕ) → Contains numbers.items n
+        ↔ (Contains given.items n ⊎ ((k : R.Key) × Contains keys.now k
+        × Contains (numbers_of R.Key.eq postings.now k) n))) }
 {
-    let mut numbers = Vec::new(alloc);
+    let mut numbers = given;
     for key in keys.iter() {
         numbers.extend_from_slice(postings.of(key))?;
     }
-    numbers.sort()?;
-    numbers.dedup();
+    let numbers = in_order(numbers)?;
     Ok(numbers)
 }

@@ -26,7 +26,7 @@ use record_homes::table::HomeTable;
 use std::alloc::Global;
 use swoosh_resolver::blocks::Blocks;
 use swoosh_resolver::change::Change;
-use swoosh_resolver::keyed::Placed;
+use swoosh_resolver::keyed::Fresh;
 use union_base::bytes::Bytes;
 use union_base::memory::Memory;
 use union_base::record_id::RecordId;
@@ -56,7 +56,7 @@ fn closed_pairs(
 fn opened_pairs(
     alloc: Global,
     names: &NameTable,
-    opened: &[Placed<Edition>],
+    opened: &[Fresh<Edition>],
 ) -> Result<Vec<(Bytes, RecordId)>, Memory>
     ensures { IfOk result (λ pairs. pairs.items ≡ work_pairs names.now (values_of opened.now)) }
 {

@@ -33,7 +33,7 @@ use std::alloc::Global;
 use std::sync::ledger::Ledger;
 use swoosh_resolver::blocks::Blocks;
 use swoosh_resolver::change::{self, Change};
-use swoosh_resolver::keyed::Placed;
+use swoosh_resolver::keyed::Fresh;
 use union_base::copied::Copied;
 use union_base::memory::Memory;
 use union_base::record_id::RecordId;
@@ -118,7 +118,7 @@ fn has_contributor(edition: &Edition, id: &RecordId) -> bool
 }
 
 /// The place of the first of the opened values that has the contributor: None exactly where none has it. Takes no memory.
-fn opened_holder(opened: &[Placed<Edition>], id: &RecordId) -> Option<usize>
+fn opened_holder(opened: &[Fresh<Edition>], id: &RecordId) -> Option<usize>
     ensures found { IfSome result (λ place. (e : Block) × (slice_get opened.now place ≡ Some e)
         × (has_contributor id.now e.value ≡ true)) }
     ensures none { IfNone result (list_any (λ e. has_contributor id.now e.value) opened.now

@@ -18,6 +18,7 @@ loop-value-init g c =
     let one = c.args.one.items in
     record {
       all = sym c.into_iter-value-iterator.ensures.into_iter_gives.0;
+      free = started.free;
       resolved = rw (started.apart, append-nil both.met.items, started.met, append-nil one) (resolved_itself g.met.R.Join.join_laws g.met.R.Resolvable.match_laws one c.requires.one);
       apart = λ x there. (let (k, kl, e) = rw started.apart at there in absurd (omega arith));
       untested = λ none. (started.met, omega arith);
@@ -51,6 +52,7 @@ loop-value-preserved g c =
     let there : Contains other value = subst (λ (list : List g.row.R.Denot). Contains list value) (sym whole) (Contains-append_right front (value ∷ rest) value (Contains-head value rest)) in
     record {
       all = whole ∙ sym (append_assoc front (value ∷ []) rest);
+      free = c.in_ok-both-2.ensures.free;
       resolved = subst (λ (list : List g.row.R.Denot). IsResolution g.R.Resolvable.meets g.R.Join.join list (values_of (new.met.items ++ new.apart.items))) (append_assoc one front (value ∷ []))
           (IsResolution-push g.met.R.Join.join_laws g.met.R.Resolvable.match_laws (one ++ front) (values_of (old.met.items ++ old.apart.items)) (values_of (new.met.items ++ new.apart.items)) value
           c.loop-value.invariant.resolved c.in_ok-both-2.ensures.resolved);

@@ -2,7 +2,7 @@ use Rattle.std.proofs.Common.{◌≡◌, ℕ, refl, ◌<◌, ◌≤◌, true, So
 use Rattle.std.specs.Prelude.{Contains, IsSome, count_by}
 use Rattle.std.proofs.lemmas.List.{take_all}
 use Rattle.feature_index.specs.Postings.{key_at, numbers_of, spare_of}
-use Rattle.swoosh_resolver.specs.Tables.{Entry, AreKeys, keys_at}
+use Rattle.swoosh_resolver.specs.Tables.{keys_at}
 use Rattle.swoosh_resolver.proofs.Numbering.{IsPosted, posted_none, posted_more}
 use Rattle.swoosh_resolver.proofs.Placing.{key-of}
 use Rattle.swoosh_resolver.proofs.posting.post.Goals as goal
@@ -13,11 +13,9 @@ loop-place-init g c =
 
 pub add_at-requires-clause-row : goal.add_at-requires-clause-row
 add_at-requires-clause-row g c =
-    let places = c.deref-place-items.result.now in
-    let is : places ≡ c.args.placed.now.keys = c.deref-place-items.ensures.value ∙ ap (λ (e : Entry g.row.R.Denot ℕ). e.keys) c.placed.view_is in
+    let places = c.args.places.now in
     let old = c.args.postings.now in
-    let rows : (place : ℕ) → Contains places place → IsSome (key_at old place) = rw is c.requires.placed.rows in
-    let keys : AreKeys g.R.Resolvable.is_posted c.args.placed.now.value (keys_at old places) = rw is c.requires.placed.keys in
+    let rows : (place : ℕ) → Contains places place → IsSome (key_at old place) = c.requires.rows in
     let now = c.loop-place.postings in
     let i = c.loop-place.place-index in
     let (k, here) = key-of old places rows i (omega arith) in
@@ -27,18 +25,16 @@ add_at-requires-clause-row g c =
 
 pub add_at-requires-clause-spare : goal.add_at-requires-clause-spare
 add_at-requires-clause-spare g c j at' =
-    let places = c.deref-place-items.result.now in
-    let is : places ≡ c.args.placed.now.keys = c.deref-place-items.ensures.value ∙ ap (λ (e : Entry g.row.R.Denot ℕ). e.keys) c.placed.view_is in
+    let places = c.args.places.now in
     let old = c.args.postings.now in
-    let rows : (place : ℕ) → Contains places place → IsSome (key_at old place) = rw is c.requires.placed.rows in
-    let keys : AreKeys g.R.Resolvable.is_posted c.args.placed.now.value (keys_at old places) = rw is c.requires.placed.keys in
+    let rows : (place : ℕ) → Contains places place → IsSome (key_at old place) = c.requires.rows in
     let now = c.loop-place.postings in
     let i = c.loop-place.place-index in
     let (k, here) = key-of old places rows i (omega arith) in
     let at : key_at now (get_or places i 0) ≡ Some k = c.loop-place.invariant.rows (get_or places i 0) k here.at in
     let eq = g.R.Key.PartialEq.eq in
     let same : k ≡ j = cc in
-    let room : count_by (eq k) (keys_at old places) ≤ spare_of eq old k = subst (λ ps. count_by (eq k) (keys_at old ps) ≤ spare_of eq old k) (sym is) (c.requires.room k) in
+    let room : count_by (eq k) (keys_at old places) ≤ spare_of eq old k = c.requires.room k in
     let counted = here.counted (eq k) in
     let itself : eq k k ≡ true = g.met.R.Key.Eq.laws.refl k in
     let counted' = rw itself at counted in
@@ -47,11 +43,9 @@ add_at-requires-clause-spare g c j at' =
 
 pub add_at-requires-clause-absent : goal.add_at-requires-clause-absent
 add_at-requires-clause-absent g c j at' there =
-    let places = c.deref-place-items.result.now in
-    let is : places ≡ c.args.placed.now.keys = c.deref-place-items.ensures.value ∙ ap (λ (e : Entry g.row.R.Denot ℕ). e.keys) c.placed.view_is in
+    let places = c.args.places.now in
     let old = c.args.postings.now in
-    let rows : (place : ℕ) → Contains places place → IsSome (key_at old place) = rw is c.requires.placed.rows in
-    let keys : AreKeys g.R.Resolvable.is_posted c.args.placed.now.value (keys_at old places) = rw is c.requires.placed.keys in
+    let rows : (place : ℕ) → Contains places place → IsSome (key_at old place) = c.requires.rows in
     let now = c.loop-place.postings in
     let i = c.loop-place.place-index in
     let (k, here) = key-of old places rows i (omega arith) in
@@ -59,17 +53,15 @@ add_at-requires-clause-absent g c j at' there =
     let eq = g.R.Key.PartialEq.eq in
     let same : k ≡ j = cc in
     elim ((c.loop-place.invariant.done.numbers k c.args.number).0 (subst (λ z. Contains (numbers_of eq now z) c.args.number) (sym same) there)) as (λ _. ⊥) [
-      | inl before ↦ c.requires.absent k ((keys.members k).0 here.among) before
-      | inr (before, e) ↦ here.new keys.once before
+      | inl before ↦ c.requires.absent k here.among before
+      | inr (before, e) ↦ here.new c.requires.once before
     ]
 
 pub loop-place-preserved : goal.loop-place-preserved
 loop-place-preserved g c =
-    let places = c.deref-place-items.result.now in
-    let is : places ≡ c.args.placed.now.keys = c.deref-place-items.ensures.value ∙ ap (λ (e : Entry g.row.R.Denot ℕ). e.keys) c.placed.view_is in
+    let places = c.args.places.now in
     let old = c.args.postings.now in
-    let rows : (place : ℕ) → Contains places place → IsSome (key_at old place) = rw is c.requires.placed.rows in
-    let keys : AreKeys g.R.Resolvable.is_posted c.args.placed.now.value (keys_at old places) = rw is c.requires.placed.keys in
+    let rows : (place : ℕ) → Contains places place → IsSome (key_at old place) = c.requires.rows in
     let now = c.loop-place.postings in
     let i = c.loop-place.place-index in
     let (k, here) = key-of old places rows i (omega arith) in
@@ -83,24 +75,16 @@ loop-place-preserved g c =
 
 pub returns-clause-numbers : goal.returns-clause-numbers
 returns-clause-numbers g c k n =
-    let places = c.deref-place-items.result.now in
-    let is : places ≡ c.args.placed.now.keys = c.deref-place-items.ensures.value ∙ ap (λ (e : Entry g.row.R.Denot ℕ). e.keys) c.placed.view_is in
+    let places = c.args.places.now in
     let old = c.args.postings.now in
-    let rows : (place : ℕ) → Contains places place → IsSome (key_at old place) = rw is c.requires.placed.rows in
-    let keys : AreKeys g.R.Resolvable.is_posted c.args.placed.now.value (keys_at old places) = rw is c.requires.placed.keys in
     let all : take c.loop-place.place-index places ≡ places = take_all c.loop-place.place-index places (omega arith) in
-    let posted : IsPosted g.R.Key.PartialEq.eq old (keys_at old places) c.args.number c.loop-place.postings = rw all at c.loop-place.invariant.done in (
-      λ there. elim ((posted.numbers k n).0 there) [ inl before ↦ inl before | inr (ck, e) ↦ inr ((keys.members k).0 ck, e) ],
-      λ h. (posted.numbers k n).1 (elim h [ inl before ↦ inl before | inr (has, e) ↦ inr ((keys.members k).1 has, e) ]),
-    )
+    let done : IsPosted g.R.Key.PartialEq.eq old (keys_at old places) c.args.number c.loop-place.postings = rw all at c.loop-place.invariant.done in
+    done.numbers k n
 
 pub returns-clause-spares : goal.returns-clause-spares
 returns-clause-spares g c k =
-    let places = c.deref-place-items.result.now in
-    let is : places ≡ c.args.placed.now.keys = c.deref-place-items.ensures.value ∙ ap (λ (e : Entry g.row.R.Denot ℕ). e.keys) c.placed.view_is in
+    let places = c.args.places.now in
     let old = c.args.postings.now in
-    let rows : (place : ℕ) → Contains places place → IsSome (key_at old place) = rw is c.requires.placed.rows in
-    let keys : AreKeys g.R.Resolvable.is_posted c.args.placed.now.value (keys_at old places) = rw is c.requires.placed.keys in
     let all : take c.loop-place.place-index places ≡ places = take_all c.loop-place.place-index places (omega arith) in
-    let posted : IsPosted g.R.Key.PartialEq.eq old (keys_at old places) c.args.number c.loop-place.postings = rw all at c.loop-place.invariant.done in
-    rw (← is) (posted.spares k)
+    let done : IsPosted g.R.Key.PartialEq.eq old (keys_at old places) c.args.number c.loop-place.postings = rw all at c.loop-place.invariant.done in
+    done.spares k

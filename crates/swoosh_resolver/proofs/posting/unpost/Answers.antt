@@ -2,7 +2,7 @@ use Rattle.std.proofs.Common.{◌≡◌, ℕ, refl, Some, get_or, take, ◌∙�
 use Rattle.std.specs.Prelude.{Contains, IsSome}
 use Rattle.std.proofs.lemmas.List.{take_all}
 use Rattle.feature_index.specs.Postings.{key_at, numbers_of}
-use Rattle.swoosh_resolver.specs.Tables.{Entry, AreKeys, keys_at}
+use Rattle.swoosh_resolver.specs.Tables.{keys_at}
 use Rattle.swoosh_resolver.proofs.Numbering.{IsUnposted, unposted_none, unposted_more}
 use Rattle.swoosh_resolver.proofs.Placing.{key-of}
 use Rattle.swoosh_resolver.proofs.posting.unpost.Goals as goal
@@ -13,11 +13,9 @@ loop-place-init g c =
 
 pub remove_at-requires-clause-row : goal.remove_at-requires-clause-row
 remove_at-requires-clause-row g c =
-    let places = c.deref-place-items.result.now in
-    let is : places ≡ c.args.placed.now.keys = c.deref-place-items.ensures.value ∙ ap (λ (e : Entry g.row.R.Denot ℕ). e.keys) c.placed.view_is in
+    let places = c.args.places.now in
     let old = c.args.postings.now in
-    let rows : (place : ℕ) → Contains places place → IsSome (key_at old place) = rw is c.requires.placed.rows in
-    let keys : AreKeys g.R.Resolvable.is_posted c.args.placed.now.value (keys_at old places) = rw is c.requires.placed.keys in
+    let rows : (place : ℕ) → Contains places place → IsSome (key_at old place) = c.requires.rows in
     let now = c.loop-place.postings in
     let i = c.loop-place.place-index in
     let (k, here) = key-of old places rows i (omega arith) in
@@ -27,11 +25,9 @@ remove_at-requires-clause-row g c =
 
 pub remove_at-requires-clause-present : goal.remove_at-requires-clause-present
 remove_at-requires-clause-present g c j at' =
-    let places = c.deref-place-items.result.now in
-    let is : places ≡ c.args.placed.now.keys = c.deref-place-items.ensures.value ∙ ap (λ (e : Entry g.row.R.Denot ℕ). e.keys) c.placed.view_is in
+    let places = c.args.places.now in
     let old = c.args.postings.now in
-    let rows : (place : ℕ) → Contains places place → IsSome (key_at old place) = rw is c.requires.placed.rows in
-    let keys : AreKeys g.R.Resolvable.is_posted c.args.placed.now.value (keys_at old places) = rw is c.requires.placed.keys in
+    let rows : (place : ℕ) → Contains places place → IsSome (key_at old place) = c.requires.rows in
     let now = c.loop-place.postings in
     let i = c.loop-place.place-index in
     let (k, here) = key-of old places rows i (omega arith) in
@@ -39,17 +35,15 @@ remove_at-requires-clause-present g c j at' =
     let eq = g.R.Key.PartialEq.eq in
     let same : k ≡ j = cc in
     subst (λ z. Contains (numbers_of eq now z) c.args.number) same ((c.loop-place.invariant.done.numbers k c.args.number).1 (
-      c.requires.present k ((keys.members k).0 here.among),
-      λ before. absurd (here.new keys.once before),
+      c.requires.present k here.among,
+      λ before. absurd (here.new c.requires.once before),
     ))
 
 pub loop-place-preserved : goal.loop-place-preserved
 loop-place-preserved g c =
-    let places = c.deref-place-items.result.now in
-    let is : places ≡ c.args.placed.now.keys = c.deref-place-items.ensures.value ∙ ap (λ (e : Entry g.row.R.Denot ℕ). e.keys) c.placed.view_is in
+    let places = c.args.places.now in
     let old = c.args.postings.now in
-    let rows : (place : ℕ) → Contains places place → IsSome (key_at old place) = rw is c.requires.placed.rows in
-    let keys : AreKeys g.R.Resolvable.is_posted c.args.placed.now.value (keys_at old places) = rw is c.requires.placed.keys in
+    let rows : (place : ℕ) → Contains places place → IsSome (key_at old place) = c.requires.rows in
     let now = c.loop-place.postings in
     let i = c.loop-place.place-index in
     let (k, here) = key-of old places rows i (omega arith) in
@@ -63,13 +57,8 @@ loop-place-preserved g c =
 
 pub returns-clause-numbers : goal.returns-clause-numbers
 returns-clause-numbers g c k n =
-    let places = c.deref-place-items.result.now in
-    let is : places ≡ c.args.placed.now.keys = c.deref-place-items.ensures.value ∙ ap (λ (e : Entry g.row.R.Denot ℕ). e.keys) c.placed.view_is in
+    let places = c.args.places.now in
     let old = c.args.postings.now in
-    let rows : (place : ℕ) → Contains places place → IsSome (key_at old place) = rw is c.requires.placed.rows in
-    let keys : AreKeys g.R.Resolvable.is_posted c.args.placed.now.value (keys_at old places) = rw is c.requires.placed.keys in
     let all : take c.loop-place.place-index places ≡ places = take_all c.loop-place.place-index places (omega arith) in
-    let unposted : IsUnposted g.R.Key.PartialEq.eq old (keys_at old places) c.args.number c.loop-place.postings = rw all at c.loop-place.invariant.done in (
-      λ there. (((unposted.numbers k n).0 there).0, λ has. ((unposted.numbers k n).0 there).1 ((keys.members k).1 has)),
-      λ (there, ne). (unposted.numbers k n).1 (there, λ ck. ne ((keys.members k).0 ck)),
-    )
+    let done : IsUnposted g.R.Key.PartialEq.eq old (keys_at old places) c.args.number c.loop-place.postings = rw all at c.loop-place.invariant.done in
+    done.numbers k n

@@ -7,6 +7,6 @@ use Rattle.swoosh_resolver.proofs.posting.unpost.Given as goal
 
 abbrev pub invariant-loop-place : goal.invariant-loop-place
 invariant-loop-place g l = record {
-  done : IsUnposted g.R.Key.PartialEq.eq l.initial.postings (keys_at l.initial.postings (take l.place-index l.place-items)) l.number l.postings;
+  done : IsUnposted g.R.Key.PartialEq.eq l.initial.postings (keys_at l.initial.postings (take l.place-index l.places)) l.number l.postings;
   rows : KeepsRows l.initial.postings l.postings;
 }

@@ -35,7 +35,7 @@ returns-clause-kept c =
     let ready = c.in_ok-ready.ready in
     let closes = c.in_ok-ready.ensures.closed in
     let opens = c.in_ok-ready.ensures.opened in
-    let planned = planned-same change.opened.items ready.opened.items (sym opens) (rw (← closes) at c.requires.planned) in
+    let planned = planned-same change.opened.items ready.opened.items (sym opens) (rw c.make_room.ensures.blocks at c.in_ok-ready.ensures.fits) (rw (← closes) at c.requires.planned) in
     let rest : MapOf (Option Place) = map (λ (t : Bor RecordId × Option Place). (t.0.now, t.1)) c.in_ok-rest.rest.items in
     installed c.args.history.now.items c.args.entry c.args.homes.now.entries c.args.blocks.now.blocks (kept_works c.args.works.now) c.requires.kept
     ready.closed.items ready.opened.items c.args.plan.touched.entries planned

@@ -9,6 +9,6 @@ use Rattle.swoosh_resolver.proofs.blocks.Blocks.first_kept.Given as goal
 
 abbrev pub invariant-loop-number : goal.invariant-loop-number
 invariant-loop-number g l = record {
-  none : AllWithin (λ n. passes (λ e. g.R.Resolvable.meets l.value.value e.value) (block_at (without l.self.blocks l.closed) n) ≡ false) l.number-items 0 l.number-index;
-  cost : l.steps ≤ l.initial.steps + count_by (λ n. passes (λ e. g.R.Resolvable.shares e.value l.value.value) (block_at (without l.self.blocks l.closed) n)) (take l.number-index l.number-items);
+  none : AllWithin (λ n. passes (λ e. g.R.Resolvable.meets l.value.value e.value) (block_at (without l.self.blocks l.closed) n) ≡ false) l.numbers 0 l.number-index;
+  cost : l.steps ≤ l.initial.steps + count_by (λ n. passes (λ e. g.R.Resolvable.shares e.value l.value.value) (block_at (without l.self.blocks l.closed) n)) (take l.number-index l.numbers);
 }

@@ -1,6 +1,6 @@
 use Rattle.std.proofs.Common.{◌≡◌, ℕ, false, ◌++◌}
 use Rattle.std.specs.Prelude.{IfSome}
-use Rattle.std.proofs.lemmas.List.Elements.{All-map}
+use Rattle.std.proofs.lemmas.List.Elements.{All-map, Contains-append_left, Contains-append_right}
 use Rattle.std.proofs.lemmas.Option.{IfSome_then}
 use Rattle.std.proofs.lemmas.Result.{IfOk-weaker}
 use Rattle.swoosh_resolver.specs.Tables.{Entry}
@@ -8,6 +8,16 @@ use Rattle.swoosh_resolver.specs.Insertions.{MergesMatch}
 use Rattle.swoosh_resolver.proofs.Pairing.{All-both, among_before, merges_first, merges_second}
 use Rattle.swoosh_resolver.proofs.Places.{IfNone_then, OnOk-from_either}
 use Rattle.swoosh_resolver.proofs.both.Both.merge_next.Goals as goal
+
+pub merge_match-requires-clause-free : goal.merge_match-requires-clause-free
+merge_match-requires-clause-free g c e there =
+    let both = c.args.self.now in
+    c.requires.free e (Contains-append_left both.met.items both.apart.items e there)
+
+pub merge_match-requires-in-None-clause-free : goal.merge_match-requires-in-None-clause-free
+merge_match-requires-in-None-clause-free g c e there =
+    let both = c.args.self.now in
+    c.requires.free e (Contains-append_right both.met.items both.apart.items e there)
 
 pub returns-in-Some-clause-merged : goal.returns-in-Some-clause-merged
 returns-in-Some-clause-merged g c =

@@ -3,13 +3,15 @@ use Rattle.std.proofs.lemmas.List.Sorted.{IsPermutation-map, length_permutation}
 use Rattle.merge_laws.proofs.Resolutions.{IsResolution-permutation}
 use Rattle.merge_laws.proofs.Resolving.{IsResolving, resolving_inserted, resolving_joined, resolving_kept, IsResolution-from_resolving}
 use Rattle.swoosh_resolver.specs.Tables.{Entry, values_of}
-use Rattle.swoosh_resolver.proofs.Pairing.{last_of_first}
+use Rattle.swoosh_resolver.proofs.Pairing.{base-none, free_before, free_first, last_of_first}
 use Rattle.swoosh_resolver.proofs.both.Both.with_merge.Goals as goal
 
 pub loop-value-init : goal.loop-value-init
 loop-value-init g c = record {
-  resolving = rw c.in_ok-value.ensures
-      (resolving_inserted g.met.R.Join.join_laws g.met.R.Resolvable.match_laws (values_of (c.args.self.met.items ++ c.args.self.apart.items)) c.args.merge c.requires);
+  alone = c.in_ok-value.ensures.base;
+  free = c.requires.free;
+  resolving = rw c.in_ok-value.ensures.value
+      (resolving_inserted g.met.R.Join.join_laws g.met.R.Resolvable.match_laws (values_of (c.args.self.met.items ++ c.args.self.apart.items)) c.args.merge c.requires.apart);
   apart = λ x there. there;
 }
 
@@ -26,7 +28,9 @@ loop-value-preserved g c =
     let left = c.merge_next.new.self.met.items ++ c.merge_next.new.self.apart.items in
     let merges = rw c.in-Some.is at c.in_ok-merged.ensures.merged in
     record {
-      resolving = rw (c.in_ok-value-2.ensures, merges.is)
+      alone = c.in_ok-value-2.ensures.base;
+      free = free_before both left c.loop-value.value.value c.in-Some.merged merges c.loop-value.invariant.free;
+      resolving = rw (c.in_ok-value-2.ensures.value, merges.is)
           (resolving_joined g.met.R.Join.join_laws g.met.R.Resolvable.match_laws list [] (values_of both) c.loop-value.value.value merges.by.value (values_of left) c.loop-value.invariant.resolving
           (IsPermutation-map (λ (e : Entry g.row.R.Denot ℕ). e.value) both (merges.by ∷ left) merges.taken) merges.matches);
       apart = λ x there. c.loop-value.invariant.apart x (c.in_ok-merged.ensures.apart x there);
@@ -35,6 +39,14 @@ loop-value-preserved g c =
 pub returns-clause-apart : goal.returns-clause-apart
 returns-clause-apart g c x there = c.loop-value.invariant.apart x (c.in_ok-merged.ensures.apart x there)
 
+pub returns-clause-free : goal.returns-clause-free
+returns-clause-free g c =
+    let met = c.loop-value.both.met.items in
+    let apart = c.loop-value.both.apart.items in
+    let (last, items, value, base) = c.in_ok-met.ensures in
+    let none = rw c.in_default.is at c.in_ok-merged.ensures.none in
+    rw (items, none.0, none.1) (free_first met apart last c.loop-value.invariant.free (base ∙ base-none c.in_ok-keyed.ensures.base c.loop-value.invariant.alone))
+
 -- at last the merge matches nothing, and is put among the first
 pub returns-clause-resolved : goal.returns-clause-resolved
 returns-clause-resolved g c =
@@ -42,8 +54,8 @@ returns-clause-resolved g c =
     let met = c.loop-value.both.met.items in
     let apart = c.loop-value.both.apart.items in
     let row = values_of (met ++ apart) in
-    let (last, items, value) = c.in_ok-met.ensures in
-    let is = value ∙ c.in_ok-keyed.ensures in
+    let (last, items, value, base) = c.in_ok-met.ensures in
+    let is = value ∙ c.in_ok-keyed.ensures.value in
     let none = rw c.in_default.is at c.in_ok-merged.ensures.none in
     let kept : IsResolving g.R.Resolvable.meets g.R.Join.join list [] (row ++ last.value ∷ []) =
     rw is (resolving_kept g.met.R.Join.join_laws g.met.R.Resolvable.match_laws list [] row c.loop-value.value.value c.loop-value.invariant.resolving none.2) in

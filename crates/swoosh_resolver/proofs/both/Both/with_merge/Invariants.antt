@@ -1,12 +1,14 @@
 -- the merge so far, and the values that are not in it
-use Rattle.std.proofs.Common.{[], ◌∷◌, ◌++◌, length}
+use Rattle.std.proofs.Common.{◌≡◌, None, [], ◌∷◌, ◌++◌, length}
 use Rattle.std.specs.Prelude.{Contains}
 use Rattle.merge_laws.proofs.Resolving.{IsResolving}
-use Rattle.swoosh_resolver.specs.Tables.{values_of}
+use Rattle.swoosh_resolver.specs.Tables.{AreFree, values_of}
 use Rattle.swoosh_resolver.proofs.both.Both.with_merge.Given as goal
 
 abbrev pub invariant-loop-value : goal.invariant-loop-value
 invariant-loop-value g l = record {
+  alone : l.value.base ≡ None;
+  free : AreFree (l.both.met.items ++ l.both.apart.items);
   resolving : IsResolving g.R.Resolvable.meets g.R.Join.join (values_of (l.fn.self.met.items ++ l.fn.self.apart.items) ++ l.fn.merge ∷ []) (l.value.value ∷ []) (values_of (l.both.met.items ++ l.both.apart.items));
   apart : (x : g.row.R.Denot) → Contains (values_of l.both.apart.items) x → Contains (values_of l.fn.self.apart.items) x;
 }

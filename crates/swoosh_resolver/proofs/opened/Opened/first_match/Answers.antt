@@ -1,70 +1,115 @@
-use Rattle.std.proofs.Common.{◌≡◌, ℕ, ◌+◌, Some, [], sym, ◌∙◌, ap, subst, arith}
-use Rattle.std.specs.Prelude.{map}
-use Rattle.swoosh_resolver.specs.Tables.{Entry, Listed, AreSought}
-use Rattle.swoosh_resolver.proofs.Looking.{IsLook, paid-next, paid-all, none-next, none-matches}
-use Rattle.swoosh_resolver.proofs.Listing.{blocks-listed}
+use Rattle.std.proofs.Common.{◌≡◌, ℕ, ◌+◌, Some, true, [], sym, ◌∙◌, ap, subst, inl, inr, arith}
+use Rattle.std.specs.Prelude.{Contains, map}
+use Rattle.swoosh_resolver.specs.Tables.{AreSought, Entry, block_at}
+use Rattle.swoosh_resolver.specs.Looks.{IsFound, IsLook}
+use Rattle.swoosh_resolver.proofs.Looking.{paid-next, paid-all, none-next, none-matches}
+use Rattle.swoosh_resolver.proofs.Listing.{blocks-listed, there-from_listed}
 use Rattle.swoosh_resolver.proofs.opened.Opened.first_match.Goals as goal
 
 pub returns-then-matches_at-clause-cost : goal.returns-then-matches_at-clause-cost
 returns-then-matches_at-clause-cost g c =
     let items = c.args.self.now.items in
     let value = c.args.value.now.value in
-    let keys = c.value.inside.sought.items in
-    let numbers = c.deref-number-items.result.now in
-    let mine : c.self.inside.values.items ≡ items = ap (λ (l : Listed g.row.R.Denot ℕ). l.items) c.self.view_is in
-    let look : IsLook g.R.Resolvable.is_posted g.R.Resolvable.seeks (map Some items) value keys numbers = record {
-      keyed = subst (λ v. AreSought g.R.Resolvable.seeks v keys) (ap (λ (e : Entry g.row.R.Denot g.row.R-Key.Denot). e.value) c.value.view_is) c.value.invariant.0;
-      ascending = rw c.deref-number-items.ensures.value c.in_ok-numbers.ensures.ascending;
-      members = rw (c.deref-number-items.ensures.value, ← c.as_slice.ensures.value) (c.in_ok-numbers.ensures.members (map Some items) (rw mine at c.self.invariant.listed));
-    } in
-    let i = c.loop-number.number-index in
-    rw blocks-listed at (paid-all g.met.R.Resolvable.seeking_laws (map Some items) [] value keys numbers look c.args.steps.now c.matches_at.new.steps (i + 1)
-    (paid-next g.met.R.Resolvable.seeking_laws (map Some items) [] value keys numbers look c.args.steps.now c.loop-number.steps c.matches_at.new.steps i (omega arith) c.loop-number.invariant.cost c.matches_at.ensures.cost))
+    let keys = c.args.value.now.keys in
+    let numbers = c.args.numbers.now in
+    let places = c.deref-place-items.result.now in
+    let seeks : AreSought g.R.Resolvable.meets g.R.Resolvable.is_posted g.R.Resolvable.seeks c.args.value.now.value c.args.value.now.base c.args.value.now.keys =
+    subst (λ (e : Entry g.row.R.Denot g.row.R-Key.Denot). AreSought g.R.Resolvable.meets g.R.Resolvable.is_posted g.R.Resolvable.seeks e.value e.base e.keys) c.value.view_is c.value.invariant.0 in
+    let sought : c.as_slice.result.now ≡ keys = c.as_slice.ensures.value ∙ ap (λ (e : Entry g.row.R.Denot g.row.R-Key.Denot). e.keys) c.value.view_is in
+    let sound : (k : g.row.R-Key.Denot) → Contains keys k → g.R.Resolvable.seeks value k = seeks.sound in
+    let look : IsLook (IsFound g.R.Resolvable.is_posted keys numbers) (map Some items) places =
+    rw (c.deref-place-items.ensures.value, ← sought) c.in_ok-places.ensures.look in
+    let shares : (e : Entry g.row.R.Denot ℕ) (n : ℕ) → block_at (map Some items) n ≡ Some e → IsFound g.R.Resolvable.is_posted keys numbers e → g.R.Resolvable.shares e.value value ≡ true =
+    λ e n at seen. elim seen as (λ _. g.R.Resolvable.shares e.value value ≡ true) [
+      | inl (k, ck, own) ↦ g.met.R.Resolvable.seeking_laws.near value e.value k (sound k ck) own.0
+      | inr (b, is, stands) ↦
+          (let there = there-from_listed items n e at in
+          let (k, ck, had) = c.requires.led e b there is stands in
+          let based = c.in_ok-places.ensures.based e there in
+          g.met.R.Resolvable.seeking_laws.near value e.value k (sound k ck) ((rw is at based.keeps) k had))
+    ] in
+    let near = λ (e : Entry g.row.R.Denot ℕ). g.R.Resolvable.shares e.value value in
+    let i = c.loop-place.place-index in
+    rw blocks-listed at (paid-all (map Some items) [] places look near shares c.args.steps.now c.matches_at.new.steps (i + 1)
+    (paid-next (map Some items) [] places look near shares c.args.steps.now c.loop-place.steps c.matches_at.new.steps i (omega arith) c.loop-place.invariant.cost c.matches_at.ensures.cost))
 
-pub loop-number-preserved : goal.loop-number-preserved
-loop-number-preserved g c =
+pub loop-place-preserved : goal.loop-place-preserved
+loop-place-preserved g c =
     let items = c.args.self.now.items in
     let value = c.args.value.now.value in
-    let keys = c.value.inside.sought.items in
-    let numbers = c.deref-number-items.result.now in
-    let mine : c.self.inside.values.items ≡ items = ap (λ (l : Listed g.row.R.Denot ℕ). l.items) c.self.view_is in
-    let look : IsLook g.R.Resolvable.is_posted g.R.Resolvable.seeks (map Some items) value keys numbers = record {
-      keyed = subst (λ v. AreSought g.R.Resolvable.seeks v keys) (ap (λ (e : Entry g.row.R.Denot g.row.R-Key.Denot). e.value) c.value.view_is) c.value.invariant.0;
-      ascending = rw c.deref-number-items.ensures.value c.in_ok-numbers.ensures.ascending;
-      members = rw (c.deref-number-items.ensures.value, ← c.as_slice.ensures.value) (c.in_ok-numbers.ensures.members (map Some items) (rw mine at c.self.invariant.listed));
-    } in
-    let i = c.loop-number.number-index in
+    let keys = c.args.value.now.keys in
+    let numbers = c.args.numbers.now in
+    let places = c.deref-place-items.result.now in
+    let seeks : AreSought g.R.Resolvable.meets g.R.Resolvable.is_posted g.R.Resolvable.seeks c.args.value.now.value c.args.value.now.base c.args.value.now.keys =
+    subst (λ (e : Entry g.row.R.Denot g.row.R-Key.Denot). AreSought g.R.Resolvable.meets g.R.Resolvable.is_posted g.R.Resolvable.seeks e.value e.base e.keys) c.value.view_is c.value.invariant.0 in
+    let sought : c.as_slice.result.now ≡ keys = c.as_slice.ensures.value ∙ ap (λ (e : Entry g.row.R.Denot g.row.R-Key.Denot). e.keys) c.value.view_is in
+    let sound : (k : g.row.R-Key.Denot) → Contains keys k → g.R.Resolvable.seeks value k = seeks.sound in
+    let look : IsLook (IsFound g.R.Resolvable.is_posted keys numbers) (map Some items) places =
+    rw (c.deref-place-items.ensures.value, ← sought) c.in_ok-places.ensures.look in
+    let shares : (e : Entry g.row.R.Denot ℕ) (n : ℕ) → block_at (map Some items) n ≡ Some e → IsFound g.R.Resolvable.is_posted keys numbers e → g.R.Resolvable.shares e.value value ≡ true =
+    λ e n at seen. elim seen as (λ _. g.R.Resolvable.shares e.value value ≡ true) [
+      | inl (k, ck, own) ↦ g.met.R.Resolvable.seeking_laws.near value e.value k (sound k ck) own.0
+      | inr (b, is, stands) ↦
+          (let there = there-from_listed items n e at in
+          let (k, ck, had) = c.requires.led e b there is stands in
+          let based = c.in_ok-places.ensures.based e there in
+          g.met.R.Resolvable.seeking_laws.near value e.value k (sound k ck) ((rw is at based.keeps) k had))
+    ] in
+    let near = λ (e : Entry g.row.R.Denot ℕ). g.R.Resolvable.shares e.value value in
+    let i = c.loop-place.place-index in
     record {
-      none = none-next g.met.R.Resolvable.seeking_laws (map Some items) [] value keys numbers look i (omega arith) c.loop-number.invariant.none (sym c.matches_at.ensures.answer ∙ c.if-matches_at.false);
-      cost = paid-next g.met.R.Resolvable.seeking_laws (map Some items) [] value keys numbers look c.args.steps.now c.loop-number.steps c.matches_at.new.steps i (omega arith) c.loop-number.invariant.cost c.matches_at.ensures.cost;
+      none = none-next (map Some items) [] places look (λ (e : Entry g.row.R.Denot ℕ). g.R.Resolvable.meets value e.value) i (omega arith) c.loop-place.invariant.none (sym c.matches_at.ensures.answer ∙ c.if-matches_at.false);
+      cost = paid-next (map Some items) [] places look near shares c.args.steps.now c.loop-place.steps c.matches_at.new.steps i (omega arith) c.loop-place.invariant.cost c.matches_at.ensures.cost;
     }
 
 pub returns-clause-none : goal.returns-clause-none
 returns-clause-none g c =
     let items = c.args.self.now.items in
     let value = c.args.value.now.value in
-    let keys = c.value.inside.sought.items in
-    let numbers = c.deref-number-items.result.now in
-    let mine : c.self.inside.values.items ≡ items = ap (λ (l : Listed g.row.R.Denot ℕ). l.items) c.self.view_is in
-    let look : IsLook g.R.Resolvable.is_posted g.R.Resolvable.seeks (map Some items) value keys numbers = record {
-      keyed = subst (λ v. AreSought g.R.Resolvable.seeks v keys) (ap (λ (e : Entry g.row.R.Denot g.row.R-Key.Denot). e.value) c.value.view_is) c.value.invariant.0;
-      ascending = rw c.deref-number-items.ensures.value c.in_ok-numbers.ensures.ascending;
-      members = rw (c.deref-number-items.ensures.value, ← c.as_slice.ensures.value) (c.in_ok-numbers.ensures.members (map Some items) (rw mine at c.self.invariant.listed));
-    } in
-    let i = c.loop-number.number-index in
-    rw blocks-listed at (none-matches g.met.R.Resolvable.seeking_laws (map Some items) [] value keys numbers look i (omega arith) c.loop-number.invariant.none)
+    let keys = c.args.value.now.keys in
+    let numbers = c.args.numbers.now in
+    let places = c.deref-place-items.result.now in
+    let seeks : AreSought g.R.Resolvable.meets g.R.Resolvable.is_posted g.R.Resolvable.seeks c.args.value.now.value c.args.value.now.base c.args.value.now.keys =
+    subst (λ (e : Entry g.row.R.Denot g.row.R-Key.Denot). AreSought g.R.Resolvable.meets g.R.Resolvable.is_posted g.R.Resolvable.seeks e.value e.base e.keys) c.value.view_is c.value.invariant.0 in
+    let sought : c.as_slice.result.now ≡ keys = c.as_slice.ensures.value ∙ ap (λ (e : Entry g.row.R.Denot g.row.R-Key.Denot). e.keys) c.value.view_is in
+    let sound : (k : g.row.R-Key.Denot) → Contains keys k → g.R.Resolvable.seeks value k = seeks.sound in
+    let look : IsLook (IsFound g.R.Resolvable.is_posted keys numbers) (map Some items) places =
+    rw (c.deref-place-items.ensures.value, ← sought) c.in_ok-places.ensures.look in
+    let shares : (e : Entry g.row.R.Denot ℕ) (n : ℕ) → block_at (map Some items) n ≡ Some e → IsFound g.R.Resolvable.is_posted keys numbers e → g.R.Resolvable.shares e.value value ≡ true =
+    λ e n at seen. elim seen as (λ _. g.R.Resolvable.shares e.value value ≡ true) [
+      | inl (k, ck, own) ↦ g.met.R.Resolvable.seeking_laws.near value e.value k (sound k ck) own.0
+      | inr (b, is, stands) ↦
+          (let there = there-from_listed items n e at in
+          let (k, ck, had) = c.requires.led e b there is stands in
+          let based = c.in_ok-places.ensures.based e there in
+          g.met.R.Resolvable.seeking_laws.near value e.value k (sound k ck) ((rw is at based.keeps) k had))
+    ] in
+    let near = λ (e : Entry g.row.R.Denot ℕ). g.R.Resolvable.shares e.value value in
+    let i = c.loop-place.place-index in
+    rw blocks-listed at (none-matches (map Some items) [] places look (λ (e : Entry g.row.R.Denot ℕ). g.R.Resolvable.meets value e.value) i (omega arith) c.loop-place.invariant.none)
 
 pub returns-clause-cost : goal.returns-clause-cost
 returns-clause-cost g c =
     let items = c.args.self.now.items in
     let value = c.args.value.now.value in
-    let keys = c.value.inside.sought.items in
-    let numbers = c.deref-number-items.result.now in
-    let mine : c.self.inside.values.items ≡ items = ap (λ (l : Listed g.row.R.Denot ℕ). l.items) c.self.view_is in
-    let look : IsLook g.R.Resolvable.is_posted g.R.Resolvable.seeks (map Some items) value keys numbers = record {
-      keyed = subst (λ v. AreSought g.R.Resolvable.seeks v keys) (ap (λ (e : Entry g.row.R.Denot g.row.R-Key.Denot). e.value) c.value.view_is) c.value.invariant.0;
-      ascending = rw c.deref-number-items.ensures.value c.in_ok-numbers.ensures.ascending;
-      members = rw (c.deref-number-items.ensures.value, ← c.as_slice.ensures.value) (c.in_ok-numbers.ensures.members (map Some items) (rw mine at c.self.invariant.listed));
-    } in
-    let i = c.loop-number.number-index in
-    rw blocks-listed at (paid-all g.met.R.Resolvable.seeking_laws (map Some items) [] value keys numbers look c.args.steps.now c.loop-number.steps i c.loop-number.invariant.cost)
+    let keys = c.args.value.now.keys in
+    let numbers = c.args.numbers.now in
+    let places = c.deref-place-items.result.now in
+    let seeks : AreSought g.R.Resolvable.meets g.R.Resolvable.is_posted g.R.Resolvable.seeks c.args.value.now.value c.args.value.now.base c.args.value.now.keys =
+    subst (λ (e : Entry g.row.R.Denot g.row.R-Key.Denot). AreSought g.R.Resolvable.meets g.R.Resolvable.is_posted g.R.Resolvable.seeks e.value e.base e.keys) c.value.view_is c.value.invariant.0 in
+    let sought : c.as_slice.result.now ≡ keys = c.as_slice.ensures.value ∙ ap (λ (e : Entry g.row.R.Denot g.row.R-Key.Denot). e.keys) c.value.view_is in
+    let sound : (k : g.row.R-Key.Denot) → Contains keys k → g.R.Resolvable.seeks value k = seeks.sound in
+    let look : IsLook (IsFound g.R.Resolvable.is_posted keys numbers) (map Some items) places =
+    rw (c.deref-place-items.ensures.value, ← sought) c.in_ok-places.ensures.look in
+    let shares : (e : Entry g.row.R.Denot ℕ) (n : ℕ) → block_at (map Some items) n ≡ Some e → IsFound g.R.Resolvable.is_posted keys numbers e → g.R.Resolvable.shares e.value value ≡ true =
+    λ e n at seen. elim seen as (λ _. g.R.Resolvable.shares e.value value ≡ true) [
+      | inl (k, ck, own) ↦ g.met.R.Resolvable.seeking_laws.near value e.value k (sound k ck) own.0
+      | inr (b, is, stands) ↦
+          (let there = there-from_listed items n e at in
+          let (k, ck, had) = c.requires.led e b there is stands in
+          let based = c.in_ok-places.ensures.based e there in
+          g.met.R.Resolvable.seeking_laws.near value e.value k (sound k ck) ((rw is at based.keeps) k had))
+    ] in
+    let near = λ (e : Entry g.row.R.Denot ℕ). g.R.Resolvable.shares e.value value in
+    let i = c.loop-place.place-index in
+    rw blocks-listed at (paid-all (map Some items) [] places look near shares c.args.steps.now c.loop-place.steps i c.loop-place.invariant.cost)

@@ -6,8 +6,8 @@ use Rattle.swoosh_resolver.specs.Tables.{block_at}
 use Rattle.swoosh_resolver.specs.Insertions.{passes}
 use Rattle.swoosh_resolver.proofs.opened.Opened.first_match.Given as goal
 
-abbrev pub invariant-loop-number : goal.invariant-loop-number
-invariant-loop-number g l = record {
-  none : AllWithin (λ n. passes (λ e. g.R.Resolvable.meets l.value.value e.value) (block_at (map Some l.self.items) n) ≡ false) l.number-items 0 l.number-index;
-  cost : l.steps ≤ l.initial.steps + count_by (λ n. passes (λ e. g.R.Resolvable.shares e.value l.value.value) (block_at (map Some l.self.items) n)) (take l.number-index l.number-items);
+abbrev pub invariant-loop-place : goal.invariant-loop-place
+invariant-loop-place g l = record {
+  none : AllWithin (λ n. passes (λ e. g.R.Resolvable.meets l.value.value e.value) (block_at (map Some l.self.items) n) ≡ false) l.place-items 0 l.place-index;
+  cost : l.steps ≤ l.initial.steps + count_by (λ n. passes (λ e. g.R.Resolvable.shares e.value l.value.value) (block_at (map Some l.self.items) n)) (take l.place-index l.place-items);
 }

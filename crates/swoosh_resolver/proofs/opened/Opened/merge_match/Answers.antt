@@ -1,21 +1,30 @@
-use Rattle.std.proofs.Common.{ℕ, ◌<◌, IsTrue, get_or, length, sym, ◌∙◌, ap, subst}
-use Rattle.std.proofs.lemmas.List.Sorted.{IsPermutation-swap_remove}
-use Rattle.swoosh_resolver.specs.Tables.{Entry}
+use Rattle.std.proofs.Common.{◌≡◌, ℕ, None, Some, [], ◌∙◌, ap, sym, subst, inl, inr, arith}
+use Rattle.std.specs.Prelude.{All, Contains}
+use Rattle.swoosh_resolver.specs.Tables.{AreSought, Entry}
+use Rattle.swoosh_resolver.specs.Looks.{IsFound}
+use Rattle.swoosh_resolver.proofs.Looking.{failed}
+use Rattle.swoosh_resolver.proofs.Whole.{All-free}
 use Rattle.swoosh_resolver.proofs.opened.Opened.merge_match.Goals as goal
+
+pub take_match-requires : goal.take_match-requires
+take_match-requires g c = record { led = λ e b there is (i, il, at). absurd (omega arith) }
 
 pub returns-in_ok-joined-in-Some-clause-merged : goal.returns-in_ok-joined-in-Some-clause-merged
 returns-in_ok-joined-in-Some-clause-merged g c =
-    let items = c.args.self.now.items in
-    let place = c.in-Some.place in
-    let other = c.swap_remove-other.result in
-    let within : place < length items = rw c.in-Some.is at c.in_ok-place.ensures.within in
-    let found : IsTrue (g.R.Resolvable.meets c.args.value.now.value (get_or items place other).value) = (rw c.in-Some.is at c.in_ok-place.ensures.found) other in
-    let is = c.swap_remove-other.ensures.value in
+    let other = c.in-Some.other in
+    let m = rw c.in-Some.is at c.in_ok-other.ensures.taken in
     let value = ap (λ (e : Entry g.row.R.Denot g.row.R-Key.Denot). e.value) c.value.view_is in
     let its = ap (λ (e : Entry g.row.R.Denot ℕ). e.value) c.other.view_is in
     record {
       by = other;
-      taken = rw c.swap_remove-other.ensures.items (IsPermutation-swap_remove items place other within is);
-      matches = subst (λ (e : Entry g.row.R.Denot ℕ). IsTrue (g.R.Resolvable.meets c.args.value.now.value e.value)) (sym is) found;
+      taken = m.taken;
+      matches = m.matches;
       is = c.in_ok-joined-in-Some.ensures ∙ ap (λ v. g.R.Join.join v c.value.inside.value) its ∙ ap (g.R.Join.join other.value) value;
     }
+
+pub returns-in-None-clause-none : goal.returns-in-None-clause-none
+returns-in-None-clause-none g c =
+    let none = rw c.in-None.is at c.in_ok-other.ensures.none in
+    let sought : AreSought g.R.Resolvable.meets g.R.Resolvable.is_posted g.R.Resolvable.seeks c.args.value.now.value c.args.value.now.base c.args.value.now.keys =
+    subst (λ (e : Entry g.row.R.Denot g.row.R-Key.Denot). AreSought g.R.Resolvable.meets g.R.Resolvable.is_posted g.R.Resolvable.seeks e.value e.base e.keys) c.value.view_is c.value.invariant.0 in
+    (none.0, All-free g.R.Resolvable.meets g.R.Resolvable.is_posted g.R.Resolvable.seeks c.args.value.now.value c.args.value.now.base c.args.value.now.keys sought c.requires.whole [] c.args.self.now.items c.requires.free none.1)

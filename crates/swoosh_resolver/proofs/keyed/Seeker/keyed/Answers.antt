@@ -1,0 +1,2 @@
+use Rattle.swoosh_resolver.proofs.Bases.{own-all}
+use Rattle.swoosh_resolver.proofs.keyed.Seeker.keyed.Goals as goal
