@@ -1,5 +1,5 @@
 -- Pairs of the members of two lists, one after the other.
-use Rattle.std.proofs.Common.{◌≡◌, List, [], ◌∷◌, ◌++◌, subst, inl, inr, arith}
+use Rattle.std.proofs.Common.{List, [], ◌∷◌, ◌++◌, subst, inl, inr, arith}
 use Rattle.std.specs.Prelude.{AllPairs, Contains}
 use Rattle.std.proofs.lemmas.List.Elements.{Contains-append_right}
 use Rattle.merge_laws.proofs.Places.{AllPairs-first, AllPairs-rest, Contains-cases}

@@ -1,12 +1,12 @@
 -- The numbers that opened values are given, one after the other.
-use Rattle.std.proofs.Common.{◌≡◌, ◌≢◌, ℕ, suc, ◌+◌, ◌-◌, ◌<◌, ◌≤◌, Bool, List, [], ◌∷◌, ◌++◌, Option, None, Some, length, length-append, length-take, get_or, take, refl, sym, ◌∙◌, ap, subst, inl, inr, arith}
+use Rattle.std.proofs.Common.{◌≡◌, ◌≢◌, ℕ, ◌+◌, ◌-◌, ◌<◌, ◌≤◌, Bool, List, [], ◌∷◌, ◌++◌, Option, None, Some, length, length-append, length-take, get_or, take, refl, sym, ◌∙◌, ap, subst, inl, inr, arith}
 use Rattle.std.specs.Prelude.{◌⊎◌, AllPairs, Contains}
 use Rattle.std.proofs.Math.Decide.{dec_lt}
 use Rattle.std.proofs.lemmas.List.{get_or_default, get_or-take}
-use Rattle.std.proofs.lemmas.List.Elements.{Contains-append_left, Contains-get_or, Contains-push, Contains-push_cases}
+use Rattle.std.proofs.lemmas.List.Elements.{Contains-append_left, Contains-get_or, Contains-push}
 use Rattle.std.proofs.lemmas.List.Quantifiers.{all_pairs_push}
 use Rattle.merge_laws.proofs.Places.{AllPairs-none}
-use Rattle.swoosh_resolver.specs.Tables.{Base, Entry, block_at}
+use Rattle.swoosh_resolver.specs.Tables.{Base, Entry}
 use Rattle.swoosh_resolver.specs.Changes.{AreGiven, AreNumbers, AreVacated, Fits, IsStoodOn, StandApart, number_at}
 use Rattle.swoosh_resolver.proofs.Opening.{element, number-closed, number-new, numbers-apart, pushed-before, pushed-last, within-from_some}
 

@@ -1,5 +1,5 @@
 -- Blocks in a row that is made longer.
-use Rattle.std.proofs.Common.{◌≡◌, ℕ, zero, suc, List, [], ◌∷◌, ◌++◌, Option, None, Some, refl}
+use Rattle.std.proofs.Common.{◌≡◌, ℕ, zero, suc, List, [], ◌∷◌, ◌++◌, Option, None, refl}
 use Rattle.swoosh_resolver.specs.Tables.{block_at}
 
 -- no block stands at a place more

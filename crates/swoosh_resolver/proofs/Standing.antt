@@ -1,12 +1,12 @@
 -- Which closed blocks a value may stand on, once a member of the view is taken out.
-use Rattle.std.proofs.Common.{◌≡◌, ◌≢◌, ℕ, Bool, true, false, IsTrue, List, [], ◌∷◌, ◌++◌, Option, None, Some, refl, sym, ◌∙◌, ap, subst, inl, inr, arith}
-use Rattle.std.specs.Prelude.{◌⊎◌, All, AllPairs, Contains, IfSome, option_map}
+use Rattle.std.proofs.Common.{◌≡◌, ℕ, Bool, true, false, IsTrue, List, [], ◌∷◌, ◌++◌, Option, None, Some, sym, ◌∙◌, ap, subst, inl, inr}
+use Rattle.std.specs.Prelude.{◌⊎◌, All, Contains, IfSome, option_map}
 use Rattle.std.specs.List.Sorted.{IsPermutation}
 use Rattle.std.proofs.lemmas.List.Elements.{All-contains, Contains-append_left, Contains-push}
 use Rattle.std.proofs.lemmas.List.Sorted.{Contains-permutation, IsPermutation-sym}
 use Rattle.merge_laws.specs.Resolution.{JoinLaws, MatchLaws, AreApart, DoNotMatch}
 use Rattle.merge_laws.proofs.Places.{All-from_members, AllPairs-first, AllPairs-permutation, Contains-head, Contains-tail}
-use Rattle.swoosh_resolver.specs.Tables.{Base, Entry, block_at, blocks_in, value_at, values_of}
+use Rattle.swoosh_resolver.specs.Tables.{Base, Entry, block_at}
 use Rattle.swoosh_resolver.specs.Changes.{CanStand, Fits, IsClosed, StandApart, view_of, without}
 use Rattle.swoosh_resolver.proofs.Looking.{failed}
 use Rattle.swoosh_resolver.proofs.Places.{block-closed, block-from_open}

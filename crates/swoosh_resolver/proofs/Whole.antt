@@ -1,5 +1,5 @@
 -- What a value does not match where it matches none of what is looked at.
-use Rattle.std.proofs.Common.{◌≡◌, ℕ, Bool, true, false, List, [], ◌∷◌, Option, None, Some, sym, ◌∙◌, ap, refl, subst, true≢false, inl, inr, arith}
+use Rattle.std.proofs.Common.{◌≡◌, ℕ, Bool, true, false, List, Option, None, Some, sym, ◌∙◌, ap, refl, subst, true≢false, inl, inr}
 use Rattle.std.specs.Prelude.{◌↔◌, All, Contains, IfSome}
 use Rattle.std.proofs.lemmas.List.Elements.{All-contains}
 use Rattle.merge_laws.proofs.Places.{All-from_members}

@@ -1,5 +1,5 @@
 -- Blocks under numbers, with the postings of their keys, and values that are opened beside them.
-use Rattle.std.specs.Prelude.{◌≡◌, ◌≢◌, ℕ, ◌↔◌, ◌++◌, ◌∷◌, Bool, true, false, List, [], Option, None, Some, length, map, filter_map, slice_set, slice_index, slice_index_or, Contains, AllPairs, IsSome, IfSome, option_map, unwrap_or}
+use Rattle.std.specs.Prelude.{◌≡◌, ◌≢◌, ℕ, ◌↔◌, Bool, true, false, List, [], Option, None, Some, length, map, filter_map, slice_index, slice_index_or, Contains, AllPairs, IsSome, IfSome, option_map, unwrap_or}
 use Rattle.feature_index.specs.Postings.{Posting, key_at, numbers_of}
 use Rattle.merge_laws.specs.Resolution.{AreApart}
 

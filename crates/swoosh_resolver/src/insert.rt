@@ -10,6 +10,7 @@ ghost use Rattle.swoosh_resolver.specs.Insertions.{passes, IsMatchAt, Merges, In
 
 use crate::blocks::Blocks;
 use crate::change::Change;
+use crate::install::kept_at;
 use crate::keyed::{Fresh, Seeker, Standing};
 use crate::posting::{candidates, push_if};
 use merge_laws::resolvable::Resolvable;
@@ -92,14 +93,6 @@ impl<R: Resolvable> Blocks<R> {
         None
     }
 
-    /// How many keys the block under the number has: none where no block has it. Takes no memory.
-    fn size(&self, number: u64) -> usize {
-        match self.blocks.get(number as usize) {
-            Some(Some(placed)) => placed.places.len(),
-            _ => 0,
-        }
-    }
-
     /// Of the two blocks the one with more keys. Takes no memory.
     fn larger(&self, one: Option<Standing<R>>, other: Option<Standing<R>>) -> Option<Standing<R>>
         ensures { (result ≡ one) ⊎ (result ≡ other) }
@@ -109,7 +102,8 @@ impl<R: Resolvable> Blocks<R> {
             Some(one) => match other {
                 None => Some(one),
                 Some(other) => {
-                    if self.size(one.number) < self.size(other.number) {
+                    let blocks = self.blocks.as_slice();
+                    if kept_at(blocks, one.number) < kept_at(blocks, other.number) {
                         Some(other)
                     } else {
                         Some(one)

@@ -66,7 +66,7 @@ fn close_all<R: Resolvable>(
 }
 
 /// How many places the block under the number has: none where no block stands there. Takes no memory.
-fn kept_at<R: Resolvable>(blocks: &[Option<Placed<R>>], number: u64) -> usize
+pub(crate) fn kept_at<R: Resolvable>(blocks: &[Option<Placed<R>>], number: u64) -> usize
     ensures { result ≡ length (places_at blocks.now number) }
 {
     match blocks.get(number as usize) {

@@ -1,7 +1,7 @@
-use Rattle.std.proofs.Common.{◌≡◌, ◌≢◌, ℕ, ◌+◌, ◌≤◌, None, Some, drop, length, sym, ◌∙◌, ap, arith}
+use Rattle.std.proofs.Common.{◌≡◌, None, Some, drop, length, ◌∙◌, ap}
 use Rattle.std.specs.Prelude.{slice_set}
 use Rattle.std.proofs.lemmas.List.{get_or-set_other, get_or-set_same}
-use Rattle.swoosh_resolver.specs.Tables.{block_at, places_at}
+use Rattle.swoosh_resolver.specs.Tables.{places_at}
 use Rattle.swoosh_resolver.proofs.Putting.{posted-over, rest-absent, rest-once, rest-rows, starts-within}
 use Rattle.swoosh_resolver.proofs.install.put.Goals as goal
 

@@ -1,9 +1,9 @@
-use Rattle.std.proofs.Common.{◌≡◌, ◌≢◌, ℕ, ◌+◌, ◌<◌, ◌≤◌, ◌++◌, ◌∷◌, [], Option, Some, List, drop, get_or, length, length-append, refl, append_assoc, sym, take, ◌∙◌, ap, subst, arith}
+use Rattle.std.proofs.Common.{◌≡◌, ◌≢◌, ℕ, ◌+◌, ◌<◌, ◌≤◌, ◌++◌, ◌∷◌, [], Option, Some, drop, get_or, length, length-append, refl, append_assoc, sym, take, ◌∙◌, ap, subst, arith}
 use Rattle.std.specs.Prelude.{Contains, IsSome, count_by, option_map, unwrap_or, vec_capacity}
-use Rattle.std.proofs.lemmas.List.{get_or_at, get_or_default, take_more, take_all}
+use Rattle.std.proofs.lemmas.List.{get_or_at, get_or_default, take_more}
 use Rattle.feature_index.specs.Postings.{key_at, spare_of}
 use Rattle.swoosh_resolver.specs.Tables.{Entry, block_at, keys_at, places_at}
-use Rattle.swoosh_resolver.specs.Changes.{added, keys_in}
+use Rattle.swoosh_resolver.specs.Changes.{added}
 use Rattle.swoosh_resolver.proofs.Installing.{added-at, block-among, drop-among, length-added, next-stands, opened_more, opened_none}
 use Rattle.swoosh_resolver.proofs.Opening.{count-keys, count-split}
 use Rattle.swoosh_resolver.proofs.Placing.{keys_at-stay, placed-stays}

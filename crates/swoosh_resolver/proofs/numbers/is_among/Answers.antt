@@ -1,4 +1,4 @@
-use Rattle.std.proofs.Common.{◌≡◌, ◌∙◌}
+use Rattle.std.proofs.Common.{◌∙◌}
 use Rattle.std.proofs.lemmas.List.{get_or_default}
 use Rattle.feature_index.proofs.Ascending.{absent-from_gap, found-from_search, gap-from_search}
 use Rattle.swoosh_resolver.proofs.numbers.is_among.Goals as goal

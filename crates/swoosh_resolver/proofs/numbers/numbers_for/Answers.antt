@@ -1,9 +1,6 @@
-use Rattle.std.proofs.Common.{◌≡◌, ℕ, ◌+◌, ◌++◌, ◌∷◌, [], List, length, length-take, take, sym, ◌∙◌, ap, subst, arith}
-use Rattle.std.specs.Prelude.{Contains}
+use Rattle.std.proofs.Common.{◌≡◌, ◌+◌, ◌++◌, ◌∷◌, [], length-take, take, sym, ◌∙◌, ap, arith}
 use Rattle.std.proofs.lemmas.List.{take_more, take_all}
-use Rattle.swoosh_resolver.specs.Tables.{Entry}
-use Rattle.swoosh_resolver.specs.Changes.{StandApart}
-use Rattle.swoosh_resolver.proofs.Giving.{AreGiving, giving_none, giving-more, given-all}
+use Rattle.swoosh_resolver.proofs.Giving.{giving_none, giving-more, given-all}
 use Rattle.swoosh_resolver.proofs.numbers.numbers_for.Goals as goal
 
 pub loop-fresh-init : goal.loop-fresh-init

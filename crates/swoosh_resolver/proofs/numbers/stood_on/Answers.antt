@@ -1,6 +1,6 @@
 use Rattle.std.proofs.Common.{◌≡◌, ◌+◌, ◌++◌, ◌∷◌, [], take, sym, ◌∙◌, ap, arith}
 use Rattle.std.proofs.lemmas.List.{take_more, take_all}
-use Rattle.swoosh_resolver.proofs.Vacating.{AreStood, stood_none, stood_more}
+use Rattle.swoosh_resolver.proofs.Vacating.{stood_none, stood_more}
 use Rattle.swoosh_resolver.proofs.numbers.stood_on.Goals as goal
 
 pub loop-fresh-init : goal.loop-fresh-init

@@ -1,7 +1,6 @@
-use Rattle.std.proofs.Common.{◌≡◌, ℕ, ◌+◌, ◌++◌, ◌∷◌, [], true, false, take, get_or, refl, sym, ◌∙◌, ap, not, arith}
-use Rattle.std.specs.Prelude.{Contains}
+use Rattle.std.proofs.Common.{◌≡◌, ℕ, ◌+◌, ◌++◌, ◌∷◌, [], true, false, take, get_or, refl, ap, not, arith}
 use Rattle.std.proofs.lemmas.List.{take_more, take_all, get_or_default}
-use Rattle.swoosh_resolver.specs.Changes.{AreVacated, IsStoodOn}
+use Rattle.swoosh_resolver.specs.Changes.{AreVacated}
 use Rattle.swoosh_resolver.proofs.Places.{not-before}
 use Rattle.swoosh_resolver.proofs.Vacating.{vacated_none, vacated_more, vacated_skipped}
 use Rattle.swoosh_resolver.proofs.numbers.vacated.Goals as goal

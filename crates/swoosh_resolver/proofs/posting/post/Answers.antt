@@ -1,4 +1,4 @@
-use Rattle.std.proofs.Common.{◌≡◌, ℕ, refl, ◌<◌, ◌≤◌, true, Some, get_or, take, sym, ◌∙◌, ap, subst, inl, inr, arith}
+use Rattle.std.proofs.Common.{◌≡◌, ℕ, refl, ◌<◌, ◌≤◌, true, Some, get_or, take, sym, subst, inl, inr, arith}
 use Rattle.std.specs.Prelude.{Contains, IsSome, count_by}
 use Rattle.std.proofs.lemmas.List.{take_all}
 use Rattle.feature_index.specs.Postings.{key_at, numbers_of, spare_of}

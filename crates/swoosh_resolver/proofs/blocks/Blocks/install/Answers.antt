@@ -1,14 +1,13 @@
-use Rattle.std.proofs.Common.{◌≡◌, ℕ, ◌+◌, ◌<◌, ◌≤◌, ◌++◌, length, length-append, take, inl, inr, sym, ◌∙◌, ap, subst, arith}
+use Rattle.std.proofs.Common.{◌≡◌, ℕ, ◌+◌, ◌++◌, length, length-append, inl, inr, sym, ◌∙◌, ap, arith}
 use Rattle.std.proofs.lemmas.List.Elements.{Contains-append_cases}
-use Rattle.std.specs.Prelude.{Contains, count_by, vec_capacity}
+use Rattle.std.specs.Prelude.{vec_capacity}
 use Rattle.std.specs.List.Sorted.{IsPermutation}
 use Rattle.std.proofs.lemmas.List.Sorted.{IsPermutation-map, IsPermutation-sym, Contains-permutation, length_permutation}
-use Rattle.feature_index.specs.Postings.{spare_of}
 use Rattle.merge_laws.specs.Resolution.{DoNotMatch}
 use Rattle.merge_laws.proofs.Places.{AllPairs-permutation}
-use Rattle.swoosh_resolver.specs.Tables.{Entry, Has, IsPlaced, Table, block_at, blocks_in, places_at, values_of}
-use Rattle.swoosh_resolver.specs.Changes.{AreNumbers, AreOpened, Fits, HasRoom, added, keys_in, view_of, without}
-use Rattle.swoosh_resolver.proofs.Counting.{length-kept, length-within, capacity-within, closed-fit, count-fits, count-after, places-fit}
+use Rattle.swoosh_resolver.specs.Tables.{Entry, Has, IsPlaced, Table, block_at, blocks_in, values_of}
+use Rattle.swoosh_resolver.specs.Changes.{AreNumbers, AreOpened, Fits, HasRoom, added, view_of, without}
+use Rattle.swoosh_resolver.proofs.Counting.{length-kept, length-within, capacity-within, closed-fit, count-fits, count-after}
 use Rattle.swoosh_resolver.proofs.Installing.{added-rows, given-free, kept-number, opened-over, opened-view, still-among}
 use Rattle.swoosh_resolver.proofs.Places.{count-closed, count-within}
 use Rattle.swoosh_resolver.proofs.Placing.{keys_in-stay, placed-stays}

@@ -1,12 +1,12 @@
-use Rattle.std.proofs.Common.{◌≡◌, ◌≢◌, ◌+◌, ◌-◌, ◌<◌, ◌≤◌, ℕ, List, length, map, take, rules, ◌∙◌, ap, subst, sym, inl, inr, arith}
-use Rattle.std.specs.Prelude.{◌⊎◌, AllPairs, Contains, count_by, vec_capacity}
+use Rattle.std.proofs.Common.{◌≡◌, ◌+◌, ◌-◌, ◌<◌, ◌≤◌, ℕ, length, map, rules, ◌∙◌, ap, subst, sym, inl, inr, arith}
+use Rattle.std.specs.Prelude.{count_by, vec_capacity}
 use Rattle.feature_index.specs.Postings.{Posting, spare_of}
-use Rattle.swoosh_resolver.specs.Tables.{ArePlaced, Entry, Has, HasOwn, standings_of, values_of}
-use Rattle.swoosh_resolver.specs.Changes.{AreGiven, AreNumbers, AreSeated, AreVacated, Fits, HasRoom, added, keys_in, whole_at, without}
+use Rattle.swoosh_resolver.specs.Tables.{ArePlaced, Entry, HasOwn, standings_of}
+use Rattle.swoosh_resolver.specs.Changes.{AreGiven, AreNumbers, AreVacated, Fits, keys_in, whole_at, without}
 use Rattle.swoosh_resolver.proofs.Counting.{length-kept}
 use Rattle.swoosh_resolver.proofs.Giving.{numbers-given, stood-below}
 use Rattle.swoosh_resolver.proofs.Bases.{all-whole}
-use Rattle.swoosh_resolver.proofs.Installing.{block-among, free-or_closed}
+use Rattle.swoosh_resolver.proofs.Installing.{free-or_closed}
 use Rattle.swoosh_resolver.proofs.Opening.{within-from_some}
 use Rattle.swoosh_resolver.proofs.Placing.{blocks-stay, keys_in-stay, placed-stays}
 use Rattle.swoosh_resolver.proofs.Seats.{AreAtSeats, at-seats, base-placed, closed-covered, own-rows, same-length, seats-same, values-same, whole-added, whole-free, whole-length, whole-starts, whole-values}

@@ -1,6 +1,4 @@
-use Rattle.std.proofs.Common.{◌≡◌, ℕ, false, refl, ◌∙◌, ap}
-use Rattle.std.proofs.lemmas.List.Elements.{All-contains}
-use Rattle.swoosh_resolver.specs.Tables.{Base, Entry, blocks_in}
+use Rattle.std.proofs.Common.{◌≡◌, false, refl}
 use Rattle.swoosh_resolver.specs.Changes.{without}
 use Rattle.swoosh_resolver.specs.Insertions.{IsMatchAt}
 use Rattle.swoosh_resolver.proofs.Standing.{can-merged_kept}

@@ -1,7 +1,6 @@
-use Rattle.std.proofs.Common.{◌≡◌, ℕ, false, refl, ◌∙◌, ap}
+use Rattle.std.proofs.Common.{◌≡◌, false, ◌∙◌, ap}
 use Rattle.std.proofs.lemmas.Result.{IfOk-weaker}
-use Rattle.swoosh_resolver.specs.Tables.{Entry, Has}
-use Rattle.swoosh_resolver.specs.Looks.{IsLook, IsUnder}
+use Rattle.swoosh_resolver.specs.Tables.{Entry}
 use Rattle.swoosh_resolver.proofs.Places.{IfNone_then}
 use Rattle.swoosh_resolver.proofs.Views.{spent-kept, spent-fresh, All-view}
 use Rattle.swoosh_resolver.proofs.blocks.Blocks.merge_next.Goals as goal

@@ -1,4 +1,4 @@
-use Rattle.std.proofs.Common.{◌≡◌, ℕ, false, refl, sym, ◌∙◌, ap, subst}
+use Rattle.std.proofs.Common.{◌≡◌, ℕ, false, refl, subst}
 use Rattle.std.specs.Prelude.{◌↔◌, Contains}
 use Rattle.swoosh_resolver.specs.Tables.{AreSought, Entry}
 use Rattle.swoosh_resolver.specs.Insertions.{TakesMatch}

@@ -1,4 +1,4 @@
-use Rattle.std.proofs.Common.{◌≡◌, ℕ, [], ap, subst}
+use Rattle.std.proofs.Common.{ap, subst}
 use Rattle.swoosh_resolver.specs.Tables.{ArePosted, Has, Table}
 use Rattle.swoosh_resolver.proofs.Finding.{look-of_keys}
 use Rattle.swoosh_resolver.proofs.blocks.Blocks.under.Goals as goal

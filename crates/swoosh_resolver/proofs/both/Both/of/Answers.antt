@@ -1,4 +1,4 @@
-use Rattle.std.proofs.Common.{◌++◌, append-nil}
+use Rattle.std.proofs.Common.{append-nil}
 use Rattle.swoosh_resolver.proofs.both.Both.of.Goals as goal
 
 pub returns-clause-met : goal.returns-clause-met

@@ -1,2 +1,1 @@
-use Rattle.swoosh_resolver.proofs.Bases.{own-all}
 use Rattle.swoosh_resolver.proofs.keyed.Seeker.keyed.Goals as goal

@@ -1,7 +1,6 @@
-use Rattle.std.proofs.Common.{◌≡◌, ℕ, Some, sym, ◌∙◌, ap, subst}
+use Rattle.std.proofs.Common.{ℕ, Some, ap, subst}
 use Rattle.std.specs.Prelude.{Contains, map}
 use Rattle.swoosh_resolver.specs.Tables.{ArePosted, Entry, HasOwn, IsOnBase, Listed}
-use Rattle.swoosh_resolver.specs.Looks.{IsFound, IsLook}
 use Rattle.swoosh_resolver.proofs.Finding.{IfOk-always, look-told}
 use Rattle.swoosh_resolver.proofs.opened.Opened.found.Goals as goal
 

@@ -1,8 +1,5 @@
-use Rattle.std.proofs.Common.{◌≡◌, ℕ, None, Some, [], ◌∙◌, ap, sym, subst, inl, inr, arith}
-use Rattle.std.specs.Prelude.{All, Contains}
+use Rattle.std.proofs.Common.{ℕ, [], ◌∙◌, ap, subst, arith}
 use Rattle.swoosh_resolver.specs.Tables.{AreSought, Entry}
-use Rattle.swoosh_resolver.specs.Looks.{IsFound}
-use Rattle.swoosh_resolver.proofs.Looking.{failed}
 use Rattle.swoosh_resolver.proofs.Whole.{All-free}
 use Rattle.swoosh_resolver.proofs.opened.Opened.merge_match.Goals as goal
 

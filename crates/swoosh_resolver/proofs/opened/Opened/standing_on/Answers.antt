@@ -1,7 +1,6 @@
-use Rattle.std.proofs.Common.{◌≡◌, ℕ, ◌+◌, ◌++◌, ◌∷◌, [], true, false, take, length, length-take, refl, sym, ◌∙◌, ap, subst, arith}
-use Rattle.std.specs.Prelude.{Contains}
+use Rattle.std.proofs.Common.{◌≡◌, ℕ, ◌+◌, ◌++◌, ◌∷◌, [], true, false, take, length, length-take, refl, sym, ◌∙◌, ap, arith}
 use Rattle.std.proofs.lemmas.List.{take_more, take_all}
-use Rattle.swoosh_resolver.specs.Tables.{Entry, Listed}
+use Rattle.swoosh_resolver.specs.Tables.{Listed}
 use Rattle.swoosh_resolver.specs.Looks.{StandsOn}
 use Rattle.swoosh_resolver.proofs.Finding.{AreFound, empty-from_test, found_none, found_more, found_skipped, nothing-found, nothing-on}
 use Rattle.swoosh_resolver.proofs.opened.Opened.standing_on.Goals as goal

@@ -1,5 +1,5 @@
-use Rattle.std.proofs.Common.{◌≡◌, ℕ, ◌<◌, length, get_or, sym, ap, subst}
-use Rattle.swoosh_resolver.specs.Tables.{Entry, Listed}
+use Rattle.std.proofs.Common.{◌≡◌, ℕ, ◌<◌, length, sym, ap, subst}
+use Rattle.swoosh_resolver.specs.Tables.{Listed}
 use Rattle.swoosh_resolver.proofs.opened.Opened.swap_remove.Goals as goal
 
 pub returns-clause-based : goal.returns-clause-based

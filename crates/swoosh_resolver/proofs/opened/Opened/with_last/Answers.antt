@@ -1,5 +1,4 @@
 use Rattle.std.proofs.Common.{◌≡◌, ℕ, ◌++◌, ◌∷◌, [], Some, map, length, ◌∙◌, ap, inl, inr, subst, arith}
-use Rattle.std.specs.Prelude.{Contains}
 use Rattle.std.proofs.lemmas.List.Elements.{Contains-push_cases}
 use Rattle.feature_index.specs.Postings.{Posting}
 use Rattle.swoosh_resolver.specs.Tables.{Entry, Listed, AreListed, HasOwn, IsOnBase, IsPlaced}
