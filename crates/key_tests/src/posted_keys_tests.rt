@@ -3,7 +3,7 @@ ghost use Rattle.std.specs.Prelude.{◌+◌, ◌≤◌, length};
 
 use crate::frames::record_in;
 use match_features::features::Features;
-use match_features::keys::{FeatureKey, posted_keys, sought_keys};
+use match_features::keys::{FeatureKey, posted_beside, posted_keys, sought_beside, sought_keys};
 use match_features::of_record::features_of;
 use merge_laws::join::Join;
 use std::alloc::Global;
@@ -72,6 +72,15 @@ fn kinds(keys: &[FeatureKey]) -> (usize, usize, usize) {
     let triples = keys.iter().filter(|key| is_description(key)).count();
     let many = keys.iter().filter(|key| is_title_of_many(key)).count();
     (titles, triples, many)
+}
+
+/// How many of the keys are control pairs.
+fn pairs(keys: &[FeatureKey]) -> usize {
+    keys.iter().filter(|key| is_control(key)).count()
+}
+
+fn is_control(key: &FeatureKey) -> bool {
+    matches!(key, FeatureKey::Control(_))
 }
 
 fn is_title(key: &FeatureKey) -> bool {
@@ -206,5 +215,53 @@ fn others_of_a_title_are_not_found(rt: HostRuntime) -> Result<(), Fail> {
 #[test]
 fn other_dates_of_a_title_and_name_are_not_found(rt: HostRuntime) -> Result<(), Fail> {
     assert!(rt; are_apart(rt.alloc(), (1, 1, 1), (1, 2, 1))?);
+    Ok(())
+}
+
+/// The kinds of the keys under which features of those sizes are posted beside others. None where these have what the first have not.
+fn kinds_beside(
+    alloc: Global,
+    sizes: Sizes,
+    base: Sizes,
+) -> Result<Option<(usize, usize, usize)>, Fail> {
+    let all = merged(alloc, "LIBA", sizes)?;
+    let base = merged(alloc, "LIBA", base)?;
+    match posted_beside(alloc, &all, &base)? {
+        Some(keys) => Ok(Some(kinds(keys.as_slice()))),
+        None => Ok(None),
+    }
+}
+
+#[test]
+fn keys_beside_those_of_others(rt: HostRuntime) -> Result<(), Fail> {
+    let cases: [(Sizes, Sizes, Option<(usize, usize, usize)>); 9] = [
+        ((1, 1, 1), (1, 1, 1), Some((0, 0, 0))),
+        ((2, 1, 1), (1, 1, 1), Some((1, 1, 0))),
+        ((1, 2, 1), (1, 1, 1), Some((0, 1, 0))),
+        ((1, 1, 2), (1, 1, 1), Some((0, 1, 0))),
+        ((4, 4, 4), (2, 2, 2), Some((2, 56, 0))),
+        ((65, 13, 1), (5, 13, 1), Some((60, 0, 60))),
+        // The others have a title or a date more.
+        ((1, 1, 1), (2, 1, 1), None),
+        ((65, 1, 1), (5, 13, 1), None),
+        // Few triples there and many here.
+        ((5, 13, 1), (1, 1, 1), None),
+    ];
+    for (sizes, base, want) in cases {
+        assert_eq!(rt; kinds_beside(rt.alloc(), sizes, base)?, want);
+    }
+    Ok(())
+}
+
+#[test]
+fn control_pairs_beside_those_of_others(rt: HostRuntime) -> Result<(), Fail> {
+    let base = features_with(rt.alloc(), "LIBA", (0, 0, 0))?;
+    let more = features_with(rt.alloc(), "LIBB", (0, 0, 0))?;
+    let both = Join::joined(&base, rt.alloc(), &more)?;
+    let posted = posted_beside(rt.alloc(), &both, &base)?.ok_or("no keys")?;
+    assert!(rt; pairs(posted.as_slice()) == 1 && posted.len() == 1);
+    assert_eq!(rt; pairs(sought_keys(rt.alloc(), &both)?.as_slice()), 2);
+    let sought = sought_beside(rt.alloc(), &both, &base)?;
+    assert!(rt; pairs(sought.as_slice()) == 1 && kinds(sought.as_slice()) == (0, 1, 1));
     Ok(())
 }
