@@ -1,5 +1,5 @@
--- Editions after references, and what stands under some numbers.
-use Rattle.std.proofs.Common.{◌≡◌, Bor, ℕ, ◌+◌, ◌<◌, List, [], ◌∷◌, ◌++◌, length, get_or, take, map, sym, ap, ◌∙◌, arith}
+-- Editions in order, and what stands under some numbers.
+use Rattle.std.proofs.Common.{◌≡◌, ℕ, ◌+◌, ◌<◌, List, [], ◌∷◌, ◌++◌, length, get_or, take, map, sym, ap, ◌∙◌, arith}
 use Rattle.std.specs.Prelude.{filter_map, Option}
 use Rattle.std.specs.Option.{option_map}
 use Rattle.std.specs.List.{cons_option}
@@ -12,13 +12,13 @@ use Rattle.catalogue_editions.specs.Ids.{edition_cmp}
 use Rattle.catalogue_editions.specs.declared.edition.Edition.{Edition}
 use Rattle.edition_blocks.proofs.BlockLaws.{Block}
 
--- references in order of what they refer to
-pub sorted-seen : (seen : List (Bor Edition)) → IsSortedBy (λ a b. is_lt (edition_cmp a.now b.now)) seen → IsSorted edition_cmp (map (λ e. e.now) seen)
-sorted-seen [] up k d low within = absurd (omega arith)
-sorted-seen (x ∷ rest) up k d low within =
-    let seen = x ∷ rest in
-    let below : k + 1 < length seen = omega (arith, length-map seen (λ (e : Bor Edition). e.now)) in
-    rw (get_or-map (λ (e : Bor Edition). e.now) seen (k + 1) x d below, get_or-map (λ (e : Bor Edition). e.now) seen k x d (omega arith)) (up k x low below)
+-- the editions of values that are in order of these
+pub sorted-editions : {P : Type 0} (edition : P → Edition) (all : List P) → IsSortedBy (λ a b. is_lt (edition_cmp (edition a) (edition b))) all → IsSorted edition_cmp (map edition all)
+sorted-editions edition [] up k d low within = absurd (omega arith)
+sorted-editions {P} edition (x ∷ rest) up k d low within =
+    let all : List P = x ∷ rest in
+    let below : k + 1 < length all = omega (arith, length-map all edition) in
+    rw (get_or-map edition all (k + 1) x d below, get_or-map edition all k x d (omega arith)) (up k x low below)
 
 abbrev pub value_at : List (Option Block) → ℕ → Option Edition
 value_at blocks n = option_map (λ e. e.value) (block_at blocks n)

@@ -2,14 +2,17 @@
 ghost use Rattle.std.specs.Prelude.{◌≡◌, map, filter_map, IfOk};
 ghost use Rattle.std.specs.List.Sorted.{IsPermutation, IsSorted};
 ghost use Rattle.std.specs.Option.{option_map};
+ghost use Rattle.std.specs.Coded.{Coded-set};
 ghost use Rattle.swoosh_resolver.specs.Tables.{block_at};
-ghost use Rattle.catalogue_editions.specs.Ids.{edition_cmp};
+ghost use Rattle.catalogue_editions.specs.Ids.{least, edition_cmp};
 
 use catalogue_editions::edition::Edition;
 use std::alloc::Global;
 use std::cmp::Ordering;
 use swoosh_resolver::blocks::Blocks;
+use union_base::copied::Copied;
 use union_base::memory::Memory;
+use union_base::record_id::RecordId;
 
 /// The editions under the numbers, in the order of these; a number under which there is none is passed over. Returns `Memory` if
 /// allocation fails.
@@ -30,17 +33,63 @@ pub fn under_numbers<'a>(
     Ok(found)
 }
 
+/// An edition, with a copy of its least contributor.
+#[derive(Drop)]
+struct Named<'a> {
+    id: RecordId,
+    edition: &'a Edition,
+    ghost named: { id ≡ least edition.now } by { Coded-set id-code id (least edition.now) },
+}
+
+impl<'a> Named<'a> {
+    /// The edition, with a copy of its least contributor. Returns `Memory` if allocation fails.
+    fn of(alloc: Global, edition: &'a Edition) -> Result<Named<'a>, Memory>
+        ensures { IfOk result (λ named. named.edition.now ≡ edition.now) }
+    {
+        let id = edition.least().copied(alloc)?;
+        Ok(Named { id, edition })
+    }
+}
+
+/// The editions in the same order, each with a copy of its least contributor. Returns `Memory` if allocation fails.
+fn all_named<'a>(alloc: Global, editions: &[&'a Edition]) -> Result<Vec<Named<'a>>, Memory>
+    ensures { IfOk result (λ all. map (λ n. n.edition.now) all.items
+        ≡ map (λ e. e.now) editions.now) }
+{
+    let mut all = Vec::with_capacity(alloc, editions.len())?;
+    for edition in editions {
+        all.push(Named::of(alloc, edition)?)?;
+    }
+    Ok(all)
+}
+
+/// The editions in the same order, without the copies of their least contributors. Returns `Memory` if allocation fails.
+fn editions_of<'a>(alloc: Global, all: &[Named<'a>]) -> Result<Vec<&'a Edition>, Memory>
+    ensures { IfOk result (λ editions. map (λ e. e.now) editions.items
+        ≡ map (λ n. n.edition.now) all.now) }
+{
+    let mut editions = Vec::with_capacity(alloc, all.len())?;
+    for named in all {
+        editions.push(named.edition)?;
+    }
+    Ok(editions)
+}
+
 /// The editions in order of their least contributors. Returns `Memory` if allocation fails.
-pub fn by_least(mut editions: Vec<&Edition>) -> Result<Vec<&Edition>, Memory>
+///
+/// Copies of the ids are sorted, each beside its edition, so that no comparison waits for memory on the way from an edition to
+/// its least contributor.
+pub fn by_least(alloc: Global, editions: Vec<&Edition>) -> Result<Vec<&Edition>, Memory>
     ensures same { IfOk result (λ sorted. IsPermutation (map (λ e. e.now) editions.entry.items)
         (map (λ e. e.now) sorted.items)) }
     ensures ascending { IfOk result (λ sorted. IsSorted edition_cmp
         (map (λ e. e.now) sorted.items)) }
 {
-    editions.sort_by(
-        |a: &&Edition, b: &&Edition| -> Ordering
-            ensures { result ≡ edition_cmp a.now.now b.now.now }
-        { a.least().cmp(b.least()) },
+    let mut all = all_named(alloc, editions.as_slice())?;
+    all.sort_by(
+        |a: &Named, b: &Named| -> Ordering
+            ensures { result ≡ edition_cmp a.now.edition.now b.now.edition.now }
+        { a.id.cmp(&b.id) },
     )?;
-    Ok(editions)
+    editions_of(alloc, all.as_slice())
 }

@@ -90,9 +90,9 @@ pub fn delta_of(
         delta.closed.items delta.opened.items) }
 {
     let closing = under_numbers(alloc, blocks, change.closed.as_slice())?;
-    let closing = by_least(closing)?;
+    let closing = by_least(alloc, closing)?;
     let opening = opened_editions(alloc, change.opened.as_slice())?;
-    let opening = by_least(opening)?;
+    let opening = by_least(alloc, opening)?;
     let closed = only_in(alloc, closing.as_slice(), opening.as_slice())?;
     let opened = only_in(alloc, opening.as_slice(), closing.as_slice())?;
     Ok(Delta { closed, opened })

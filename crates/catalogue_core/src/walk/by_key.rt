@@ -27,5 +27,5 @@ pub fn with_key<'a>(
         → map (λ e. e.now) found.items ≡ filter (has_key key.now) all) }
 {
     let found = under_numbers(alloc, blocks, blocks.with_key(key))?;
-    by_least(found)
+    by_least(alloc, found)
 }

@@ -19,5 +19,5 @@ pub fn in_order(alloc: Global, blocks: &Blocks<Edition>) -> Result<Vec<&Edition>
     ensures ascending { IfOk result (λ found. IsSorted edition_cmp (map (λ e. e.now) found.items)) }
 {
     let editions = blocks.values(alloc)?;
-    by_least(editions)
+    by_least(alloc, editions)
 }
