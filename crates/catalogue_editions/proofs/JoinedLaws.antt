@@ -1,10 +1,12 @@
 -- What a list of contents merges to is the merge of what its two parts do.
-use Rattle.std.proofs.Common.{◌≡◌, List, [], ◌∷◌, ◌++◌, refl, sym, ap, ap₂, ◌∙◌}
+use Rattle.std.proofs.Common.{◌≡◌, Bor, List, [], ◌∷◌, ◌++◌, refl, sym, ap, ap₂, ◌∙◌}
 use Rattle.std.specs.Prelude.{fold}
+use Rattle.std.proofs.lemmas.List.{map-append}
 use Rattle.std.proofs.lemmas.List.Sums.{fold-append}
 use Rattle.field_merge.specs.Merging.{join}
 use Rattle.field_merge.specs.MergingLaws.{join_laws}
 use Rattle.field_merge.specs.declared.content.Content.{Content}
+use Rattle.catalogue_editions.specs.Borrowed.{contents_of}
 use Rattle.catalogue_editions.specs.Joined.{joined_all}
 
 -- a content in front is merged at last
@@ -24,3 +26,9 @@ pub joined-part : {S : Type 0} (part : Content → S) (both : S → S → S) →
 joined-part part both is first [] = refl
 joined-part part both is first (c ∷ behind) =
     ap (λ s. fold (λ t d. both t (part d)) s behind) (sym (is first c)) ∙ joined-part part both is (join first c) behind
+
+-- borrowed contents of which some stand in front, then one and then the others
+pub halves-of : (behind left : List (Bor Content)) (middle : Bor Content) (rest : List (Bor Content)) {right : List (Bor Content)}
+    → behind ≡ left ++ right → right ≡ middle ∷ rest → contents_of behind ≡ contents_of left ++ middle.now ∷ contents_of rest
+halves-of behind left middle rest is split =
+    ap contents_of (is ∙ ap (λ (cs : List (Bor Content)). left ++ cs) split) ∙ map-append (λ (c : Bor Content). c.now) left (middle ∷ rest)

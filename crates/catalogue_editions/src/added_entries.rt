@@ -1,7 +1,7 @@
 //! The names of the added entries of an edition's records, read from the contents as they are.
 //!
-//! Cost: one look at each united field of each content. No field is copied, and the table of names is asked once for each added
-//! entry of each content.
+//! Cost: one look at each united field of each content, over a list of references to the contents. No field is copied, and the table
+//! of names is asked once for each added entry of each content.
 ghost use Rattle.std.specs.Prelude.{◌≡◌, [], ◌∷◌, ◌++◌, IfOk, OnOk};
 ghost use Rattle.workset_keys.specs.Names.{HasTexts};
 ghost use Rattle.workset_keys.specs.WorkKeys.{least_of};
@@ -9,6 +9,7 @@ ghost use Rattle.catalogue_editions.specs.EditionKeys.{added_names, is_added_ent
 
 use crate::contents::Contents;
 use crate::shared_content::SharedContent;
+use crate::shared_part::each_of;
 use authority_names::name_table::NameTable;
 use marc_parts::parts::has_tag;
 use std::alloc::Global;
@@ -28,7 +29,9 @@ pub(crate) fn names_used(
     ensures { IfOk result (λ used. least_of used.items
         ≡ least_of (added_names names.now contents.now.united)) }
 {
-    let (first, behind) = contents.parts();
+    let (first, parts) = contents.parts();
+    let each = each_of(alloc, parts)?;
+    let behind = each.as_slice();
     let mut used = Vec::new(alloc);
     push_names(alloc, names, first, &mut used)?;
     for other in behind {

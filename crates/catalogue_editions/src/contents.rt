@@ -1,13 +1,22 @@
 //! The contents of an edition's records, each as it is, until somebody asks what they merge to.
 //!
-//! Cost: to join two lists of contents takes the time and memory of the union of their contributors, and one more owner of each
-//! content. A content is merged by halves: each field is copied as often as the list can be halved.
-ghost use Rattle.std.specs.Prelude.{◌≡◌, ◌++◌, ◌∷◌, IfOk, OnOk, IsTrue};
+//! The contents behind the first one stand in parts with several owners, each more than twice as long as the next, so n contents stand
+//! in about log2(n) parts at most.
+//!
+//! Cost: to join two lists takes the union of their contributors, one more owner of each part of the longer list that stays, and one new
+//! part, with one more owner of each content in it. The new part has the contents of the shorter list, and the last parts of the longer
+//! one as long as they are at most twice as long as what comes behind them. So a content that goes from the longer list into the new
+//! part is then in a part one half longer at least, and one of the shorter list is in an edition twice as large at least: while an
+//! edition grows to n contents, a new owner of each content is made less than 3 log2(n) times. Most joins of a long list with a few
+//! contents make a few owners. What the contents merge to is made by halves: each field is copied as often as the list can be halved.
+ghost use Rattle.std.specs.Prelude.{◌≡◌, ◌≤◌, ◌++◌, ◌∷◌, length, IfOk, OnOk, IsTrue};
 ghost use Rattle.field_merge.specs.Merging.{join};
-ghost use Rattle.catalogue_editions.specs.Joined.{joined_all, contents_behind};
+ghost use Rattle.catalogue_editions.specs.Joined.{joined_all, all_in, parts_behind};
+ghost use Rattle.catalogue_editions.specs.Borrowed.{contents_of};
 ghost use Rattle.catalogue_editions.specs.Sound.{is_sound};
 
 use crate::shared_content::SharedContent;
+use crate::shared_part::{SharedPart, content_count, each_of};
 use field_merge::content::Content;
 use merge_laws::join::Join;
 use std::alloc::Global;
@@ -16,10 +25,10 @@ use union_base::memory::Memory;
 use union_base::record_id::RecordId;
 use union_base::sorted_list::SortedList;
 
-/// The contents behind the first one, and the contributors of them all.
+/// The contents behind the first one, in parts, and the contributors of them all.
 #[derive(Debug)]
 pub(crate) struct Behind {
-    contents: Vec<SharedContent>,
+    parts: Vec<SharedPart>,
     contributors: SortedList<RecordId>,
 }
 
@@ -27,7 +36,7 @@ pub(crate) struct Behind {
 impl Drop for Behind {
     fn drop(self) {
         let Behind {
-            contents: _,
+            parts: _,
             contributors: _,
         } = self;
     }
@@ -51,14 +60,14 @@ impl Drop for Contents {
 impl Model for Contents {
     ghost use Rattle.std.specs.Prelude.{◌≡◌};
     ghost use Rattle.field_merge.specs.declared.content.Content.{Content};
-    ghost use Rattle.catalogue_editions.specs.Joined.{joined_all, contents_behind, kept_contributors};
+    ghost use Rattle.catalogue_editions.specs.Joined.{joined_all, all_in, parts_behind, kept_contributors};
 
     ghost Value = { Content };
 
-    ghost view = { λ c. joined_all c.first (contents_behind c.more) };
+    ghost view = { λ c. joined_all c.first (all_in (parts_behind c.more)) };
 
     ghost invariant = { λ c. kept_contributors c.first c.more
-        ≡ (joined_all c.first (contents_behind c.more)).contributors };
+        ≡ (joined_all c.first (all_in (parts_behind c.more))).contributors };
 }
 
 impl Contents {
@@ -83,32 +92,44 @@ impl Contents {
         }
     }
 
-    /// The first content and those behind it, as they are. Takes no memory.
-    pub fn parts(&self) -> (&SharedContent, &[SharedContent])
-        ensures { joined_all result.0.now result.1.now ≡ self.now }
+    /// The first content and the parts behind it, as they are. Takes no memory.
+    pub fn parts(&self) -> (&SharedContent, &[SharedPart])
+        ensures { joined_all result.0.now (all_in result.1.now) ≡ self.now }
     {
-        (&self.first, contents_behind(&self.more))
+        (&self.first, parts_behind(&self.more))
     }
 
     /// What the contents merge to. Takes no memory where there is one, and returns `Memory` if allocation fails.
     pub fn content(&self, alloc: Global) -> Result<SharedContent, Memory>
         ensures { IfOk result (λ content. content ≡ self.now) }
     {
-        merged_by_halves(alloc, &self.first, contents_behind(&self.more))
+        let behind = each_of(alloc, parts_behind(&self.more))?;
+        merged_by_halves(alloc, &self.first, behind.as_slice())
     }
 
     /// The contents of both. Returns `Memory` if allocation fails.
     pub fn joined(&self, alloc: Global, other: &Contents) -> Result<Contents, Memory>
         ensures { IfOk result (λ contents. contents ≡ join self.now other.now) }
     {
+        if content_count(parts_behind(&self.more)) < content_count(parts_behind(&other.more)) {
+            other.with_fewer(alloc, self)
+        } else {
+            self.with_fewer(alloc, other)
+        }
+    }
+
+    /// The contents of both, of which the other has no more. Returns `Memory` if allocation fails.
+    fn with_fewer(&self, alloc: Global, other: &Contents) -> Result<Contents, Memory>
+        ensures { IfOk result (λ contents. contents ≡ join self.now other.now) }
+    {
         let contributors = self.contributors().union(alloc, other.contributors())?;
-        let left = contents_behind(&self.more);
-        let right = contents_behind(&other.more);
-        let contents = in_one_list(alloc, left, &other.first, right)?;
+        let left = parts_behind(&self.more);
+        let right = parts_behind(&other.more);
+        let parts = in_falling_parts(alloc, left, &other.first, right)?;
         let more = Box::new(
             alloc,
             Behind {
-                contents,
+                parts,
                 contributors,
             },
         )?;
@@ -119,12 +140,12 @@ impl Contents {
     }
 }
 
-/// The contents behind the first one, or none.
-fn contents_behind(more: &Option<Box<Behind>>) -> &[SharedContent]
-    ensures { result.now ≡ contents_behind more.now }
+/// The parts behind the first content, or none.
+fn parts_behind(more: &Option<Box<Behind>>) -> &[SharedPart]
+    ensures { result.now ≡ parts_behind more.now }
 {
     match more {
-        Some(more) => more.contents.as_slice(),
+        Some(more) => more.parts.as_slice(),
         None => &[],
     }
 }
@@ -134,9 +155,9 @@ fn contents_behind(more: &Option<Box<Behind>>) -> &[SharedContent]
 fn merged_by_halves(
     alloc: Global,
     first: &SharedContent,
-    behind: &[SharedContent],
+    behind: &[&SharedContent],
 ) -> Result<SharedContent, Memory>
-    ensures { IfOk result (λ merge. merge ≡ joined_all first.now behind.now) }
+    ensures { IfOk result (λ merge. merge ≡ joined_all first.now (contents_of behind.now)) }
 {
     let (left, right) = behind.split_at(behind.len() / 2);
     match right.split_first() {
@@ -149,29 +170,49 @@ fn merged_by_halves(
     }
 }
 
-/// One more owner of each content, in this order, in room that is made once. Returns `Memory` if allocation fails.
-fn in_one_list(
+/// The left parts up to the last one that is more than twice as long as all that come behind it, and one part of all other contents,
+/// in this order. Returns `Memory` if allocation fails.
+fn in_falling_parts(
     alloc: Global,
-    left: &[SharedContent],
+    left: &[SharedPart],
     middle: &SharedContent,
-    right: &[SharedContent],
-) -> Result<Vec<SharedContent>, Memory>
-    ensures { IfOk result (λ all. all.items ≡ left.now ++ middle.now ∷ right.now) }
+    right: &[SharedPart],
+) -> Result<Vec<SharedPart>, Memory>
+    ensures { IfOk result (λ parts. all_in parts.items
+        ≡ all_in left.now ++ middle.now ∷ all_in right.now) }
 {
-    let room = left.len().saturating_add(right.len()).saturating_add(1);
-    let mut all = Vec::with_capacity(alloc, room)?;
-    push_shared(&mut all, left)?;
-    all.push(middle.shared()?)?;
-    push_shared(&mut all, right)?;
-    Ok(all)
+    let behind = content_count(right).saturating_add(1);
+    let (kept, last) = left.split_at(kept_count(left, behind));
+    let mut parts = Vec::with_capacity(alloc, kept.len().saturating_add(1))?;
+    push_shared(&mut parts, kept)?;
+    parts.push(SharedPart::of(alloc, last, middle, right)?)?;
+    Ok(parts)
 }
 
-/// Pushes one more owner of each content. Returns `Memory` if allocation fails.
-fn push_shared(all: &mut Vec<SharedContent>, contents: &[SharedContent]) -> Result<(), Memory>
-    ensures { OnOk result (all.new.items ≡ all.old.items ++ contents.now) }
+/// How many of the parts stay as they are where so many contents come behind them: all, where the last part is more than twice as
+/// long as what comes behind it. Else the last part is put together with that.
+fn kept_count(parts: &[SharedPart], behind: usize) -> usize
+    ensures { result ≤ length parts.now }
 {
-    for content in contents {
-        all.push(content.shared()?)?;
+    match parts.split_last() {
+        Some((last, front)) => {
+            let count = last.contents().len();
+            if count > behind.saturating_mul(2) {
+                parts.len()
+            } else {
+                kept_count(front, behind.saturating_add(count))
+            }
+        }
+        None => 0,
+    }
+}
+
+/// Pushes one more owner of each part. Returns `Memory` if allocation fails.
+fn push_shared(all: &mut Vec<SharedPart>, parts: &[SharedPart]) -> Result<(), Memory>
+    ensures { OnOk result (all.new.items ≡ all.old.items ++ parts.now) }
+{
+    for part in parts {
+        all.push(part.shared()?)?;
     }
     Ok(())
 }

@@ -31,6 +31,7 @@ pub mod outcome;
 pub mod prepared;
 pub mod records;
 pub mod shared_content;
+mod shared_part;
 pub mod shown;
 mod slots;
 mod united;

@@ -1,12 +1,13 @@
 //! What the records of an edition say together, borrowed from where it lies.
 //!
 //! Cost: the fixed part and the slots are chosen by one walk over the contents, and the united fields are merged, as references, for
-//! whoever asks for them. Nothing is copied.
+//! whoever asks for them, over a list of references to the contents. Nothing is copied.
 ghost use Rattle.std.specs.Prelude.{◌≡◌, ◌++◌, OnOk, IsTrue};
 ghost use Rattle.catalogue_editions.specs.Borrowed.{fields_of};
 ghost use Rattle.catalogue_editions.specs.Sound.{is_sound};
 
 use crate::contents::Contents;
+use crate::shared_part::each_of;
 use crate::slots::Slots;
 use crate::united::push_united;
 use field_merge::fixed::Fixed;
@@ -43,10 +44,10 @@ impl<'a> Shown<'a> {
         requires { IsTrue (is_sound contents.now) }
         ensures { result ≡ contents.now }
     {
-        let (first, behind) = contents.parts();
+        let (first, parts) = contents.parts();
         Shown {
             contents,
-            slots: Slots::of_all(first, behind),
+            slots: Slots::of_all(first, parts),
         }
     }
 
@@ -108,7 +109,8 @@ impl<'a> Shown<'a> {
         ensures { OnOk result (fields_of into.new.items
             ≡ fields_of into.old.items ++ self.now.united) }
     {
-        let (first, behind) = self.contents.parts();
-        push_united(alloc, first, behind, into)
+        let (first, parts) = self.contents.parts();
+        let behind = each_of(alloc, parts)?;
+        push_united(alloc, first, behind.as_slice(), into)
     }
 }

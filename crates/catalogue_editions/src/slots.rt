@@ -3,10 +3,11 @@
 //! Cost: one walk over the contents, which compares the ranks of each slot. It takes no memory.
 ghost use Rattle.field_merge.specs.Merging.{join};
 ghost use Rattle.field_merge.specs.declared.content.Content.{Content as ContentModel};
-ghost use Rattle.catalogue_editions.specs.Joined.{joined_all};
+ghost use Rattle.catalogue_editions.specs.Joined.{joined_all, all_in};
 ghost use Rattle.catalogue_editions.specs.Slots.{AreSlotsOf};
 
 use crate::shared_content::SharedContent;
+use crate::shared_part::SharedPart;
 use field_merge::content::Content;
 use field_merge::fixed::Fixed;
 use field_merge::merging::greater;
@@ -25,13 +26,13 @@ pub(crate) struct Slots<'a> {
 }
 
 impl<'a> Slots<'a> {
-    /// Those that the first content and the contents behind it merge to.
-    pub(crate) fn of_all(first: &'a SharedContent, behind: &'a [SharedContent]) -> Slots<'a>
-        ensures { AreSlotsOf result (joined_all first.now behind.now) }
+    /// Those that the first content and the contents of the parts behind it merge to.
+    pub(crate) fn of_all(first: &'a SharedContent, parts: &'a [SharedPart]) -> Slots<'a>
+        ensures { AreSlotsOf result (joined_all first.now (all_in parts.now)) }
     {
         let mut slots = Slots::of(first.content());
-        for shared in behind {
-            slots = slots.joined(shared.content());
+        for part in parts {
+            slots = slots.joined_all(part.contents());
         }
         slots
     }
@@ -49,6 +50,18 @@ impl<'a> Slots<'a> {
             f240: &content.f240,
             f245: &content.f245,
         }
+    }
+
+    /// The greatest ones of these and those of the contents.
+    fn joined_all(self, contents: &'a [SharedContent]) -> Slots<'a>
+        ensures { (c : ContentModel) → AreSlotsOf self.entry c
+            → AreSlotsOf result (joined_all c contents.now) }
+    {
+        let mut slots = self;
+        for shared in contents {
+            slots = slots.joined(shared.content());
+        }
+        slots
     }
 
     /// The greater ones of these and those of a content.

@@ -6,7 +6,7 @@ ghost use Rattle.std.specs.Prelude.{◌≡◌, ◌++◌, OnOk, IsTrue};
 ghost use Rattle.union_base.specs.FieldOrder.{field_cmp};
 ghost use Rattle.union_base.specs.SortedLists.{is_ascending, union};
 ghost use Rattle.catalogue_editions.specs.Joined.{joined_all};
-ghost use Rattle.catalogue_editions.specs.Borrowed.{fields_of};
+ghost use Rattle.catalogue_editions.specs.Borrowed.{fields_of, contents_of};
 
 use crate::shared_content::SharedContent;
 use std::alloc::Global;
@@ -19,11 +19,11 @@ use union_base::memory::Memory;
 pub(crate) fn push_united<'a>(
     alloc: Global,
     first: &'a SharedContent,
-    behind: &'a [SharedContent],
+    behind: &[&'a SharedContent],
     into: &mut Vec<&'a Field>,
 ) -> Result<(), Memory>
     ensures { OnOk result (fields_of into.new.items
-        ≡ fields_of into.old.items ++ (joined_all first.now behind.now).united) }
+        ≡ fields_of into.old.items ++ (joined_all first.now (contents_of behind.now)).united) }
 {
     let (left, right) = behind.split_at(behind.len() / 2);
     match right.split_first() {

@@ -1,4 +1,4 @@
-use Rattle.std.proofs.Common.{◌≡◌, take}
+use Rattle.std.proofs.Common.{◌≡◌, Bor, take}
 use Rattle.std.specs.Prelude.{fold}
 use Rattle.field_merge.specs.declared.content.Content.{Content}
 use Rattle.workset_keys.specs.WorkKeys.{lesser, least_of}
@@ -9,4 +9,4 @@ use Rattle.catalogue_editions.proofs.added_entries.names_used.Given as goal
 abbrev pub invariant-loop-other : goal.invariant-loop-other
 invariant-loop-other l =
     least_of l.used.items
-    ≡ fold (λ least (c : Content). lesser least (least_of (added_names l.names c.united))) (least_of l.initial.used.items) (take l.other-index l.behind)
+    ≡ fold (λ least (c : Bor Content). lesser least (least_of (added_names l.names c.now.united))) (least_of l.initial.used.items) (take l.other-index l.behind)

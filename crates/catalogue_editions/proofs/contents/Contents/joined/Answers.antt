@@ -1,26 +1,8 @@
-use Rattle.std.proofs.Common.{◌∙◌, ◌++◌, ◌∷◌, List, ap, ap₂, sym}
-use Rattle.union_base.specs.SortedLists.{union}
-use Rattle.field_merge.specs.Kept.{id_cmp}
-use Rattle.field_merge.specs.declared.content.Content.{Content}
-use Rattle.catalogue_editions.specs.Joined.{contents_behind}
-use Rattle.catalogue_editions.specs.declared.contents.Behind.{Behind}
-use Rattle.catalogue_editions.proofs.JoinedLaws.{joined-both}
+use Rattle.std.proofs.Common.{◌∙◌}
+use Rattle.std.proofs.lemmas.Result.{IfOk-weaker}
+use Rattle.field_merge.specs.MergingLaws.{join_laws}
 use Rattle.catalogue_editions.proofs.contents.Contents.joined.Goals as goal
 
-pub invariant_of-result : goal.invariant_of-result
-invariant_of-result c =
-    let middle = c.other.inside.first in
-    let items = ap (λ (b : Behind). b.contents.items) c.in_ok-more.ensures.ok ∙ c.in_ok-contents.ensures
-    ∙ ap₂ (λ (xs ys : List Content). xs ++ middle ∷ ys) c.contents_behind-left.ensures c.contents_behind-right.ensures in
-    let merge = joined-both c.in_ok-shared.field-0 c.self.inside.first (contents_behind c.self.inside.more) middle (contents_behind c.other.inside.more)
-    c.in_ok-more.more.value.contents.items c.args.self.now c.args.other.now c.in_ok-shared.ensures items c.self.view_is c.other.view_is in
-    ap (λ (b : Behind). b.contributors) c.in_ok-more.ensures.ok ∙ c.in_ok-contributors.ensures
-    ∙ ap₂ (union id_cmp) c.contributors.ensures c.contributors-2.ensures ∙ sym (ap (λ (x : Content). x.contributors) merge)
-
-pub returns : goal.returns
-returns c =
-    let middle = c.other.inside.first in
-    let items = ap (λ (b : Behind). b.contents.items) c.in_ok-more.ensures.ok ∙ c.in_ok-contents.ensures
-    ∙ ap₂ (λ (xs ys : List Content). xs ++ middle ∷ ys) c.contents_behind-left.ensures c.contents_behind-right.ensures in
-    joined-both c.in_ok-shared.field-0 c.self.inside.first (contents_behind c.self.inside.more) middle (contents_behind c.other.inside.more)
-    c.in_ok-more.more.value.contents.items c.args.self.now c.args.other.now c.in_ok-shared.ensures items c.self.view_is c.other.view_is
+pub returns-then-content_count : goal.returns-then-content_count
+returns-then-content_count c =
+    IfOk-weaker c.with_fewer.result _ _ (λ _ made. made ∙ join_laws.commutative c.args.other.now c.args.self.now) c.with_fewer.ensures

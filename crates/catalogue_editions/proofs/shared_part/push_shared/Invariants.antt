@@ -1,0 +1,7 @@
+use Rattle.std.proofs.Common.{◌≡◌, ◌++◌, take}
+use Rattle.catalogue_editions.specs.Joined.{all_in}
+use Rattle.catalogue_editions.proofs.shared_part.push_shared.Given as goal
+
+-- the owners so far follow what was there
+abbrev pub invariant-loop-part : goal.invariant-loop-part
+invariant-loop-part l = l.all.items ≡ l.initial.all.items ++ all_in (take l.part-index l.parts)
