@@ -1,9 +1,9 @@
--- The places of the binary digits 1 of a number, collected one after another.
-use Rattle.std.proofs.Common.{◌≡◌, ℕ, ◌+◌, ◌<◌, ◌^◌, ◌≢◌, List, [], ◌∷◌, ◌++◌, inl, inr, arith}
+-- The places of the binary digits 1 of a number, collected one after another, and those of one number beside another's.
+use Rattle.std.proofs.Common.{◌≡◌, ℕ, ◌+◌, ◌%◌, ◌<◌, ◌^◌, ◌≢◌, List, [], ◌∷◌, ◌++◌, bit_and, bit_xor, min, sym, ◌∙◌, ap, inl, inr, arith}
 use Rattle.std.specs.Prelude.{◌↔◌, Contains, AllPairs}
 use Rattle.std.specs.Int.{bit_at}
 use Rattle.std.proofs.Math.Decide.{dec_lt}
-use Rattle.std.proofs.lemmas.Nat.Bits.{bit_at_above}
+use Rattle.std.proofs.lemmas.Nat.Bits.{bit_at-lt, bit_at_above, bit_at_and, bit_at_xor}
 use Rattle.std.proofs.lemmas.List.Elements.{Contains-append_left, Contains-push, Contains-push_cases}
 use Rattle.merge_laws.proofs.Places.{Contains-cases, AllPairs-none, AllPairs-one, AllPairs-append}
 
@@ -60,3 +60,21 @@ places_all n limit places h small k = (
     | no past ↦ (let none : bit_at n k ≡ 0 = bit_at_above n limit k small (omega arith) in absurd (omega arith))
   ],
 )
+
+-- a number that another is not changed by has all digits 1 of this one
+pub digits_kept : (m n : ℕ) → bit_and m n ≡ n → (k : ℕ) → bit_at n k ≡ 1 → bit_at m k ≡ 1
+digits_kept m n same k e =
+    let both : min (bit_at m k) (bit_at n k) ≡ 1 = sym (bit_at_and m n k) ∙ rw same e in
+    let p = bit_at-lt m k in
+    omega arith
+
+-- the digits 1 of a number but those that another has
+pub digits_beside : (m n k : ℕ) → bit_at (bit_xor m (bit_and m n)) k ≡ 1 ↔ ((bit_at m k ≡ 1) × (bit_at n k ≡ 1 → ⊥))
+digits_beside m n k =
+    let p = bit_at-lt m k in
+    let q = bit_at-lt n k in
+    let digit : bit_at (bit_xor m (bit_and m n)) k ≡ (bit_at m k + min (bit_at m k) (bit_at n k)) % 2 =
+    bit_at_xor m (bit_and m n) k ∙ ap (λ x. (bit_at m k + x) % 2) (bit_at_and m n k) in (
+      λ e. (let odd : (bit_at m k + min (bit_at m k) (bit_at n k)) % 2 ≡ 1 = sym digit ∙ e in (omega arith, λ h. omega arith)),
+      λ (one, none). digit ∙ elim (dec_lt 0 (bit_at n k)) [ yes h ↦ absurd (none (omega arith)) | no h ↦ omega arith ],
+    )

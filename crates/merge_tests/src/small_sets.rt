@@ -3,7 +3,8 @@
 //!
 //! Guarantee: the laws of both traits, by specs/SmallSets.antt. Cost: a set is one word, and no call takes memory but
 //! those that make keys. An index has a set under each of its numbers, which are also what it seeks.
-ghost use Rattle.std.specs.Prelude.{◌≡◌, ◌≢◌, ◌+◌, ◌-◌, ◌<◌, ◌↔◌, ℕ, AllPairs, Contains, IfOk, IfSome, IsNone};
+ghost use Rattle.std.specs.Prelude.{◌≡◌, ◌≢◌, ◌+◌, ◌-◌, ◌<◌, ◌↔◌, ℕ, true, AllPairs, Contains, IfOk, IfSome, IsNone};
+ghost use Rattle.std.specs.Int.{bit_at};
 ghost use Rattle.merge_tests.specs.SmallSets.{HasNumber, AreNumbers, union, meet, union_laws, meet_laws, number_laws, seeking_laws, numbers_exact};
 
 use merge_laws::join::Join;
@@ -31,6 +32,21 @@ impl Model for SmallSet {
     ghost invariant = { λ s. 0 < s.mask };
 }
 
+/// The places of the mask's binary digits 1, in ascending order. Returns `Memory` if allocation fails.
+fn digits_of(alloc: Global, mask: u64) -> Result<Vec<u32>, Memory>
+    ensures places { IfOk result (λ places. (k : ℕ) → Contains places.items k
+        ↔ (bit_at mask k ≡ 1)) }
+    ensures once { IfOk result (λ places. AllPairs (λ j k. j ≢ k) places.items) }
+{
+    let mut keys = Vec::new(alloc);
+    for k in 0..64 {
+        if mask >> k & 1 == 1 {
+            keys.push(k)?;
+        }
+    }
+    Ok(keys)
+}
+
 impl SmallSet {
     /// The set of the places of the mask's binary digits 1. None exactly where it has none. Takes no memory.
     pub fn of(mask: u64) -> Option<SmallSet>
@@ -49,6 +65,24 @@ impl SmallSet {
         ensures { result ≡ self.now + 1 }
     {
         self.mask
+    }
+
+    /// Whether the set has all numbers of the other. Takes no memory.
+    fn has_all(&self, other: &SmallSet) -> bool
+        ensures { result ≡ true → (k : ℕ) → HasNumber other.now k → HasNumber self.now k }
+    {
+        let whole = other.mask();
+        self.mask() & whole == whole
+    }
+
+    /// The numbers that the set has and the other has not, in ascending order. Returns `Memory` if allocation fails.
+    fn numbers_beside(&self, alloc: Global, other: &SmallSet) -> Result<Vec<u32>, Memory>
+        ensures numbers { IfOk result (λ keys. (k : ℕ) → Contains keys.items k
+            ↔ (HasNumber self.now k × (HasNumber other.now k → ⊥))) }
+        ensures once { IfOk result (λ keys. AllPairs (λ j k. j ≢ k) keys.items) }
+    {
+        let own = self.mask();
+        digits_of(alloc, own ^ (own & other.mask()))
     }
 }
 
@@ -89,14 +123,7 @@ impl Resolvable for SmallSet {
     }
 
     fn index_keys(&self, alloc: Global) -> Result<Vec<u32>, Memory> {
-        let mask = self.mask;
-        let mut keys = Vec::new(alloc);
-        for k in 0..64 {
-            if mask >> k & 1 == 1 {
-                keys.push(k)?;
-            }
-        }
-        Ok(keys)
+        digits_of(alloc, self.mask())
     }
 
     fn posted_keys(&self, alloc: Global) -> Result<Vec<u32>, Memory> {
@@ -109,18 +136,24 @@ impl Resolvable for SmallSet {
 
     fn posted_of_sought(&self, _alloc: Global, keys: Vec<u32>) -> Result<Vec<u32>, Memory>
         requires { AreNumbers self.now keys.items }
-        ensures keys { IfOk result (λ keys. (k : ℕ) → Contains keys.items k ↔ HasNumber self.now k) }
+        ensures keys { IfOk result (λ keys. (k : ℕ) → Contains keys.items k
+            ↔ HasNumber self.now k) }
         ensures once { IfOk result (λ keys. AllPairs (λ j k. j ≢ k) keys.items) }
     {
         Ok(keys)
     }
 
-    fn posted_beside(&self, _alloc: Global, _base: &SmallSet) -> Result<Option<Vec<u32>>, Memory> {
-        Ok(None)
+    fn posted_beside(&self, alloc: Global, base: &SmallSet) -> Result<Option<Vec<u32>>, Memory> {
+        if self.has_all(base) {
+            let keys = self.numbers_beside(alloc, base)?;
+            Ok(Some(keys))
+        } else {
+            Ok(None)
+        }
     }
 
-    fn sought_beside(&self, alloc: Global, _base: &SmallSet) -> Result<Vec<u32>, Memory> {
-        self.sought_keys(alloc)
+    fn sought_beside(&self, alloc: Global, base: &SmallSet) -> Result<Vec<u32>, Memory> {
+        self.numbers_beside(alloc, base)
     }
 
     ghost match_laws = { meet_laws };

@@ -122,7 +122,8 @@ fn inserts_in_every_order(rt: HostRuntime) -> Result<(), Fail> {
 
 #[test]
 fn splits_and_inserts_more(rt: HostRuntime) -> Result<(), Fail> {
-    // {1, 2} went, which held {1} and {2} together, and then sets come that have a number of one part, of each, or of none.
+    // {1} grows to {1, 2} under 0, which goes: it held {1} and {2} together. Then sets come that have a number of one part, of each,
+    // or of none.
     let cases: [(&[u64], &[u64]); 5] = [
         (&[], &[2, 4]),
         (&[8], &[2, 4, 8]),
@@ -132,7 +133,7 @@ fn splits_and_inserts_more(rt: HostRuntime) -> Result<(), Fail> {
     ];
     for (more, want) in cases {
         assert_eq!(rt;
-            changed(rt.alloc(), &[2, 4, 6], &[2, 4], more)?.as_slice(),
+            changed(rt.alloc(), &[2, 6, 4], &[2, 4], more)?.as_slice(),
             want
         );
     }
@@ -181,6 +182,154 @@ fn together(alloc: Global) -> Result<Option<(u64, u64, u64)>, Fail> {
 #[test]
 fn inserts_together(rt: HostRuntime) -> Result<(), Fail> {
     assert_eq!(rt; together(rt.alloc())?, Some((0, 6, 6)));
+    Ok(())
+}
+
+/// The masks of the blocks under the first numbers, in the order of these: 0 where no block stands.
+fn masks_by_number(alloc: Global, blocks: &Blocks<SmallSet>) -> Result<Vec<u64>, Memory> {
+    let mut masks = Vec::new(alloc);
+    for number in 0..3 {
+        match blocks.block(number) {
+            Some(set) => masks.push(set.mask())?,
+            None => masks.push(0)?,
+        }
+    }
+    Ok(masks)
+}
+
+/// The numbers of the blocks that are found by each of the keys, one key after the other.
+fn found_by(alloc: Global, blocks: &Blocks<SmallSet>, keys: &[u32]) -> Result<Vec<u64>, Memory> {
+    let mut found = Vec::new(alloc);
+    for key in keys {
+        found.extend_from_slice(blocks.with_key(key))?;
+    }
+    Ok(found)
+}
+
+/// Inserts the sets of the masks by one change.
+fn insert_together<L: Ledger>(
+    alloc: Global,
+    blocks: &mut Blocks<SmallSet>,
+    masks: &[u64],
+    steps: &mut Steps<L>,
+) -> Result<(), Memory> {
+    let mut change = blocks.start();
+    for set in sets_of(alloc, masks)? {
+        change = blocks.plan_insert(alloc, change, set, steps)?;
+    }
+    let ready = blocks.make_room(alloc, change)?;
+    blocks.install(ready);
+    Ok(())
+}
+
+/// The masks under the first numbers, once sets are inserted, each by a change of its own, and then more by one change; and the
+/// numbers that are found by the keys.
+fn grown_by<L: Ledger>(
+    alloc: Global,
+    masks: &[u64],
+    together: &[u64],
+    keys: &[u32],
+    blank: Blank,
+) -> Result<(Vec<u64>, Vec<u64>), Memory>
+    requires name { blank.name ≡ L.name }
+    requires parts { blank.parts ≡ L.parts }
+    requires some { 0 < L.parts }
+{
+    let mut steps: Steps<L> = Steps::open(blank);
+    let mut blocks = Blocks::empty(alloc, Hashing::fixed());
+    insert(alloc, &mut blocks, masks, &mut steps)?;
+    insert_together(alloc, &mut blocks, together, &mut steps)?;
+    let stand = masks_by_number(alloc, &blocks)?;
+    let found = found_by(alloc, &blocks, keys)?;
+    Ok((stand, found))
+}
+
+/// The same, in a ledger of their own.
+fn grown(
+    alloc: Global,
+    masks: &[u64],
+    together: &[u64],
+    keys: &[u32],
+) -> Result<(Vec<u64>, Vec<u64>), Memory> {
+    grown_by::<Brand>(alloc, masks, together, keys, Blank::new(1))
+}
+
+#[test]
+fn block_grows_under_its_number(rt: HostRuntime) -> Result<(), Fail> {
+    // A case has the sets that come, what stands under 0, 1 and 2 then, and the numbers that are found by keys. {5} and {1, 2} come
+    // first. Then {2, 3} and {3, 4} grow the block under 1, and {6, 7} comes between them. The block is found by its oldest number, 1,
+    // and by its newest.
+    let cases: [(&[u64], &[u64], &[u32], &[u64]); 5] = [
+        (&[32, 6], &[32, 6, 0], &[1, 2, 3], &[1, 1]),
+        (&[32, 6, 12], &[32, 14, 0], &[1, 3, 4], &[1, 1]),
+        (&[32, 6, 12, 192], &[32, 14, 192], &[1, 3, 6], &[1, 1, 2]),
+        (
+            &[32, 6, 12, 192, 24],
+            &[32, 30, 192],
+            &[1, 2, 3, 4],
+            &[1, 1, 1, 1],
+        ),
+        // What it has already adds nothing to it.
+        (
+            &[32, 6, 12, 192, 24, 10],
+            &[32, 30, 192],
+            &[1, 3, 4, 5],
+            &[1, 1, 1, 0],
+        ),
+    ];
+    for (masks, want, keys, numbers) in cases {
+        let (stand, found) = grown(rt.alloc(), masks, &[], keys)?;
+        assert_eq!(rt; stand.as_slice(), want);
+        assert_eq!(rt; found.as_slice(), numbers);
+    }
+    Ok(())
+}
+
+#[test]
+fn larger_block_keeps_its_number(rt: HostRuntime) -> Result<(), Fail> {
+    // {1} and {2, 3, 4} stand under 0 and 1, or the other way round, and {1, 2} joins them: {2, 3, 4} keeps its number.
+    let cases: [(&[u64], &[u64], &[u64], &[u32], &[u64]); 7] = [
+        (&[2, 28, 6], &[], &[0, 30, 0], &[1, 4], &[1, 1]),
+        (&[28, 2, 6], &[], &[30, 0, 0], &[1, 4], &[0, 0]),
+        // A later change does not give the number again that went to nobody.
+        (&[2, 28, 6, 32], &[], &[0, 30, 32], &[1, 4, 5], &[1, 1, 2]),
+        // The change that takes the number from its block gives it to {5}.
+        (&[2, 28], &[6, 32], &[32, 30, 0], &[1, 4, 5], &[1, 1, 0]),
+        (&[28, 2], &[32, 6], &[30, 32, 0], &[1, 4, 5], &[0, 0, 1]),
+        // {1, 5} finds what {1, 2} has joined by the number of the block that went.
+        (&[2, 28], &[6, 34], &[0, 62, 0], &[1, 4, 5], &[1, 1, 1]),
+        // {1, 5} and {4, 6} grow both blocks, and then {5, 6} joins what they have grown to.
+        (
+            &[2, 28],
+            &[34, 80, 96],
+            &[0, 126, 0],
+            &[1, 4, 5, 6],
+            &[1, 1, 1, 1],
+        ),
+    ];
+    for (masks, together, want, keys, numbers) in cases {
+        let (stand, found) = grown(rt.alloc(), masks, together, keys)?;
+        assert_eq!(rt; stand.as_slice(), want);
+        assert_eq!(rt; found.as_slice(), numbers);
+    }
+    Ok(())
+}
+
+#[test]
+fn block_grows_twice_in_a_change(rt: HostRuntime) -> Result<(), Fail> {
+    // {1, 2} stands under 1, and {2, 3} grows it. Then a set finds what it has grown to by a number of the block, by one that the
+    // change adds, by both, or does not find it.
+    let cases: [(&[u64], &[u64], &[u32], &[u64]); 4] = [
+        (&[12, 18], &[32, 30, 0], &[1, 3, 4], &[1, 1, 1]),
+        (&[12, 24], &[32, 30, 0], &[1, 3, 4], &[1, 1, 1]),
+        (&[12, 26], &[32, 30, 0], &[1, 3, 4], &[1, 1, 1]),
+        (&[12, 16], &[32, 14, 16], &[1, 3, 4], &[1, 1, 2]),
+    ];
+    for (together, want, keys, numbers) in cases {
+        let (stand, found) = grown(rt.alloc(), &[32, 6], together, keys)?;
+        assert_eq!(rt; stand.as_slice(), want);
+        assert_eq!(rt; found.as_slice(), numbers);
+    }
     Ok(())
 }
 
