@@ -10,17 +10,15 @@ ghost use Rattle.load_sessions.specs.Tallies.{found};
 ghost use Rattle.load_sessions.specs.Turning.{stop_beside};
 
 use crate::crew::Crew;
-use crate::due::{Due, turn_due};
+use crate::due::{Due, Turning, turn_due};
 use crate::reading::read_prepared;
 use crate::served::Served;
 use crate::session::Session;
 use catalogue_core::outcome::Outcome;
 use catalogue_core::prepared::Prepared;
-use catalogue_lock::desk::Desk;
 use catalogue_lock::pass::Pass;
 use library_batches::batch_reader::BatchReader;
 use library_batches::stop::Stop;
-use std::alloc::Global;
 use std::sync::Wait;
 use std::thread::{Threads, join_mut};
 use union_base::memory::Memory;
@@ -29,16 +27,13 @@ use union_io::source::Source;
 
 /// Makes the turn in hand, as `turn_due` does, and leaves nothing in hand.
 fn turn_in_hand<R: Wait, G: Gate>(
-    rt: &R,
-    alloc: Global,
-    desk: &Desk<Served>,
-    gate: &G,
+    turning: &Turning<'_, R, G>,
     pass: &mut Pass<Served>,
     hand: &mut Option<Due>,
 ) -> Result<Vec<Outcome>, Memory>
-    requires desk { IsPassOf pass.old desk.now }
+    requires desk { IsPassOf pass.old turning.now.desk.now }
     requires there { IsSome hand.old }
-    ensures desk { IsPassOf pass.new desk.now }
+    ensures desk { IsPassOf pass.new turning.now.desk.now }
     ensures same { IsSamePass pass.old pass.new }
     ensures own { OnOk result (IfSome hand.old
         (λ due. (view pass.new).own ≡ (view pass.old).own ++ due.prepared ∷ [])) }
@@ -47,16 +42,13 @@ fn turn_in_hand<R: Wait, G: Gate>(
     ensures few { IfOk result (λ outcomes. length outcomes.items ≤ block_size) }
     ensures memory { OnErr result ((view pass.new).own ≡ (view pass.old).own) }
 {
-    turn_due(rt, alloc, desk, gate, pass, hand.take().unwrap())
+    turn_due(turning, pass, hand.take().unwrap())
 }
 
 /// Makes a turn, while these readers read and prepare the next batch in another thread, where one can be made. Answers what came of
 /// the turn, and what was read.
 fn turn_beside<R: Threads + Wait + Sync, S: Source + Send, G: Gate>(
-    rt: &R,
-    alloc: Global,
-    desk: &Desk<Served>,
-    gate: &G,
+    turning: &Turning<'_, R, G>,
     pass: &mut Pass<Served>,
     due: Due,
     reader: &mut BatchReader,
@@ -65,8 +57,8 @@ fn turn_beside<R: Threads + Wait + Sync, S: Source + Send, G: Gate>(
 ) -> (Result<Vec<Outcome>, Memory>, Result<Option<Prepared>, Stop>)
     requires some { 1 ≤ readers.workers }
     requires most { readers.workers ≤ 64 }
-    requires desk { IsPassOf pass.old desk.now }
-    ensures desk { IsPassOf pass.new desk.now }
+    requires desk { IsPassOf pass.old turning.now.desk.now }
+    ensures desk { IsPassOf pass.new turning.now.desk.now }
     ensures same { IsSamePass pass.old pass.new }
     ensures own { OnOk result.0 ((view pass.new).own ≡ (view pass.old).own ++ due.prepared ∷ []) }
     ensures found { IfOk result.0 (λ outcomes. found (view pass.new).seen (view pass.new).number
@@ -84,13 +76,13 @@ fn turn_beside<R: Threads + Wait + Sync, S: Source + Send, G: Gate>(
 {
     let mut hand = Some(due);
     let (next, turned) = join_mut(
-        rt,
+        turning.rt,
         &mut || -> Result<Option<Prepared>, Stop>
             requires { (1 ≤ readers.workers) × (readers.workers ≤ 64) }
-        { read_prepared(rt, alloc, reader, source, readers) },
+        { read_prepared(turning.rt, turning.alloc, reader, source, readers) },
         &mut || -> Result<Vec<Outcome>, Memory>
-            requires { IsPassOf pass.now desk.now × IsSome hand }
-        { turn_in_hand(rt, alloc, desk, gate, pass, &mut hand) },
+            requires { IsPassOf pass.now turning.now.desk.now × IsSome hand }
+        { turn_in_hand(turning, pass, &mut hand) },
     );
     (turned, next)
 }
@@ -100,10 +92,7 @@ fn turn_beside<R: Threads + Wait + Sync, S: Source + Send, G: Gate>(
 ///
 /// One worker reads nothing after a turn that is refused memory: it answers `Memory` for both.
 pub(crate) fn turn_and_read<R: Threads + Wait + Sync, S: Source + Send, G: Gate>(
-    rt: &R,
-    alloc: Global,
-    desk: &Desk<Served>,
-    gate: &G,
+    turning: &Turning<'_, R, G>,
     session: &mut Session<S>,
     due: Due,
     reader: &mut BatchReader,
@@ -111,8 +100,9 @@ pub(crate) fn turn_and_read<R: Threads + Wait + Sync, S: Source + Send, G: Gate>
 ) -> (Result<Vec<Outcome>, Memory>, Result<Option<Prepared>, Stop>)
     requires some { 1 ≤ crew.workers }
     requires most { crew.workers ≤ 64 }
-    requires desk { IsPassOf session.old.pass desk.now }
-    ensures keeps { IsSameSession S.name desk.now.board.shared.table_id session.old session.new }
+    requires desk { IsPassOf session.old.pass turning.now.desk.now }
+    ensures keeps { IsSameSession S.name turning.now.desk.now.board.shared.table_id session.old
+        session.new }
     ensures own { OnOk result.0 ((view session.new.pass).own
         ≡ (view session.old.pass).own ++ due.prepared ∷ []) }
     ensures found { IfOk result.0 (λ outcomes.
@@ -135,10 +125,7 @@ pub(crate) fn turn_and_read<R: Threads + Wait + Sync, S: Source + Send, G: Gate>
             hashing: crew.hashing,
         };
         return turn_beside(
-            rt,
-            alloc,
-            desk,
-            gate,
+            turning,
             &mut session.pass,
             due,
             reader,
@@ -146,10 +133,10 @@ pub(crate) fn turn_and_read<R: Threads + Wait + Sync, S: Source + Send, G: Gate>
             readers,
         );
     }
-    match turn_due(rt, alloc, desk, gate, &mut session.pass, due) {
+    match turn_due(turning, &mut session.pass, due) {
         Ok(outcomes) => (
             Ok(outcomes),
-            read_prepared(rt, alloc, reader, &mut session.source, crew),
+            read_prepared(turning.rt, turning.alloc, reader, &mut session.source, crew),
         ),
         Err(Memory) => (Err(Memory), Err(Stop::Memory)),
     }

@@ -1,4 +1,4 @@
-//! One turn of a session.
+//! One turn of a session, and what makes it.
 ghost use Rattle.std.specs.Prelude.{◌≡◌, ◌≤◌, ◌++◌, ◌∷◌, [], length, IfOk, OnOk, OnErr};
 ghost use Rattle.catalogue_lock.specs.Tokens.{view, IsPassOf, IsSamePass};
 ghost use Rattle.library_batches.specs.Batches.{block_size};
@@ -14,6 +14,16 @@ use std::sync::Wait;
 use union_base::memory::Memory;
 use union_io::gate::Gate;
 
+/// What makes the turns of sessions: the desk, the gate that is told before and after each turn, the threads of the run, and its
+/// memory.
+#[derive(Drop)]
+pub(crate) struct Turning<'a, R, G> {
+    pub rt: &'a R,
+    pub alloc: Global,
+    pub desk: &'a Desk<Served>,
+    pub gate: &'a G,
+}
+
 /// A turn that is to be made: its number among the turns of its session, from 0 on, and its batch.
 #[derive(Drop)]
 pub(crate) struct Due {
@@ -25,15 +35,12 @@ pub(crate) struct Due {
 ///
 /// Returns `Memory` if allocation fails. The batch is dropped then.
 pub(crate) fn turn_due<R: Wait, G: Gate>(
-    rt: &R,
-    alloc: Global,
-    desk: &Desk<Served>,
-    gate: &G,
+    turning: &Turning<'_, R, G>,
     pass: &mut Pass<Served>,
     due: Due,
 ) -> Result<Vec<Outcome>, Memory>
-    requires desk { IsPassOf pass.old desk.now }
-    ensures desk { IsPassOf pass.new desk.now }
+    requires desk { IsPassOf pass.old turning.now.desk.now }
+    ensures desk { IsPassOf pass.new turning.now.desk.now }
     ensures same { IsSamePass pass.old pass.new }
     ensures own { OnOk result ((view pass.new).own ≡ (view pass.old).own ++ due.prepared ∷ []) }
     ensures found { IfOk result (λ outcomes. found (view pass.new).seen (view pass.new).number
@@ -42,9 +49,9 @@ pub(crate) fn turn_due<R: Wait, G: Gate>(
     ensures memory { OnErr result ((view pass.new).own ≡ (view pass.old).own) }
 {
     let Due { turn, prepared } = due;
-    gate.before_turn(pass.number(), turn);
-    let turned = desk.turn(alloc, rt, pass, prepared);
-    gate.after_turn(pass.number(), turn);
+    turning.gate.before_turn(pass.number(), turn);
+    let turned = turning.desk.turn(turning.alloc, turning.rt, pass, prepared);
+    turning.gate.after_turn(pass.number(), turn);
     let Turned { turn: _, outcome } = turned?;
     Ok(outcome)
 }

@@ -8,6 +8,7 @@ ghost use Rattle.load_sessions.specs.Turning.{Ends};
 use crate::asker::Asker;
 use crate::asking::ask_all;
 use crate::crew::Crew;
+use crate::due::Turning;
 use crate::end::End;
 use crate::report::Report;
 use crate::served::Served;
@@ -55,51 +56,43 @@ fn report_of(reader: BatchReader, counts: OutcomeCounts) -> Report
 
 /// Runs a session with a reader that was made for it.
 fn run_reader<R: Threads + Wait + Sync, S: Source + Send, G: Gate>(
-    rt: &R,
-    alloc: Global,
-    desk: &Desk<Served>,
-    gate: &G,
+    turning: &Turning<'_, R, G>,
     mut reader: BatchReader,
     session: &mut Session<S>,
     crew: Crew,
 )
     requires some { 1 ≤ crew.workers }
     requires most { crew.workers ≤ 64 }
-    requires ready { IsReady desk.now.board.shared.table_id session.old }
+    requires ready { IsReady turning.now.desk.now.board.shared.table_id session.old }
     requires reader { reader ≡ begun session.old.prefer session.old.library session.old.limit }
-    ensures { Runs S.name S.left S.faults desk.now.board.shared.table_id session.old session.new }
+    ensures { Runs S.name S.left S.faults turning.now.desk.now.board.shared.table_id session.old
+        session.new }
 {
     let mut counts = OutcomeCounts::new();
-    let turned = turn_batches(
-        rt,
-        alloc,
-        desk,
-        gate,
-        &mut reader,
-        &mut counts,
-        session,
-        crew,
-    );
+    let turned = turn_batches(turning, &mut reader, &mut counts, session, crew);
     session.report = report_of(reader, counts);
     session.end = end_of(turned);
 }
 
 /// Runs a session: reads its source, and makes a turn for each of its batches, which the crew reads and prepares.
 pub(crate) fn run_session<R: Threads + Wait + Sync, S: Source + Send, G: Gate>(
-    rt: &R,
-    alloc: Global,
-    desk: &Desk<Served>,
-    gate: &G,
+    turning: &Turning<'_, R, G>,
     session: &mut Session<S>,
     crew: Crew,
 )
     requires some { 1 ≤ crew.workers }
     requires most { crew.workers ≤ 64 }
-    requires ready { IsReady desk.now.board.shared.table_id session.old }
-    ensures { Runs S.name S.left S.faults desk.now.board.shared.table_id session.old session.new }
+    requires ready { IsReady turning.now.desk.now.board.shared.table_id session.old }
+    ensures { Runs S.name S.left S.faults turning.now.desk.now.board.shared.table_id session.old
+        session.new }
 {
-    match BatchReader::open(alloc, &session.prefer, &session.library, session.limit) {
-        Ok(reader) => run_reader(rt, alloc, desk, gate, reader, session, crew),
+    match BatchReader::open(
+        turning.alloc,
+        &session.prefer,
+        &session.library,
+        session.limit,
+    ) {
+        Ok(reader) => run_reader(turning, reader, session, crew),
         Err(Memory) => session.end = End::Memory,
     }
 }
@@ -121,27 +114,24 @@ fn preparers(crew: Crew, sessions: usize) -> Crew
 
 /// Runs the sessions on at most as many threads as the crew has workers; each runs neighbouring sessions in their order.
 fn run_each<R: Threads + Wait + Sync, S: Source + Send, G: Gate>(
-    rt: &R,
-    alloc: Global,
-    desk: &Desk<Served>,
-    gate: &G,
+    turning: &Turning<'_, R, G>,
     sessions: &mut [Session<S>],
     crew: Crew,
 )
     requires some { 1 ≤ crew.workers }
     requires most { crew.workers ≤ 64 }
-    requires ready { All (IsReady desk.now.board.shared.table_id) sessions.old }
-    ensures { RunsEach S.name S.left S.faults desk.now.board.shared.table_id sessions.old
-        sessions.new }
+    requires ready { All (IsReady turning.now.desk.now.board.shared.table_id) sessions.old }
+    ensures { RunsEach S.name S.left S.faults turning.now.desk.now.board.shared.table_id
+        sessions.old sessions.new }
 {
     let preparers = preparers(crew, sessions.len());
     let each = |_place: usize, session: &mut Session<S>|
         requires { (1 ≤ preparers.workers) × (preparers.workers ≤ 64)
-            × IsReady desk.now.board.shared.table_id session.now }
-        ensures { Runs S.name S.left S.faults desk.entry.now.board.shared.table_id session.entry.now
-            session.exit.now }
-    { run_session(rt, alloc, desk, gate, session, preparers) };
-    thread::for_each_mut(rt, sessions, crew.workers as usize, &each);
+            × IsReady turning.now.desk.now.board.shared.table_id session.now }
+        ensures { Runs S.name S.left S.faults turning.entry.now.desk.now.board.shared.table_id
+            session.entry.now session.exit.now }
+    { run_session(turning, session, preparers) };
+    thread::for_each_mut(turning.rt, sessions, crew.workers as usize, &each);
 }
 
 /// Runs sessions at the desk, and an asker beside them, and answers when each has ended; it waits. No end is NotRun then.
@@ -171,8 +161,14 @@ pub fn run_sessions<R: Threads + Wait + Sync, S: Source + Send, G: Gate>(
         sessions.new }
     ensures asker { Asks desk.now.board.shared.table_id asker.old asker.new }
 {
+    let turning = Turning {
+        rt,
+        alloc,
+        desk,
+        gate,
+    };
     if crew.workers == 1 {
-        run_each(rt, alloc, desk, gate, sessions, crew);
+        run_each(&turning, sessions, crew);
         ask_all(rt, alloc, desk, asker);
         return;
     }
@@ -180,10 +176,10 @@ pub fn run_sessions<R: Threads + Wait + Sync, S: Source + Send, G: Gate>(
         rt,
         &mut || -> ()
             requires { (1 ≤ crew.workers) × (crew.workers ≤ 64)
-                × All (IsReady desk.now.board.shared.table_id) sessions.now }
-            ensures { RunsEach S.name S.left S.faults desk.entry.now.board.shared.table_id
+                × All (IsReady turning.desk.now.board.shared.table_id) sessions.now }
+            ensures { RunsEach S.name S.left S.faults turning.entry.desk.now.board.shared.table_id
                 sessions.entry.now sessions.exit.now }
-        { run_each(rt, alloc, desk, gate, sessions, crew) },
+        { run_each(&turning, sessions, crew) },
         &mut || ask_all(rt, alloc, desk, asker),
     );
 }

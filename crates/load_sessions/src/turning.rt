@@ -7,15 +7,12 @@ ghost use Rattle.load_sessions.specs.Turning.{Turns};
 
 use crate::ahead::{stop_of, turn_and_read};
 use crate::crew::Crew;
-use crate::due::Due;
+use crate::due::{Due, Turning};
 use crate::reading::read_prepared;
-use crate::served::Served;
 use crate::session::Session;
-use catalogue_lock::desk::Desk;
 use library_batches::batch_reader::BatchReader;
 use library_batches::outcome_counts::OutcomeCounts;
 use library_batches::stop::Stop;
-use std::alloc::Global;
 use std::sync::Wait;
 use std::thread::Threads;
 use union_base::memory::Memory;
@@ -25,10 +22,7 @@ use union_io::source::Source;
 /// A turn for each batch of the session's source, as the reader hands them out and the crew prepares them, and the counts of what
 /// came of them. A crew of more than one worker reads the next batch while the turn of the one before it is made.
 pub(crate) fn turn_batches<R: Threads + Wait + Sync, S: Source + Send, G: Gate>(
-    rt: &R,
-    alloc: Global,
-    desk: &Desk<Served>,
-    gate: &G,
+    turning: &Turning<'_, R, G>,
     reader: &mut BatchReader,
     counts: &mut OutcomeCounts,
     session: &mut Session<S>,
@@ -36,19 +30,19 @@ pub(crate) fn turn_batches<R: Threads + Wait + Sync, S: Source + Send, G: Gate>(
 ) -> Result<(), Stop>
     requires some { 1 ≤ crew.workers }
     requires most { crew.workers ≤ 64 }
-    requires desk { IsPassOf session.old.pass desk.now }
+    requires desk { IsPassOf session.old.pass turning.now.desk.now }
     requires own { (view session.old.pass).own ≡ [] }
     requires limit { session.old.limit ≤ most_bytes }
     requires reader { reader.old ≡ begun session.old.prefer session.old.library session.old.limit }
     requires counts { AreCounted [] counts.old × (counted counts.old ≡ 0) }
-    ensures { Turns S.name S.left S.faults desk.now.board.shared.table_id session.old session.new
-        reader.new counts.new result }
+    ensures { Turns S.name S.left S.faults turning.now.desk.now.board.shared.table_id session.old
+        session.new reader.new counts.new result }
 {
     let mut turn: u64 = 0;
-    let mut next = read_prepared(rt, alloc, reader, &mut session.source, crew);
+    let mut next = read_prepared(turning.rt, turning.alloc, reader, &mut session.source, crew);
     while let Some(prepared) = next? {
         let due = Due { turn, prepared };
-        let (turned, coming) = turn_and_read(rt, alloc, desk, gate, session, due, reader, crew);
+        let (turned, coming) = turn_and_read(turning, session, due, reader, crew);
         match turned {
             Ok(outcomes) => counts.count(outcomes.as_slice()),
             Err(Memory) => return Err(stop_of(coming)),

@@ -50,7 +50,7 @@ returns-in_err-prepared g c =
     let stop = c.in_err-prepared.field-0.0 in
     let was = c.in_err-prepared.was in
     let p = err_from_is_err_and c.from_residual.result c.from_residual.ensures.1 in
-    Turns-stopped g.S.Source.name g.S.Source.left g.S.Source.faults c.args.desk.now.board.shared.table_id start c.loop-prepared.session c.loop-prepared.reader
+    Turns-stopped g.S.Source.name g.S.Source.left g.S.Source.faults c.args.turning.now.desk.now.board.shared.table_id start c.loop-prepared.session c.loop-prepared.reader
     c.loop-prepared.counts c.from_residual.result stop (p.1 ∙ ap Err p.2) before.keeps
     (Awaits-first start.prefer start.library start.limit (g.S.Source.left start.source) (view c.loop-prepared.session.pass).own c.loop-prepared.next
     c.loop-prepared.reader (g.S.Source.left c.loop-prepared.session.source) before.awaits)
@@ -72,9 +72,9 @@ returns-in-Err g c =
     let is : stop ≡ stop_beside coming = c.stop_of.ensures in
     let kept = rw c.in-Err.is at turn.ensures.memory in
     let calm = before.calm (answered c.loop-prepared.next (Some c.in-Some.prepared) (c.in_ok-prepared.was ∙ ap Ok c.in-Some.is)) in
-    Turns-stopped g.S.Source.name g.S.Source.left g.S.Source.faults c.args.desk.now.board.shared.table_id start now turn.new.reader
+    Turns-stopped g.S.Source.name g.S.Source.left g.S.Source.faults c.args.turning.now.desk.now.board.shared.table_id start now turn.new.reader
     c.loop-prepared.counts (Err stop) stop refl
-    (IsSameSession-more g.S.Source.name c.args.desk.now.board.shared.table_id start c.loop-prepared.session now before.keeps turn.ensures.keeps)
+    (IsSameSession-more g.S.Source.name c.args.turning.now.desk.now.board.shared.table_id start c.loop-prepared.session now before.keeps turn.ensures.keeps)
     (subst (λ own. IfSome left (λ bytes. AreFirstBatches start.prefer start.library (frames (take start.limit bytes)) own)) (sym kept)
     (Awaits-first start.prefer start.library start.limit left own c.loop-prepared.next c.loop-prepared.reader (g.S.Source.left c.loop-prepared.session.source) before.awaits))
     (λ long. absurd (stop_beside-short coming (sym is ∙ long)))
@@ -101,7 +101,7 @@ loop-prepared-preserved g c =
     let fewer = to_come-fewer coming c.loop-prepared.reader turn.new.reader turn.ensures.fewer in
     let had = ap (λ next. to_come next c.loop-prepared.reader) was in
     record {
-      keeps = IsSameSession-more g.S.Source.name c.args.desk.now.board.shared.table_id start c.loop-prepared.session now before.keeps turn.ensures.keeps;
+      keeps = IsSameSession-more g.S.Source.name c.args.turning.now.desk.now.board.shared.table_id start c.loop-prepared.session now before.keeps turn.ensures.keeps;
       failed = λ is. subst (λ count. Rose count (g.S.Source.faults now.source)) calm (turn.ensures.failed is);
       calm = λ other. turn.ensures.calm other ∙ calm;
       awaits = subst (λ own. Awaits start.prefer start.library start.limit left own coming turn.new.reader then) (sym own)

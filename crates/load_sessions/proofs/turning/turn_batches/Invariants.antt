@@ -14,7 +14,7 @@ use Rattle.load_sessions.proofs.turning.turn_batches.Given as goal
 -- the batches before the reader's last answer were turned and what came of them was counted, and only that answer may tell of a failure
 abbrev pub invariant-loop-prepared : goal.invariant-loop-prepared
 invariant-loop-prepared g l = record {
-  keeps : IsSameSession g.S.Source.name l.desk.board.shared.table_id l.fn.session l.session;
+  keeps : IsSameSession g.S.Source.name l.turning.desk.now.board.shared.table_id l.fn.session l.session;
   failed : l.next ≡ Err Failed → Rose (g.S.Source.faults l.fn.session.source) (g.S.Source.faults l.session.source);
   calm : l.next ≢ Err Failed → g.S.Source.faults l.session.source ≡ g.S.Source.faults l.fn.session.source;
   awaits : Awaits l.fn.session.prefer l.fn.session.library l.fn.session.limit (g.S.Source.left l.fn.session.source)
