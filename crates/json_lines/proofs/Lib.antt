@@ -1,4 +1,0 @@
-pub mod PieceLaws
-pub mod LineLaws
-pub mod CountLaws
-pub mod HeldLaws
