@@ -7,3 +7,4 @@ pub mod Editions
 pub mod Writing
 pub mod Parts
 pub mod WorkLists
+pub mod JsonExport

@@ -1,12 +1,12 @@
 //! The form of an export as lines of JSON.
 ghost use Rattle.std.specs.Prelude.{◌≡◌, ◌++◌, OnOk, IfOk};
 ghost use Rattle.catalogue_export.specs.Editions.{fields_left};
-ghost use Rattle.catalogue_json.specs.JsonExport.{edition_line};
+ghost use Rattle.catalogue_export.specs.JsonExport.{edition_line};
 
+use crate::edition::edition_record;
+use crate::form::ExportForm;
 use catalogue_core::catalogue::Catalogue;
 use catalogue_core::edition::Edition;
-use catalogue_export::edition::edition_record;
-use catalogue_export::form::ExportForm;
 use marc_json::writing::to_json;
 use std::alloc::Global;
 use union_base::memory::Memory;

@@ -5,9 +5,10 @@
 //!
 //! Guarantee: `edition::edition_bytes` and `editions::append_editions` append exactly the bytes that specs/Exported.antt and
 //! specs/Editions.antt define, and an export has these in order, whether one worker makes it (`export`) or several do
-//! (`by_workers`). A crate above can write the records in a form of its own (`form::ExportForm`). Cost: an edition's
-//! fields are borrowed from the contents of its records, and only those that it does not have are made; they are sorted once by their
-//! tags, and each record is written once.
+//! (`by_workers`). A record is written in a form (`form::ExportForm`): by its bytes, or by a line of JSON (`json_export`,
+//! specs/JsonExport.antt); what is reported of fields left out is the same in each. Cost: an edition's fields are borrowed from the
+//! contents of its records, and only those that it does not have are made; they are sorted once by their tags, and each record is
+//! written once, a line without a tree of values.
 #![tactic(auto)]
 
 pub mod by_workers;
@@ -18,6 +19,7 @@ pub mod export_fail;
 mod fields;
 mod fitting;
 pub mod form;
+pub mod json_export;
 pub mod laws;
 mod own_fields;
 pub mod pending;

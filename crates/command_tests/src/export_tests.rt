@@ -6,7 +6,7 @@ use catalogue_export::by_workers::export_by_workers;
 use catalogue_export::export::export;
 use catalogue_export::export_fail::ExportFail;
 use catalogue_export::form::{ExportForm, Iso2709};
-use catalogue_json::json_export::JsonLines;
+use catalogue_export::json_export::JsonLines;
 use key_hashing::hashing::Hashing;
 use load_sessions::crew::Crew;
 use merge_laws::steps::Steps;

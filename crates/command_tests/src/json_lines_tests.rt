@@ -1,15 +1,15 @@
 //! What no clause says: lines that come in pieces of several sizes, each reason why a line gives no frame, lines at the limit and over
 //! it, and a text that is kept in several pieces.
-use crate::lines::stated;
-use json_lines::begun_line::LONGEST_LINE;
-use json_lines::converter::Converter;
-use json_lines::findings::Findings;
-use json_lines::gathered::Gathered;
-use json_lines::outcome::{Reason, RefusedLine};
+use crate::records::{LINE, ONE};
 use marc_fields::rules::Rule;
 use std::alloc::Global;
 use std::test::Fail;
 use union_io::mem_sink::MemSink;
+use union_json::begun_line::LONGEST_LINE;
+use union_json::converter::Converter;
+use union_json::findings::Findings;
+use union_json::gathered::Gathered;
+use union_json::outcome::{Reason, RefusedLine};
 
 /// No line or piece of these tests is as long as that, and no text has as many lines.
 const MANY: usize = 10_000_000;
@@ -86,7 +86,7 @@ fn mixed(alloc: Global, line: &[u8]) -> Result<Vec<u8>, Fail> {
 
 #[test]
 fn pieces_change_nothing(rt: HostRuntime) -> Result<(), Fail> {
-    let (line, frame) = stated().first().ok_or("a record")?;
+    let line = LINE.strip_suffix(b"\n").ok_or("a line feed")?;
     let text = mixed(rt.alloc(), line)?;
     let refused = [
         RefusedLine {
@@ -110,7 +110,10 @@ fn pieces_change_nothing(rt: HostRuntime) -> Result<(), Fail> {
         assert_eq!(rt; (found.lines, found.read, found.written), (6, 5, 2));
         assert_eq!(rt; found.refused.as_slice(), refused.as_slice());
         let sink = written(rt.alloc(), &found.frames, 10_000)?;
-        assert_eq!(rt; sink.content().strip_prefix(*frame), Some(*frame));
+        assert_eq!(rt;
+            sink.content().strip_prefix(ONE.as_slice()),
+            Some(ONE.as_slice())
+        );
     }
     Ok(())
 }

@@ -4,6 +4,10 @@
 pub const ONE: &[u8; 114] =
     b"00114nam a2200061 a 4500001000300000008004100003245000800044\x1Eid\x1E240101s1999    xx                  eng d\x1E00\x1FaCat\x1E\x1D";
 
+/// The first of them as a line of JSON.
+pub const LINE: &[u8] =
+    b"{\"fields\":[{\"001\":\"id\"},{\"008\":\"240101s1999    xx                  eng d\"},{\"245\":{\"ind1\":\"0\",\"ind2\":\"0\",\"subfields\":[{\"a\":\"Cat\"}]}}],\"leader\":\"00000nam a2200000 a 4500\"}\n";
+
 pub const OTHER: &[u8; 114] =
     b"00114nam a2200061 a 4500001000300000008004100003245000800044\x1Eie\x1E240101s1999    xx                  eng d\x1E00\x1FaCat\x1E\x1D";
 

@@ -1,17 +1,15 @@
 //! What no clause says of MARC in JSON: a worked record written as a line and read again, its export, refused lines, and each fault
 //! in turn.
-use crate::records::ONE;
+use crate::records::{LINE, ONE};
 use crate::runs::{Files, calm, ends, library};
 use std::test::Fail;
 use union_words::status::Status;
 
-/// The record of `ONE` as a line, its export as LIBA's, and after an empty line a record whose field 008 is too short.
-const LINE: &[u8] =
-    b"{\"fields\":[{\"001\":\"id\"},{\"008\":\"240101s1999    xx                  eng d\"},{\"245\":{\"ind1\":\"0\",\"ind2\":\"0\",\"subfields\":[{\"a\":\"Cat\"}]}}],\"leader\":\"00000nam a2200000 a 4500\"}\n";
-
+/// The export of `ONE` as LIBA's.
 const EXPORT_LINE: &[u8] =
     b"{\"fields\":[{\"001\":\"LIBA.id\"},{\"003\":\"UNION\"},{\"008\":\"240101s1999    xx                  eng d\"},{\"245\":{\"ind1\":\"0\",\"ind2\":\"0\",\"subfields\":[{\"a\":\"Cat\"}]}},{\"991\":{\"ind1\":\" \",\"ind2\":\" \",\"subfields\":[{\"a\":\"cat///LIBA.id\"}]}},{\"993\":{\"ind1\":\" \",\"ind2\":\" \",\"subfields\":[{\"a\":\"LIBA\"},{\"b\":\"id\"}]}}],\"leader\":\"00000nam a2200000 a 4500\"}\n";
 
+/// After an empty line a record whose field 008 is too short.
 const NO_DATE: &[u8] =
     b"\n{\"fields\":[{\"001\":\"id\"},{\"008\":\"240101s199\"},{\"245\":{\"ind1\":\"0\",\"ind2\":\"0\",\"subfields\":[{\"a\":\"Cat\"}]}}],\"leader\":\"00000nam a2200000 a 4500\"}\n";
 

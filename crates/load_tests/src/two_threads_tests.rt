@@ -1,7 +1,7 @@
 //! A publisher and its viewer in two threads at once, each of which waits at gates until the other has got so far.
 ghost use Rattle.std.specs.Prelude.{◌≡◌};
 
-use crate::records::{Seen, counts, entry_of};
+use crate::one_record::{Seen, counts, entry_of};
 use catalogue_core::history_entry::HistoryEntry;
 use key_hashing::hashing::Hashing;
 use snapshot_desk::opening::open;

@@ -1,5 +1,5 @@
 //! What no clause says: that memory suffices, what is read of the lines of an independent program, and what is written of its frames.
-use crate::lines::{misshaped, no_json, stated, written};
+use crate::json_lines::{misshaped, no_json, stated, written};
 use marc_fields::decoding::{decode, is_frame};
 use marc_fields::encoding::encode;
 use marc_json::reading::{JsonRefusal, from_json};

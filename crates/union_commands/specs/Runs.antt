@@ -7,7 +7,7 @@ use Rattle.catalogue_core.specs.Histories.{AreEditionsOf}
 use Rattle.catalogue_editions.specs.declared.edition.Edition.{Edition}
 use Rattle.catalogue_export.specs.Editions.{export_text, left_of}
 use Rattle.catalogue_export.specs.WorkLists.{works_text_of}
-use Rattle.catalogue_json.specs.JsonExport.{json_export_text}
+use Rattle.catalogue_export.specs.JsonExport.{json_export_text}
 use Rattle.iso2709_frame.specs.Frames.{frames}
 use Rattle.union_io.specs.Writing.{AppendsFront}
 use Rattle.library_batches.specs.Reading.{most_bytes}

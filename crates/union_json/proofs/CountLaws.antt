@@ -3,8 +3,8 @@ use Rattle.std.proofs.Common.{◌≡◌, ℕ, suc, ◌+◌, Bool, cond, List, []
 use Rattle.std.specs.Prelude.{count_by}
 use Rattle.std.proofs.lemmas.Grind.{flat_map-append}
 use Rattle.std.proofs.lemmas.List.Sums.{fold-append}
-use Rattle.json_lines.specs.Counts.{refusal_at, refused_from, refused, is_read, is_written, read, written, frames_of}
-use Rattle.json_lines.specs.Outcomes.{Ended}
+use Rattle.union_json.specs.Counts.{refusal_at, refused_from, refused, is_read, is_written, read, written, frames_of}
+use Rattle.union_json.specs.Outcomes.{Ended}
 
 count_by-one_more : {A : Type 0} (p : A → Bool) (xs : List A) (x : A) → count_by p (xs ++ x ∷ []) ≡ count_by p xs + cond (p x) 1 0
 count_by-one_more p xs x = fold-append (λ (a : ℕ) x. a + cond (p x) 1 0) 0 xs (x ∷ [])

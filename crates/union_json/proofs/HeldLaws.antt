@@ -1,7 +1,7 @@
 -- A line that goes on.
 use Rattle.std.proofs.Common.{◌≡◌, ◌<◌, ◌≤◌, ◌-◌, ℕ, Bool, true, false, List, ◌++◌, length, ap, arith, length-append}
-use Rattle.json_lines.specs.Kept.{Holds}
-use Rattle.json_lines.specs.Lines.{longest_line}
+use Rattle.union_json.specs.Kept.{Holds}
+use Rattle.union_json.specs.Lines.{longest_line}
 
 -- a line that is too long stays so
 pub over_longer : (over : Bool) (bytes begun part : List ℕ) → over ≡ true → Holds over bytes begun → Holds over bytes (begun ++ part)

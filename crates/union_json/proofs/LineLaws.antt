@@ -5,7 +5,7 @@ use Rattle.std.proofs.lemmas.List.{get_or_default}
 use Rattle.std.proofs.lemmas.List.Elements.{All-append}
 use Rattle.std.proofs.lemmas.List.Splits.{slice_split_at, slice_split_none}
 use Rattle.std.specs.List.{All, AllZip}
-use Rattle.json_lines.specs.Lines.{is_feed, raw_lines}
+use Rattle.union_json.specs.Lines.{is_feed, raw_lines}
 
 -- no byte ends a line
 abbrev pub IsOpen : List ℕ → Type 0

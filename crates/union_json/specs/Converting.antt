@@ -1,11 +1,11 @@
 -- What a converter holds that has taken a prefix of a text.
 use Rattle.std.specs.Prelude.{◌≡◌, ℕ, false, List, ◌++◌}
 use Rattle.std.specs.List.{All, AllZip}
-use Rattle.json_lines.specs.Counts.{AreCounted}
-use Rattle.json_lines.specs.Kept.{Holds}
-use Rattle.json_lines.specs.Lines.{is_feed, raw_lines}
-use Rattle.json_lines.specs.Outcomes.{Ended, IsOutcome}
-use Rattle.json_lines.specs.declared.converter.Converter.{Converter}
+use Rattle.union_json.specs.Counts.{AreCounted}
+use Rattle.union_json.specs.Kept.{Holds}
+use Rattle.union_json.specs.Lines.{is_feed, raw_lines}
+use Rattle.union_json.specs.Outcomes.{Ended, IsOutcome}
+use Rattle.union_json.specs.declared.converter.Converter.{Converter}
 
 -- the lines that are ended were judged and counted, and the last one, which may go on, is held
 pub record HasTaken (text : List ℕ) (converter : Converter) : Type 0 where

@@ -1,12 +1,12 @@
 -- What came of the lines of a text, counted.
 use Rattle.std.specs.Prelude.{◌≡◌, ℕ, suc, Bool, true, false, List, [], ◌∷◌, ◌++◌, length, count_by}
 use Rattle.std.specs.List.{flat_map, AllZip}
-use Rattle.json_lines.specs.Lines.{raw_lines}
-use Rattle.json_lines.specs.Outcomes.{Ended, IsOutcome}
-use Rattle.json_lines.specs.declared.findings.Findings.{Findings}
-use Rattle.json_lines.specs.declared.outcome.Outcome.{Outcome}
-use Rattle.json_lines.specs.declared.outcome.Outcome.TheVariants.{Skipped, Written, Refused}
-use Rattle.json_lines.specs.declared.outcome.RefusedLine.{RefusedLine}
+use Rattle.union_json.specs.Lines.{raw_lines}
+use Rattle.union_json.specs.Outcomes.{Ended, IsOutcome}
+use Rattle.union_json.specs.declared.findings.Findings.{Findings}
+use Rattle.union_json.specs.declared.outcome.Outcome.{Outcome}
+use Rattle.union_json.specs.declared.outcome.Outcome.TheVariants.{Skipped, Written, Refused}
+use Rattle.union_json.specs.declared.outcome.RefusedLine.{RefusedLine}
 
 -- a line that is refused, under its number
 abbrev pub refusal_at : ℕ → Outcome → List RefusedLine

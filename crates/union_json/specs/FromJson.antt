@@ -1,10 +1,10 @@
 -- What `fromjson` makes of a file of lines.
 use Rattle.std.specs.Prelude.{◌≡◌, ℕ, List, [], ◌∷◌, ◌++◌, length, codes}
 use Rattle.std.specs.List.{AllZip}
-use Rattle.json_lines.specs.Counts.{refused, read, written, frames_of}
-use Rattle.json_lines.specs.Lines.{raw_lines}
-use Rattle.json_lines.specs.Outcomes.{Ended, IsOutcome}
-use Rattle.json_lines.specs.declared.outcome.RefusedLine.{RefusedLine}
+use Rattle.union_json.specs.Counts.{refused, read, written, frames_of}
+use Rattle.union_json.specs.Lines.{raw_lines}
+use Rattle.union_json.specs.Outcomes.{Ended, IsOutcome}
+use Rattle.union_json.specs.declared.outcome.RefusedLine.{RefusedLine}
 use Rattle.union_json.specs.Texts.{Making, count_line, refused_lines}
 use Rattle.union_words.specs.declared.status.Status.{Status}
 use Rattle.union_words.specs.declared.status.Status.TheVariants.{Done, DoneWithRefusals}

@@ -1,8 +1,8 @@
 -- What the fields of a text in pieces, and of a line that is not ended, mean.
 use Rattle.std.specs.Prelude.{◌≡◌, ℕ, ◌<◌, ◌≤◌, Bool, true, false, List, ◌++◌, length}
 use Rattle.std.specs.List.{flat_map}
-use Rattle.json_lines.specs.Lines.{longest_line}
-use Rattle.json_lines.specs.declared.gathered.Gathered.TheInside.{Inside}
+use Rattle.union_json.specs.Lines.{longest_line}
+use Rattle.union_json.specs.declared.gathered.Gathered.TheInside.{Inside}
 
 -- the pieces, one after the other
 abbrev pub text_of : Inside → List ℕ

@@ -1,3 +1,8 @@
+pub mod Lines
+pub mod Outcomes
+pub mod Kept
+pub mod Counts
+pub mod Converting
 pub mod Laws
 pub mod Texts
 pub mod ToJson

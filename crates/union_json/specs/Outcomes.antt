@@ -8,11 +8,11 @@ use Rattle.marc_fields.specs.declared.marc_record.Record.{Record}
 use Rattle.marc_json.specs.Shapes.{value_in, StandsFor, IsCause}
 use Rattle.marc_json.specs.declared.reading.JsonRefusal.TheVariants.{Json as NoJson, Shape as NoShape}
 use Rattle.marc_rules.specs.NineteenRules.{first_rule}
-use Rattle.json_lines.specs.Lines.{line_within}
-use Rattle.json_lines.specs.declared.outcome.Outcome.{Outcome}
-use Rattle.json_lines.specs.declared.outcome.Outcome.TheVariants.{Skipped, Written, Refused}
-use Rattle.json_lines.specs.declared.outcome.Reason.{Reason}
-use Rattle.json_lines.specs.declared.outcome.Reason.TheVariants.{LineTooLong, Json, Shape, FieldTooLong, RecordTooLong, Breaks}
+use Rattle.union_json.specs.Lines.{line_within}
+use Rattle.union_json.specs.declared.outcome.Outcome.{Outcome}
+use Rattle.union_json.specs.declared.outcome.Outcome.TheVariants.{Skipped, Written, Refused}
+use Rattle.union_json.specs.declared.outcome.Reason.{Reason}
+use Rattle.union_json.specs.declared.outcome.Reason.TheVariants.{LineTooLong, Json, Shape, FieldTooLong, RecordTooLong, Breaks}
 
 -- the line's value stands for the record
 abbrev pub IsRecordOf : List ℕ → Record → Type 0

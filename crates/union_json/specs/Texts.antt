@@ -1,9 +1,9 @@
 -- What a run makes of a file, and the lines that it notes.
 use Rattle.std.specs.Prelude.{ℕ, List, [], ◌∷◌, ◌++◌, codes}
 use Rattle.std.specs.List.{flat_map}
-use Rattle.json_lines.specs.declared.outcome.Reason.{Reason}
-use Rattle.json_lines.specs.declared.outcome.Reason.TheVariants.{LineTooLong, Json, Shape, FieldTooLong, RecordTooLong, Breaks}
-use Rattle.json_lines.specs.declared.outcome.RefusedLine.{RefusedLine}
+use Rattle.union_json.specs.declared.outcome.Reason.{Reason}
+use Rattle.union_json.specs.declared.outcome.Reason.TheVariants.{LineTooLong, Json, Shape, FieldTooLong, RecordTooLong, Breaks}
+use Rattle.union_json.specs.declared.outcome.RefusedLine.{RefusedLine}
 use Rattle.union_json.specs.declared.made.Made.{Made}
 use Rattle.union_reports.specs.Reports.{rule_name, counted}
 use Rattle.union_words.specs.declared.status.Status.{Status}

@@ -2,8 +2,8 @@
 ghost use Rattle.std.specs.Prelude.{◌≡◌, ℕ, [], List, ◌++◌, OnOk, MatchOption, None};
 ghost use Rattle.std.specs.Option.{option_copied};
 ghost use Rattle.union_words.specs.Lines.{without_return};
-ghost use Rattle.json_lines.specs.Kept.{Holds};
-ghost use Rattle.json_lines.specs.Lines.{line_within};
+ghost use Rattle.union_json.specs.Kept.{Holds};
+ghost use Rattle.union_json.specs.Lines.{line_within};
 
 use std::alloc::{AllocError, Global};
 

@@ -1,11 +1,11 @@
 //! The lines of a text, in whatever pieces it comes.
 ghost use Rattle.std.specs.Prelude.{◌≡◌, ◌+◌, ◌<◌, ◌≤◌, ℕ, false, List, [], ◌∷◌, ◌++◌, length, IfOk, OnOk};
 ghost use Rattle.std.specs.List.{All};
-ghost use Rattle.json_lines.specs.Converting.{HasTaken};
-ghost use Rattle.json_lines.specs.Counts.{AreCounted, IsConverted};
-ghost use Rattle.json_lines.specs.Kept.{Holds};
-ghost use Rattle.json_lines.specs.Lines.{is_feed};
-ghost use Rattle.json_lines.specs.Outcomes.{Ended, IsOutcome};
+ghost use Rattle.union_json.specs.Converting.{HasTaken};
+ghost use Rattle.union_json.specs.Counts.{AreCounted, IsConverted};
+ghost use Rattle.union_json.specs.Kept.{Holds};
+ghost use Rattle.union_json.specs.Lines.{is_feed};
+ghost use Rattle.union_json.specs.Outcomes.{Ended, IsOutcome};
 
 use crate::begun_line::BegunLine;
 use crate::findings::Findings;

@@ -1,7 +1,7 @@
 //! The counting of lines.
 ghost use Rattle.std.specs.Prelude.{◌≡◌, ◌+◌, ◌<◌, ◌++◌, ◌∷◌, [], List, IfOk, OnOk};
-ghost use Rattle.json_lines.specs.Counts.{AreCounted};
-ghost use Rattle.json_lines.specs.Outcomes.{Ended};
+ghost use Rattle.union_json.specs.Counts.{AreCounted};
+ghost use Rattle.union_json.specs.Outcomes.{Ended};
 
 use crate::findings::Findings;
 use crate::gathered::Gathered;

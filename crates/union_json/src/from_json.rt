@@ -1,8 +1,8 @@
 //! `fromjson`: the records of lines of JSON as frames.
 ghost use Rattle.std.specs.Prelude.{◌≡◌, ◌≤◌, ℕ, List, [], IsTrue, IfOk, OnOk};
-ghost use Rattle.json_lines.specs.Converting.{HasTaken};
-ghost use Rattle.json_lines.specs.Counts.{AreCounted, IsConverted};
-ghost use Rattle.json_lines.specs.Outcomes.{Ended};
+ghost use Rattle.union_json.specs.Converting.{HasTaken};
+ghost use Rattle.union_json.specs.Counts.{AreCounted, IsConverted};
+ghost use Rattle.union_json.specs.Outcomes.{Ended};
 ghost use Rattle.library_batches.specs.Reading.{most_bytes};
 ghost use Rattle.union_inputs.specs.Readings.{Reads};
 ghost use Rattle.union_json.specs.FromJson.{IsFromJson, end_with, from_json_notes};
@@ -10,11 +10,11 @@ ghost use Rattle.union_json.specs.Runs.{IsFromJsonRun};
 ghost use Rattle.union_json.specs.Texts.{making_of};
 ghost use Rattle.union_words.specs.Statuses.{is_done, is_early};
 
+use crate::converter::Converter;
+use crate::findings::Findings;
 use crate::lines::{Counted, add_count_line, add_refused_lines};
 use crate::made::{Made, write_made};
-use json_lines::converter::Converter;
-use json_lines::findings::Findings;
-use json_lines::outcome::RefusedLine;
+use crate::outcome::RefusedLine;
 use library_batches::stop::Stop;
 use library_stream::frame_reader::LARGEST_SOURCE;
 use std::alloc::{AllocError, Global};

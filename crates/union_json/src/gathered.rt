@@ -26,7 +26,7 @@ impl Model for Gathered {
 
     ghost Value = { List ℕ };
 
-    ghost use Rattle.json_lines.specs.Kept.{text_of};
+    ghost use Rattle.union_json.specs.Kept.{text_of};
 
     ghost view = { text_of };
 }

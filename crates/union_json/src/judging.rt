@@ -5,8 +5,8 @@ ghost use Rattle.iso2709_frame.specs.Frames.{IsWhole};
 ghost use Rattle.marc_fields.specs.Appending.{too_long};
 ghost use Rattle.marc_fields.specs.Spelling.{spelling};
 ghost use Rattle.marc_fields.specs.declared.marc_record.Record.{Record as RecordModel};
-ghost use Rattle.json_lines.specs.Lines.{line_within};
-ghost use Rattle.json_lines.specs.Outcomes.{IsRecordOf, IsOutcomeWithin, IsOutcome};
+ghost use Rattle.union_json.specs.Lines.{line_within};
+ghost use Rattle.union_json.specs.Outcomes.{IsRecordOf, IsOutcomeWithin, IsOutcome};
 
 use crate::outcome::{Outcome, Reason};
 use iso2709_frame::cut::Cut;

@@ -2,7 +2,7 @@
 ghost use Rattle.std.specs.Prelude.{◌≡◌, ◌++◌, OnOk};
 ghost use Rattle.union_json.specs.Texts.{count_line, reason_name, reason_place, refused_line, refused_lines};
 
-use json_lines::outcome::{Reason, RefusedLine};
+use crate::outcome::{Reason, RefusedLine};
 use std::alloc::AllocError;
 use union_reports::lines::{add_counted, rule_name};
 

@@ -4,7 +4,7 @@ ghost use Rattle.std.specs.Io.KnownBytes.{Appends};
 ghost use Rattle.union_words.specs.Flows.{IsCutOff};
 ghost use Rattle.union_words.specs.Statuses.{is_done, is_early};
 
-use json_lines::gathered::Gathered;
+use crate::gathered::Gathered;
 use union_io::failed::Failed;
 use union_io::sink::{Sink, put_all};
 use union_words::status::Status;

@@ -12,11 +12,11 @@ ghost use Rattle.union_json.specs.Texts.{making_of};
 ghost use Rattle.union_json.specs.ToJson.{AreWritten, IsToJson, to_json_notes};
 ghost use Rattle.union_words.specs.Statuses.{is_done, is_early};
 
+use crate::gathered::Gathered;
 use crate::lines::{Counted, add_count_line};
 use crate::made::{Made, write_made};
 use crate::written::Written;
 use iso2709_frame::cut::Cut;
-use json_lines::gathered::Gathered;
 use library_batches::refused::RefusedFrame;
 use library_batches::stop::Stop;
 use library_stream::answer::Next;

@@ -1,7 +1,7 @@
 //! The lines of JSON that were made of frames.
 ghost use Rattle.std.specs.Prelude.{◌≤◌};
 
-use json_lines::gathered::Gathered;
+use crate::gathered::Gathered;
 use library_batches::refused::RefusedFrame;
 
 /// The lines of the frames so far: how many frames there were, of how many a line is written, and which are refused.

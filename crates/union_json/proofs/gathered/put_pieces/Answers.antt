@@ -2,8 +2,8 @@ use Rattle.std.proofs.Common.{◌+◌, take, drop, sym, subst, arith}
 use Rattle.std.proofs.lemmas.Result.{err_from_is_err_and}
 use Rattle.std.specs.List.{flat_map}
 use Rattle.union_io.specs.Writing.{AppendsFront}
-use Rattle.json_lines.proofs.PieceLaws.{front_within, around}
-use Rattle.json_lines.proofs.gathered.put_pieces.Goals as goal
+use Rattle.union_json.proofs.PieceLaws.{front_within, around}
+use Rattle.union_json.proofs.gathered.put_pieces.Goals as goal
 
 pub returns-in_err-put_all-clause-front : goal.returns-in_err-put_all-clause-front
 returns-in_err-put_all-clause-front g c =

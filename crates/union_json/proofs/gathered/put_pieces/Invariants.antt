@@ -1,7 +1,7 @@
 use Rattle.std.proofs.Common.{◌≡◌, take}
 use Rattle.std.specs.Io.KnownBytes.{Appends}
 use Rattle.std.specs.List.{flat_map}
-use Rattle.json_lines.proofs.gathered.put_pieces.Given as goal
+use Rattle.union_json.proofs.gathered.put_pieces.Given as goal
 
 -- the pieces before this one were written, and nothing failed
 abbrev pub invariant-loop-piece : goal.invariant-loop-piece

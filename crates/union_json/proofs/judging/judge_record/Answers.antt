@@ -1,6 +1,6 @@
 use Rattle.marc_rules.proofs.CheckLaws.{frame-IsWhole}
 use Rattle.catalogue_export.proofs.WholeLaws.{spelling-ends}
-use Rattle.json_lines.proofs.judging.judge_record.Goals as goal
+use Rattle.union_json.proofs.judging.judge_record.Goals as goal
 
 -- a frame that spells a record is whole
 pub judge_frame-requires : goal.judge_frame-requires

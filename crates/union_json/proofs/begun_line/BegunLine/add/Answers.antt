@@ -1,6 +1,6 @@
 use Rattle.std.proofs.Common.{◌<◌, ◌≤◌, ◌-◌, length, arith}
-use Rattle.json_lines.proofs.HeldLaws.{held_over, held_longer}
-use Rattle.json_lines.proofs.begun_line.BegunLine.add.Goals as goal
+use Rattle.union_json.proofs.HeldLaws.{held_over, held_longer}
+use Rattle.union_json.proofs.begun_line.BegunLine.add.Goals as goal
 
 pub returns-then-part-saturating_sub : goal.returns-then-part-saturating_sub
 returns-then-part-saturating_sub c =

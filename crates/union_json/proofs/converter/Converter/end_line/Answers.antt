@@ -1,8 +1,8 @@
 use Rattle.std.proofs.Common.{[], ◌∷◌, ◌++◌}
 use Rattle.std.proofs.lemmas.List.Elements.{All-nil}
-use Rattle.json_lines.proofs.LineLaws.{lines_ended, zip_push}
-use Rattle.json_lines.specs.Outcomes.{IsOutcome}
-use Rattle.json_lines.proofs.converter.Converter.end_line.Goals as goal
+use Rattle.union_json.proofs.LineLaws.{lines_ended, zip_push}
+use Rattle.union_json.specs.Outcomes.{IsOutcome}
+use Rattle.union_json.proofs.converter.Converter.end_line.Goals as goal
 
 pub returns-clause-taken : goal.returns-clause-taken
 returns-clause-taken c =

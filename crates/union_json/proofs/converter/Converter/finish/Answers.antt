@@ -1,8 +1,8 @@
 use Rattle.std.proofs.Common.{[], ◌∷◌, ◌++◌, sym, subst}
 use Rattle.std.specs.List.{AllZip}
-use Rattle.json_lines.proofs.LineLaws.{lines_whole, zip_push}
-use Rattle.json_lines.specs.Outcomes.{IsOutcome}
-use Rattle.json_lines.proofs.converter.Converter.finish.Goals as goal
+use Rattle.union_json.proofs.LineLaws.{lines_whole, zip_push}
+use Rattle.union_json.specs.Outcomes.{IsOutcome}
+use Rattle.union_json.proofs.converter.Converter.finish.Goals as goal
 
 pub returns : goal.returns
 returns c =

@@ -1,6 +1,6 @@
 use Rattle.std.proofs.Common.{[], refl}
 use Rattle.std.proofs.lemmas.List.Elements.{All-nil}
-use Rattle.json_lines.proofs.converter.Converter.open.Goals as goal
+use Rattle.union_json.proofs.converter.Converter.open.Goals as goal
 
 pub returns-clause-taken : goal.returns-clause-taken
 returns-clause-taken c = record {

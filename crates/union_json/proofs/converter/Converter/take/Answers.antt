@@ -1,9 +1,9 @@
 use Rattle.std.proofs.Common.{◌≡◌, false, [], ◌∷◌, ◌++◌, sym, subst, ap, ◌∙◌, append_assoc, arith}
 use Rattle.std.proofs.lemmas.List.Elements.{All-append}
-use Rattle.json_lines.proofs.LineLaws.{feed_parts, lines_held, open_by_place}
-use Rattle.json_lines.specs.Converting.{HasTaken}
-use Rattle.json_lines.specs.Lines.{is_feed}
-use Rattle.json_lines.proofs.converter.Converter.take.Goals as goal
+use Rattle.union_json.proofs.LineLaws.{feed_parts, lines_held, open_by_place}
+use Rattle.union_json.specs.Converting.{HasTaken}
+use Rattle.union_json.specs.Lines.{is_feed}
+use Rattle.union_json.proofs.converter.Converter.take.Goals as goal
 
 pub loop-at-preserved : goal.loop-at-preserved
 loop-at-preserved c =

@@ -1,6 +1,6 @@
 use Rattle.std.proofs.Common.{◌≡◌, ◌+◌, ◌≤◌, ℕ, List, ◌++◌, length}
-use Rattle.json_lines.specs.Converting.{HasTaken}
-use Rattle.json_lines.proofs.converter.Converter.take.Given as goal
+use Rattle.union_json.specs.Converting.{HasTaken}
+use Rattle.union_json.proofs.converter.Converter.take.Given as goal
 
 -- a prefix of the piece was taken
 abbrev pub invariant-loop-at : goal.invariant-loop-at

@@ -1,10 +1,10 @@
 use Rattle.std.proofs.Common.{◌++◌, ◌+◌, sym, ap, ◌∙◌, add-zero, append-nil}
 use Rattle.std.proofs.lemmas.List.{length_push}
-use Rattle.json_lines.specs.Counts.{is_read, is_written, read, written, refused, refusal_at}
+use Rattle.union_json.specs.Counts.{is_read, is_written, read, written, refused, refusal_at}
 use Rattle.std.specs.Prelude.{cond}
-use Rattle.json_lines.specs.Outcomes.{Ended}
-use Rattle.json_lines.proofs.CountLaws.{read-more, written-more, frames_of-more, refused-more}
-use Rattle.json_lines.proofs.findings.Findings.count.Goals as goal
+use Rattle.union_json.specs.Outcomes.{Ended}
+use Rattle.union_json.proofs.CountLaws.{read-more, written-more, frames_of-more, refused-more}
+use Rattle.union_json.proofs.findings.Findings.count.Goals as goal
 
 pub returns-in-Skipped-clause-counted : goal.returns-in-Skipped-clause-counted
 returns-in-Skipped-clause-counted c =

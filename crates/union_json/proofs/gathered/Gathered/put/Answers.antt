@@ -2,8 +2,8 @@ use Rattle.std.proofs.Common.{subst}
 use Rattle.std.specs.List.{flat_map}
 use Rattle.std.specs.Prelude.{OnErr}
 use Rattle.union_io.specs.Writing.{AppendsFront}
-use Rattle.json_lines.proofs.PieceLaws.{front_last}
-use Rattle.json_lines.proofs.gathered.Gathered.put.Goals as goal
+use Rattle.union_json.proofs.PieceLaws.{front_last}
+use Rattle.union_json.proofs.gathered.Gathered.put.Goals as goal
 
 pub returns-clause-front : goal.returns-clause-front
 returns-clause-front g c =
