@@ -9,8 +9,8 @@
 [ $# -le 1 ] || usage
 turns=${1:-2000000}
 rustc -O -o "$work/mutex" "$here/desk_mutex.rs"
-(cd "$top/crates/bench_desk" && rt run >/dev/null 2>&1)
-need_bench bench_desk
+(cd "$top/crates/bench_desks" && rt run >/dev/null 2>&1)
+need_bench bench_desks
 python3 - "$program" "$work/mutex" "$turns" <<'P'
 import statistics, subprocess, sys, time
 desk, mutex, turns = sys.argv[1], sys.argv[2], int(sys.argv[3])
@@ -18,9 +18,9 @@ for threads in (1, 2, 4):
     each = turns // threads
     rates = [[], []]
     for _ in range(7):
-        for k, program in enumerate((desk, mutex)):
+        for k, command in enumerate(([desk, "desk"], [mutex])):
             start = time.perf_counter()
-            out = subprocess.run([program, str(threads), str(each)], check=True, capture_output=True, text=True).stdout
+            out = subprocess.run([*command, str(threads), str(each)], check=True, capture_output=True, text=True).stdout
             spent = time.perf_counter() - start
             assert int(out) == each * threads, out
             rates[k].append(each * threads / spent)

@@ -3,7 +3,7 @@
 #
 # usage: bench/follow.sh [RECORDS [LIBRARIES]]
 #
-# The files of LIBRARIES libraries (8 if not given) have RECORDS records in all (100,000). The program of the crate bench_follow loads them
+# The files of LIBRARIES libraries (8 if not given) have RECORDS records in all (100,000). The program of the crate bench_desks loads them
 # as `follow` does, seven times alone and seven times, in turn, with a viewer beside that asks for the counts without a pause; the median
 # load of each kind is told: its time in seconds and its memory in megabytes, as GNU time tells it; with the viewer also its answers a
 # second, and the slowest answer of the median load and of all loads in milliseconds, which takes in the turns that were published since
@@ -15,7 +15,7 @@ records=${1:-100000}
 libraries=${2:-8}
 need_union
 union=$program
-PROGRAM='' need_bench bench_follow
+PROGRAM='' need_bench bench_desks
 make_libraries "$libraries" "$records"
 
 # The median of the loads in the file: microseconds, turns, answers, microseconds of its slowest answer, kilobytes of memory, and the
@@ -27,7 +27,7 @@ median() {
 
 for round in 1 2 3 4 5 6 7; do
     for kind in alone beside; do
-        memory=$(spent "$program" "$kind" $words | awk '{ print $4 }')
+        memory=$(spent "$program" follow "$kind" $words | awk '{ print $4 }')
         echo "$(cat "$work/out") $memory" >>"$work/$kind"
     done
 done

@@ -1,7 +1,7 @@
 #!/usr/bin/env python3
 """The normal form of each text of a file, by Python's unicodedata: forms.py FILE
 
-Prints what crates/bench_forms prints of the same file: how many texts it has, and how many bytes their forms have.
+Prints what `bench_parts forms` prints of the same file: how many texts it has, and how many bytes their forms have.
 """
 import sys
 from unicodedata import category, normalize

@@ -3,14 +3,14 @@
 #
 # usage: bench/forms.sh [FILE..]
 #
-# The program is the one that `rt run` builds in crates/bench_forms. Each FILE is a file of MARC 21 records (ISO 2709, UTF-8),
+# The program is the one that `rt run` builds in crates/bench_parts. Each FILE is a file of MARC 21 records (ISO 2709, UTF-8),
 # of which bench/headings.py takes the headings and titles; without one, the few below are used. The texts in ASCII and those
 # that have other characters go to two files, each repeated until it has 300,000 texts at least. The program and bench/forms.py
 # read each three times, in turn, and must print the same totals. What is printed is the median of the processor time of each,
 # start and reading counted, as forms per second, and the ratio of the two. Compare ratios alone: the rates mean nothing on
 # another machine.
 . "$(dirname "$0")/common.sh"
-need_bench bench_forms
+need_bench bench_parts
 
 if [ $# -ge 1 ]; then
     python3 "$here/headings.py" "$@" >"$work/texts"
@@ -58,7 +58,7 @@ for name in ("ascii", "other"):
     times = -(-LEAST // texts)
     with open(path, "wb") as file:
         file.write(part * times)
-    answers, spent = in_turn({"program": [program, path], "python": [sys.executable, script, path]}, RUNS)
+    answers, spent = in_turn({"program": [program, "forms", path], "python": [sys.executable, script, path]}, RUNS)
     assert answers["program"] == answers["python"], answers
     seconds, count = medians(spent), texts * times
     print(

@@ -3,7 +3,7 @@
 #
 # usage: bench/frames.sh [FILE]
 #
-# The program is the one that `rt run` builds in crates/bench_frames. FILE is a file of MARC 21 records (ISO 2709); without one,
+# The program is the one that `rt run` builds in crates/bench_parts. FILE is a file of MARC 21 records (ISO 2709); without one,
 # made-up frames are used. The file is repeated until it has 300 MB at least. Each of
 # - 'scan', a count of the record terminators by the C library's memchr (a small C program; left out where there is no cc),
 # - 'tr', the same count by tr and wc,
@@ -12,7 +12,7 @@
 # ratio to the first. Compare ratios of one run only: the times mean nothing on another machine or under another load.
 . "$(dirname "$0")/common.sh"
 [ $# -le 1 ] || usage
-need_bench bench_frames
+need_bench bench_parts
 
 if [ $# -eq 1 ]; then
     cp "$1" "$work/part"
@@ -89,5 +89,5 @@ C
 fi
 best sh -c "tr -cd '\\035' | wc -c"
 tell tr
-best "$program"
+best "$program" frames
 tell cut

@@ -6,7 +6,7 @@
 # The program is the one that ./union builds. COUNT made-up records, 1,000,000 without it, by bench/authorities.py, are its file of names,
 # beside one library of one record. Printed are the records and bytes of the file, what the program told of it, its least processor time
 # of three runs and that of `yaz-marcdump -n` on the same file (Debian's package yaz; left out where it is not there), their ratio, and
-# the memory that the program took at most, for each see-from heading. Where `rt run` has built crates/bench_names, the same of the table
+# the memory that the program took at most, for each see-from heading. Where `rt run` has built crates/bench_parts, the same of the table
 # alone, which that program reads. Compare ratios of one run only.
 . "$(dirname "$0")/common.sh"
 [ $# -le 1 ] || usage
@@ -39,8 +39,8 @@ row() {
 ours=$(best "$program" works --workers=1 "--names=$work/names" "LIBA=$top/samples/one.mrc")
 grep '^names frames' "$work/notes"
 row program "$ours" "$(sed -n 's/^names frames .* pairs \([0-9]*\) .*/\1/p' "$work/notes")"
-table=$top/crates/bench_names/out/bench_names
+table=$top/crates/bench_parts/out/bench_parts
 if [ -x "$table" ]; then
-    ours=$(best "$table")
+    ours=$(best "$table" names)
     row table "$ours" "$(sed 's/.* pairs //' "$work/out")"
 fi

@@ -3,7 +3,7 @@
 #
 # usage: bench/rules.sh [FILE..]
 #
-# The program is the one that `rt run` builds in crates/bench_rules. The FILEs are files of MARC 21 records (ISO 2709), which are
+# The program is the one that `rt run` builds in crates/bench_parts. The FILEs are files of MARC 21 records (ISO 2709), which are
 # taken together; without one, a file of 2,000 records is made. Three inputs are made, each repeated until it has 100 MB at least:
 # - 'records': the records of the files,
 # - 'crowded': a frame of 8,330 entries with 13 bytes of data among them,
@@ -13,7 +13,7 @@
 # counted, as frames and bytes a second, and yaz-marcdump's time over the program's: above 1 the program is the faster.
 # Compare ratios alone: the rates mean nothing on another machine.
 . "$(dirname "$0")/common.sh"
-need_bench bench_rules
+need_bench bench_parts
 command -v yaz-marcdump >/dev/null || { echo "yaz-marcdump is not installed (Debian's package yaz)" >&2; exit 2; }
 if [ $# -eq 0 ]; then
     python3 "$maker" 1 1 2000 "$work/made" --no-updates >"$work/notes"
@@ -64,7 +64,7 @@ for name, part in (("records", records()), ("crowded", crowded()), ("reversed", 
             file.write(part)
     count = part.count(b"\x1d")
     frames, size = count * times, len(part) * times
-    commands = {"record": [program], "status": [program, "status"], "yaz-marcdump": ["yaz-marcdump", "-n", path]}
+    commands = {"record": [program, "rules"], "status": [program, "rules", "status"], "yaz-marcdump": ["yaz-marcdump", "-n", path]}
     answers, spent = in_turn(commands, RUNS, path)
     best = {name_of: min(times_of) for name_of, times_of in spent.items()}
     print(f"{name}: {frames} frames of {len(part) // count:,} bytes")

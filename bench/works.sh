@@ -3,13 +3,13 @@
 #
 # usage: bench/works.sh [EARLIER]
 #
-# The program is the one that `rt run` builds in crates/bench_works; EARLIER is such a program built from an earlier state of the
+# The program is the one that `rt run` builds in crates/bench_parts; EARLIER is such a program built from an earlier state of the
 # repository. Each makes works of 76,800 keys by 300 changes of 256 new keys, and again with changes of one pair after them,
 # 100,000 or, by EARLIER, 1,000; the first run's time is taken off the second's. What is printed is the processor time of a
 # change, from the median of three runs, and the ratios: compare ratios alone.
 . "$(dirname "$0")/common.sh"
 [ $# -le 1 ] || usage
-need_bench bench_works
+need_bench bench_parts
 set -- "$program" "$@"
 for program in "$@"; do need_program "$program"; done
 
@@ -22,7 +22,7 @@ RUNS = 3
 
 def median(program, *words):
     """What the program prints, and the median of its processor times."""
-    answers, spent = in_turn({"it": [program, *words]}, RUNS)
+    answers, spent = in_turn({"it": [program, "works", *words]}, RUNS)
     return answers["it"], medians(spent)["it"]
 
 

@@ -2,24 +2,20 @@
 //!
 //! Its words are THREADS, which is 1, 2 or 4, and TURNS, which each thread takes; without them four threads take 25 each.
 //! `bench/desk.sh` times it beside std's Mutex.
-#![tactic(auto)]
-
-mod numbers;
-mod threads;
-
 use crate::threads::run;
 use std::{env, io};
 
-fn main(rt: HostRuntime) -> io::Result<()> {
+/// Takes as many turns as the words after the first say.
+pub fn measure(rt: &HostRuntime) -> io::Result<()> {
     let (mut threads, mut turns) = (4u64, 25u64);
-    for (place, word) in env::args(&rt)?.enumerate() {
+    for (place, word) in env::args(rt)?.enumerate() {
         match (place, word.parse::<u64>()) {
-            (1, Ok(number)) => threads = number,
-            (2, Ok(number)) => turns = number,
+            (2, Ok(number)) => threads = number,
+            (3, Ok(number)) => turns = number,
             _ => (),
         }
     }
-    if let Ok(finished) = run(&rt, rt.alloc(), threads, turns) {
+    if let Ok(finished) = run(rt, rt.alloc(), threads, turns) {
         println!(rt; "{finished}")?;
     }
     Ok(())

@@ -2,12 +2,7 @@
 //!
 //! Its words are `alone` or `beside`, and LIB=PATH for each library. The line that it prints has the microseconds of the load, the turns, the
 //! answers that were given meanwhile, and the microseconds of the slowest of them. Without such words it says how it is used.
-#![tactic(auto)]
-
-mod asking;
-mod loading;
-mod measuring;
-
+//! `bench/follow.sh` runs it.
 use crate::measuring::{Measures, measured};
 use std::alloc::Global;
 use std::{env, io};
@@ -16,20 +11,21 @@ use union_base::memory::Memory;
 use union_io::file_shelf::FileShelf;
 use union_words::libraries::Libraries;
 
-fn main(rt: HostRuntime) -> io::Result<()> {
+/// Loads the files that the words after the first name.
+pub fn measure(rt: &HostRuntime) -> io::Result<()> {
     let alloc = rt.alloc();
-    let words = words(&rt, alloc)?;
+    let words = words(rt, alloc)?;
     let [first, files @ ..] = words.as_slice() else {
-        println!(rt; "usage: bench_follow alone|beside LIB=PATH ..")?;
+        println!(rt; "usage: bench_desks follow alone|beside LIB=PATH ..")?;
         return Ok(());
     };
     let Some(libraries) = Libraries::read(files) else {
-        println!(rt; "usage: bench_follow alone|beside LIB=PATH ..")?;
+        println!(rt; "usage: bench_desks follow alone|beside LIB=PATH ..")?;
         return Ok(());
     };
     let mut shelf = FileShelf::new(alloc, rt.clone()?);
     let is_beside = first.bytes() == b"beside".as_slice();
-    match measured(&rt, alloc, &libraries, is_beside, &mut shelf) {
+    match measured(rt, alloc, &libraries, is_beside, &mut shelf) {
         Ok(
             Measures {
                 load,
@@ -42,10 +38,10 @@ fn main(rt: HostRuntime) -> io::Result<()> {
     }
 }
 
-/// The words after the program's name.
+/// The words after the first.
 fn words(rt: &HostRuntime, alloc: Global) -> io::Result<Vec<Bytes>> {
     let mut words = Vec::new(alloc);
-    for word in env::args(rt)?.skip(1) {
+    for word in env::args(rt)?.skip(2) {
         if let Ok(word) = Bytes::of(alloc, word.as_str().as_bytes()) {
             words.push(word)?;
         }

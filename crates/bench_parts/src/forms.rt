@@ -1,13 +1,10 @@
-//! Makes the normal form of each text of a file and prints how many there are and how many bytes their forms have, for
-//! measurements: `bench/forms.sh` times it.
+//! How many texts a file has, and how many bytes their normal forms. `bench/forms.sh` times it.
 //!
-//! Its word is the path of a file in UTF-8 with a text on each line, after a mark: `1` marks a name, of which the
-//! first comma is kept, and any other character a title.
-#![tactic(auto)]
-
+//! The file is in UTF-8, with a text on each line, after a mark: `1` marks a name, of which the first comma is kept, and any other
+//! character a title.
 use naco_normal::form::{Comma, normal};
 use std::alloc::Global;
-use std::{env, fs, io};
+use std::{fs, io};
 use union_base::memory::Memory;
 
 /// How many texts a file has, and how many bytes their forms.
@@ -38,9 +35,10 @@ fn count_forms(alloc: Global, lines: &str) -> Result<Totals, Memory> {
     Ok(totals)
 }
 
-fn main(rt: HostRuntime) -> io::Result<()> {
-    for path in env::args(&rt)?.skip(1) {
-        let lines = fs::read_to_string(&rt, path.as_str())?;
+/// Prints the totals of each file.
+pub fn measure(rt: &HostRuntime, paths: &[String]) -> io::Result<()> {
+    for path in paths {
+        let lines = fs::read_to_string(rt, path.as_str())?;
         let Ok(totals) = count_forms(rt.alloc(), lines.as_str()) else {
             return eprintln!(rt; "no memory");
         };

@@ -1,13 +1,9 @@
-//! Cuts standard input into frames and writes how many it has, for measurements: `bench/frames.sh` times it.
-#![tactic(auto)]
-
+//! How many frames a stream has, by how they are cut. `bench/frames.sh` times it.
+use crate::stream::{Measure, take_all};
 use iso2709_frame::cut::Cut;
-use iso2709_frame::cutter::Cutter;
+use std::alloc::Global;
 use std::io;
 use std::io::Read;
-
-/// How many bytes are read at once.
-const PIECE: usize = 65_536;
 
 /// How the frames of a stream were cut.
 #[derive(Clone, Copy, Default)]
@@ -17,9 +13,8 @@ struct Counts {
     truncated: u64,
 }
 
-impl Counts {
-    /// Counts one frame.
-    fn count(&mut self, cut: Cut) {
+impl Measure for Counts {
+    fn take(&mut self, _alloc: Global, cut: Cut, _frame: &[u8]) {
         let counted = match cut {
             Cut::Whole => &mut self.whole,
             Cut::TooLong => &mut self.too_long,
@@ -29,39 +24,12 @@ impl Counts {
     }
 }
 
-/// Counts the frames that end in the piece.
-fn count_piece(cutter: &mut Cutter, piece: &[u8], counts: &mut Counts) {
-    let mut rest = piece;
-    while !rest.is_empty() {
-        let (taken, cut) = cutter.feed(rest);
-        if let Some(cut) = cut {
-            counts.count(cut);
-        }
-        let (_, behind) = rest.split_at(taken);
-        rest = behind;
-    }
-}
-
-fn main(rt: HostRuntime) -> io::Result<()> {
-    let mut buffer = vec![in rt.alloc(); 0u8; PIECE]?;
-    let Ok(mut cutter) = Cutter::open(rt.alloc()) else {
-        return eprintln!(rt; "no memory");
-    };
+/// Prints the counts of the stream.
+pub fn measure<S: Read>(rt: &HostRuntime, stream: &mut S) -> io::Result<()> {
     let mut counts = Counts::default();
-    let mut input = rt.stdin();
-    for _ in 0..u64::MAX {
-        let size = input.read(&mut buffer)?;
-        if size == 0 {
-            break;
-        }
-        count_piece(&mut cutter, &buffer[..size], &mut counts);
-    }
-    if let Some(cut) = cutter.finish() {
-        counts.count(cut);
-    }
+    take_all(rt.alloc(), stream, &mut counts)?;
     println!(rt;
         "whole {} too long {} truncated {}",
         counts.whole, counts.too_long, counts.truncated
-    )?;
-    Ok(())
+    )
 }

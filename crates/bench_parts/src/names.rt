@@ -1,22 +1,17 @@
-//! Reads authority records from standard input into a table of names and writes how many it took and how many see-from
-//! headings the table has, for measurements: `bench/names.sh` times it.
-#![tactic(auto)]
-
+//! How many authority records of a stream a table of names takes, and how many see-from headings it has then. `bench/names.sh`
+//! times it.
 ghost use Rattle.marc_fields.specs.Rules.{IsFrame};
 
+use crate::stream::{Measure, take_all};
 use authority_names::name_table::NameTable;
 use iso2709_frame::cut::Cut;
-use iso2709_frame::cutter::Cutter;
 use key_hashing::hashing::Hashing;
 use marc_fields::decoding::{decode, is_frame};
 use std::alloc::Global;
 use std::io;
 use std::io::Read;
 
-/// How many bytes are read at once.
-const PIECE: usize = 65_536;
-
-/// A table, and what became of the frames.
+/// A table, and what became of the frames that were cut whole.
 #[derive(Drop)]
 struct Reading {
     table: NameTable,
@@ -24,9 +19,11 @@ struct Reading {
     refused: u64,
 }
 
-impl Reading {
-    /// Takes in the record that the frame spells.
-    fn take(&mut self, alloc: Global, frame: &[u8]) {
+impl Measure for Reading {
+    fn take(&mut self, alloc: Global, cut: Cut, frame: &[u8]) {
+        let Cut::Whole = cut else {
+            return;
+        };
         if is_frame(frame) && adds(alloc, &mut self.table, frame) {
             self.taken = self.taken.saturating_add(1);
         } else {
@@ -45,42 +42,18 @@ fn adds(alloc: Global, table: &mut NameTable, frame: &[u8]) -> bool
     }
 }
 
-/// Takes in the records whose frames end in the piece.
-fn count_piece(alloc: Global, cutter: &mut Cutter, piece: &[u8], reading: &mut Reading) {
-    let mut rest = piece;
-    while !rest.is_empty() {
-        let (taken, cut) = cutter.feed(rest);
-        if let Some(Cut::Whole) = cut {
-            reading.take(alloc, cutter.frame());
-        }
-        let (_, behind) = rest.split_at(taken);
-        rest = behind;
-    }
-}
-
-fn main(rt: HostRuntime) -> io::Result<()> {
-    let mut buffer = vec![in rt.alloc(); 0u8; PIECE]?;
-    let Ok(mut cutter) = Cutter::open(rt.alloc()) else {
-        return eprintln!(rt; "no memory");
-    };
+/// Prints what became of the stream's records, and the size of the table.
+pub fn measure<S: Read>(rt: &HostRuntime, stream: &mut S) -> io::Result<()> {
     let mut reading = Reading {
         table: NameTable::empty(rt.alloc(), Hashing::fixed()),
         taken: 0,
         refused: 0,
     };
-    let mut input = rt.stdin();
-    for _ in 0..u64::MAX {
-        let size = input.read(&mut buffer)?;
-        if size == 0 {
-            break;
-        }
-        count_piece(rt.alloc(), &mut cutter, &buffer[..size], &mut reading);
-    }
+    take_all(rt.alloc(), stream, &mut reading)?;
     println!(rt;
         "taken {} refused {} pairs {}",
         reading.taken,
         reading.refused,
         reading.table.pairs()
-    )?;
-    Ok(())
+    )
 }

@@ -1,23 +1,17 @@
-//! Checks each frame of standard input against the nineteen rules and writes how many it accepts, for measurements:
-//! `bench/rules.sh` times it. With no word it makes the record of each frame; with any word it asks for the status alone.
-#![tactic(auto)]
-
+//! How many frames of a stream the nineteen rules accept. `bench/rules.sh` times it.
 ghost use Rattle.std.specs.Prelude.{◌≡◌};
 ghost use Rattle.iso2709_frame.specs.Frames.{IsWhole};
 
+use crate::stream::{Measure, take_all};
 use iso2709_frame::cut::Cut;
-use iso2709_frame::cutter::Cutter;
 use marc_rules::check::{Refusal, accepted_status, check_frame};
 use std::alloc::Global;
+use std::io;
 use std::io::Read;
-use std::{env, io};
 
-/// How many bytes are read at once.
-const PIECE: usize = 65_536;
-
-/// What is asked of a frame.
+/// What is asked of a frame: its record, or its status alone, for which no record is made.
 #[derive(Clone, Copy)]
-enum Asked {
+pub enum Asked {
     Record,
     Status,
 }
@@ -32,20 +26,18 @@ fn refusal_of(alloc: Global, asked: Asked, cut: Cut, frame: &[u8]) -> Option<Ref
     }
 }
 
-/// What became of the frames of a stream.
-#[derive(Clone, Copy, Default)]
-struct Counts {
+/// What is asked of the frames of a stream, and what became of them.
+#[derive(Clone, Copy)]
+struct Checking {
+    asked: Asked,
     accepted: u64,
     refused: u64,
     unchecked: u64,
 }
 
-impl Counts {
-    /// Checks and counts one frame.
-    fn check(&mut self, alloc: Global, asked: Asked, cut: Cut, frame: &[u8])
-        requires { cut ≡ Cut.Whole → IsWhole frame.now }
-    {
-        let counted = match refusal_of(alloc, asked, cut, frame) {
+impl Measure for Checking {
+    fn take(&mut self, alloc: Global, cut: Cut, frame: &[u8]) {
+        let counted = match refusal_of(alloc, self.asked, cut, frame) {
             None => &mut self.accepted,
             Some(Refusal::Rule { .. }) => &mut self.refused,
             Some(Refusal::Memory) => &mut self.unchecked,
@@ -54,49 +46,17 @@ impl Counts {
     }
 }
 
-/// Checks the frames that end in the piece.
-fn check_piece(
-    alloc: Global,
-    asked: Asked,
-    cutter: &mut Cutter,
-    piece: &[u8],
-    counts: &mut Counts,
-) {
-    let mut rest = piece;
-    while !rest.is_empty() {
-        let (taken, cut) = cutter.feed(rest);
-        if let Some(cut) = cut {
-            counts.check(alloc, asked, cut, cutter.frame());
-        }
-        let (_, behind) = rest.split_at(taken);
-        rest = behind;
-    }
-}
-
-fn main(rt: HostRuntime) -> io::Result<()> {
-    let mut buffer = vec![in rt.alloc(); 0u8; PIECE]?;
-    let Ok(mut cutter) = Cutter::open(rt.alloc()) else {
-        return eprintln!(rt; "no memory");
+/// Prints what became of the stream's frames.
+pub fn measure<S: Read>(rt: &HostRuntime, asked: Asked, stream: &mut S) -> io::Result<()> {
+    let mut checking = Checking {
+        asked,
+        accepted: 0,
+        refused: 0,
+        unchecked: 0,
     };
-    let asked = match env::args(&rt)?.count() {
-        0 | 1 => Asked::Record,
-        _ => Asked::Status,
-    };
-    let mut counts = Counts::default();
-    let mut input = rt.stdin();
-    for _ in 0..u64::MAX {
-        let size = input.read(&mut buffer)?;
-        if size == 0 {
-            break;
-        }
-        check_piece(rt.alloc(), asked, &mut cutter, &buffer[..size], &mut counts);
-    }
-    if let Some(cut) = cutter.finish() {
-        counts.check(rt.alloc(), asked, cut, &[]);
-    }
+    take_all(rt.alloc(), stream, &mut checking)?;
     println!(rt;
         "accepted {} refused {} unchecked {}",
-        counts.accepted, counts.refused, counts.unchecked
-    )?;
-    Ok(())
+        checking.accepted, checking.refused, checking.unchecked
+    )
 }

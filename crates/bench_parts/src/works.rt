@@ -1,11 +1,8 @@
-//! Changes works as a catalogue does and prints how many there are then, for measurements: `bench/works.sh` times it.
+//! How many works there are after some changes of them, as a catalogue makes them. `bench/works.sh` times it.
 //!
-//! Its words are CHANGES, each of which brings 256 new keys, and SINGLES: changes of one pair that follow, in which a key
-//! comes and goes again in turn. Without them there are four of each.
-#![tactic(auto)]
-
+//! Each change brings 256 new keys; `singles` changes of one pair follow, in which a key comes and goes again in turn.
 use std::alloc::Global;
-use std::{env, io};
+use std::io;
 use union_base::bytes::Bytes;
 use union_base::library_code::LibraryCode;
 use union_base::memory::Memory;
@@ -82,15 +79,8 @@ fn changed(
     Ok(works)
 }
 
-fn main(rt: HostRuntime) -> io::Result<()> {
-    let (mut changes, mut singles) = (4u64, 4u64);
-    for (place, word) in env::args(&rt)?.enumerate() {
-        match (place, word.parse::<u64>()) {
-            (1, Ok(number)) => changes = number,
-            (2, Ok(number)) => singles = number,
-            _ => (),
-        }
-    }
+/// Prints how many works there are after as many changes.
+pub fn measure(rt: &HostRuntime, changes: u64, singles: u64) -> io::Result<()> {
     let Some(library) = LibraryCode::read(b"BENCH") else {
         return eprintln!(rt; "no library");
     };

@@ -1,5 +1,5 @@
 use Rattle.std.proofs.Common.{length}
-use Rattle.bench_names.proofs.count_piece.Given as goal
+use Rattle.bench_parts.proofs.stream.take_piece.Given as goal
 
 -- each turn takes some of what is left
 abbrev pub decreases-loop-rest : goal.decreases-loop-rest

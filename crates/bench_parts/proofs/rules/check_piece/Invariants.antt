@@ -1,6 +1,0 @@
-use Rattle.std.proofs.Common.{length}
-use Rattle.bench_rules.proofs.check_piece.Given as goal
-
--- each turn takes some of what is left
-abbrev pub decreases-loop-rest : goal.decreases-loop-rest
-decreases-loop-rest l = length l.rest
