@@ -3,7 +3,7 @@
 #
 # usage: bench/forms.sh [FILE..]
 #
-# The program is the one that `rt run` builds in crates/bench_parts. Each FILE is a file of MARC 21 records (ISO 2709, UTF-8),
+# The program is `bench_parts forms`, which `rt run` builds. Each FILE is a file of MARC 21 records (ISO 2709, UTF-8),
 # of which bench/headings.py takes the headings and titles; without one, the few below are used. The texts in ASCII and those
 # that have other characters go to two files, each repeated until it has 300,000 texts at least. The program and bench/forms.py
 # read each three times, in turn, and must print the same totals. What is printed is the median of the processor time of each,

@@ -3,7 +3,7 @@
 #
 # usage: bench/frames.sh [FILE]
 #
-# The program is the one that `rt run` builds in crates/bench_parts. FILE is a file of MARC 21 records (ISO 2709); without one,
+# The program is `bench_parts frames`, which `rt run` builds. FILE is a file of MARC 21 records (ISO 2709); without one,
 # made-up frames are used. The file is repeated until it has 300 MB at least. Each of
 # - 'scan', a count of the record terminators by the C library's memchr (a small C program; left out where there is no cc),
 # - 'tr', the same count by tr and wc,

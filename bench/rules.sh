@@ -3,7 +3,7 @@
 #
 # usage: bench/rules.sh [FILE..]
 #
-# The program is the one that `rt run` builds in crates/bench_parts. The FILEs are files of MARC 21 records (ISO 2709), which are
+# The program is `bench_parts rules`, which `rt run` builds. The FILEs are files of MARC 21 records (ISO 2709), which are
 # taken together; without one, a file of 2,000 records is made. Three inputs are made, each repeated until it has 100 MB at least:
 # - 'records': the records of the files,
 # - 'crowded': a frame of 8,330 entries with 13 bytes of data among them,

@@ -3,7 +3,7 @@
 #
 # usage: bench/works.sh [EARLIER]
 #
-# The program is the one that `rt run` builds in crates/bench_parts; EARLIER is such a program built from an earlier state of the
+# The program is `bench_parts works`, which `rt run` builds; EARLIER is such a program built from an earlier state of the
 # repository. Each makes works of 76,800 keys by 300 changes of 256 new keys, and again with changes of one pair after them,
 # 100,000 or, by EARLIER, 1,000; the first run's time is taken off the second's. What is printed is the processor time of a
 # change, from the median of three runs, and the ratios: compare ratios alone.
