@@ -1,4 +1,4 @@
-//! The tests of the crates that load libraries at a desk: catalogue_lock, library_batches, union_reports and load_sessions.
+//! The tests of the crates that load libraries at a desk: catalogue_lock, library_batches and load_sessions.
 //!
 //! What a proof cannot see is tested here by the public calls of each crate: worked sources, desks in several threads, limits and
 //! failing reads. The tests are in a crate of their own, since a crate with tests is proved twice, with them and without: so

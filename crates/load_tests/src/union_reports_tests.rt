@@ -1,12 +1,12 @@
 //! The text of a report.
 use library_batches::outcome_counts::OutcomeCounts;
 use library_batches::refused::RefusedFrame;
+use library_batches::report_texts::{add_left_lines, add_report};
 use marc_fields::rules::Rule;
 use std::test::Fail;
 use union_base::bytes::Bytes;
 use union_base::library_code::LibraryCode;
 use union_base::record_id::RecordId;
-use union_reports::reports::{add_left_lines, add_report};
 
 #[test]
 fn report_of_a_library(rt: HostRuntime) -> Result<(), Fail> {
