@@ -12,4 +12,4 @@ mod library_batches_tests;
 #[cfg(test)]
 mod load_sessions_tests;
 #[cfg(test)]
-mod union_reports_tests;
+mod report_tests;
