@@ -13,6 +13,7 @@ pub use Rattle.catalogue_editions.specs.Batches
 pub use Rattle.catalogue_editions.specs.Ops
 pub use Rattle.catalogue_editions.specs.Net
 pub mod Histories
+pub mod Entries
 pub mod Catalogues
 pub mod Walks
 pub mod Keeping

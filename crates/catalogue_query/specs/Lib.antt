@@ -2,3 +2,5 @@ pub mod Answers
 pub mod Lines
 pub mod Queries
 pub mod Refusals
+pub mod LineTexts
+pub mod Replies

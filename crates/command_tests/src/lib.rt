@@ -1,5 +1,5 @@
-//! The tests of the crates of the program's commands: union_words, union_json, union_script, union_trial, union_watch,
-//! union_commands and union_program.
+//! The tests of the crates of the program's commands: union_words, union_json, union_script, union_trial, union_watch and
+//! union_program.
 //!
 //! What a proof cannot see is tested here by the public calls of each crate: the forms of words, worked files and their texts, each
 //! fault in turn, and sessions that are held by gates. The tests are in a crate of their own, since a crate with tests is

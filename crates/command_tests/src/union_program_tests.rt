@@ -6,13 +6,13 @@ use key_hashing::hashing::Hashing;
 use std::test::Fail;
 use union_base::bytes::Bytes;
 use union_base::library_code::LibraryCode;
-use union_commands::check::check_run;
 use union_io::gate::OpenGate;
 use union_io::sure_shelf::SureShelf;
 use union_io::sure_sink::SureSink;
 use union_io::sure_source::SureSource;
 use union_program::host::Host;
 use union_program::run::union_run;
+use union_watch::check::check_run;
 use union_words::status::Status;
 
 /// The record `id` with the title `Dog`, and with a blank coding.

@@ -7,3 +7,5 @@ pub mod Shares
 pub mod Within
 pub mod Handing
 pub mod Outcomes
+pub mod Tallies
+pub mod Reports

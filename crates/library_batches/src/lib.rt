@@ -5,6 +5,8 @@
 //! out one after the other and keeps the refused frames; its call `next_by` has the frames of a batch checked by several
 //! workers, and hands out the same. The definitions are `AreBatches`, of specs/Batches, and `refused`,
 //! of specs/Refused, on the frames of the whole source; `outcome_counts::OutcomeCounts` counts what came of the operations.
+//! `report_texts::add_report` tells of a source: a line for each refused frame, how many frames there are, and what came of the
+//! others, exactly as specs/Reports says.
 //!
 //! Each frame is checked once and made into a record once, which is gone when its operation is made. Memory grows with the
 //! operations of one batch and with the refused frames, and where several workers check them with the frames of one batch.
@@ -19,5 +21,8 @@ mod cutting;
 pub mod laws;
 pub mod outcome_counts;
 pub mod refused;
+pub mod report;
+pub mod report_lines;
+pub mod report_texts;
 mod shares;
 pub mod stop;

@@ -6,8 +6,7 @@ use Rattle.catalogue_editions.specs.declared.batch.Batch.{Batch}
 use Rattle.catalogue_lock.specs.History.{IsPrefix}
 use Rattle.catalogue_query.specs.declared.answer.Answer.{Answer}
 use Rattle.catalogue_query.specs.declared.query.Query.{Query}
-use Rattle.load_sessions.specs.Askers.{Replied}
-use Rattle.load_sessions.specs.Entries.{tells}
+use Rattle.catalogue_query.specs.Replies.{Replied, tells}
 
 -- whatever the replies to the questions that are left come to be, over any history that goes on, with these before them they are
 -- the replies to all

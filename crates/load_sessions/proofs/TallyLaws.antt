@@ -12,8 +12,8 @@ use Rattle.catalogue_editions.specs.declared.edition.Edition.{Edition}
 use Rattle.catalogue_editions.specs.declared.outcome.Outcome.{Outcome}
 use Rattle.catalogue_lock.specs.History.{changes_of, IsPrefix}
 use Rattle.library_batches.specs.Batches.{block_size}
-use Rattle.load_sessions.specs.Entries.{history_of, gives}
-use Rattle.load_sessions.specs.Tallies.{found_from, found}
+use Rattle.catalogue_core.specs.Entries.{history_of, gives}
+use Rattle.library_batches.specs.Tallies.{found_from, found}
 
 -- the current records after entries
 abbrev after_entries : MapOf Edition → List (ℕ × Batch) → MapOf Edition

@@ -1,24 +1,13 @@
 -- What an asker is told.
-use Rattle.std.specs.Prelude.{◌≡◌, ◌⊎◌, ℕ, ◌≤◌, ⊤, List, [], ◌∷◌, length, take}
-use Rattle.authority_names.specs.Leads.{Table}
+use Rattle.std.specs.Prelude.{◌≡◌, ◌⊎◌, ◌≤◌, [], length}
 use Rattle.catalogue_editions.specs.declared.batch.Batch.{Batch}
 use Rattle.catalogue_lock.specs.History.{IsPrefix}
 use Rattle.catalogue_lock.specs.Tokens.{view, IsSamePass}
 use Rattle.catalogue_lock.specs.declared.view.View.{View}
-use Rattle.catalogue_query.specs.declared.answer.Answer.{Answer}
-use Rattle.catalogue_query.specs.declared.query.Query.{Query}
 use Rattle.atomic_table.specs.Seated.{TableId}
-use Rattle.load_sessions.specs.Entries.{tells}
+use Rattle.catalogue_query.specs.Replies.{Replied}
 use Rattle.load_sessions.specs.declared.asker.Asker.{Asker}
 use Rattle.load_sessions.specs.declared.end.End.TheVariants.{NotRun, Done, Memory}
-
--- by the names, the replies are to the first questions, as many as there are: each is over the first entries of the history, as many as
--- it says, at least those that were known before, and at least those of the reply before it
-abbrev pub Replied : Table → List (ℕ × Batch) → ℕ → List Query → List (ℕ × Answer) → Type 0
-Replied names history known questions [] = ⊤
-Replied names history known [] (reply ∷ replies) = ⊥
-Replied names history known (question ∷ questions) (reply ∷ replies) =
-    (known ≤ reply.0) × (reply.0 ≤ length history) × tells names (take reply.0 history) question reply.1 × Replied names history reply.0 questions replies
 
 -- a pass that asked has no entry more, and it knows at least what it knew
 pub record Knows {S : Type 0} (before now : View S Batch) : Type 0 where

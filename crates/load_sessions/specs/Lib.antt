@@ -1,5 +1,3 @@
-pub mod Entries
-pub mod Tallies
 pub mod Sessions
 pub mod Turning
 pub mod Askers

@@ -7,27 +7,13 @@ use Rattle.library_batches.specs.Refused.{refused}
 use Rattle.library_batches.specs.Batches.{AreBatches, AreFirstBatches}
 use Rattle.library_batches.specs.Outcomes.{AreCounted}
 use Rattle.library_batches.specs.Reading.{most_bytes}
-use Rattle.library_batches.specs.declared.outcome_counts.OutcomeCounts.{OutcomeCounts}
+use Rattle.library_batches.specs.Reports.{IsBlank, counts_of}
 use Rattle.catalogue_editions.specs.declared.batch.Batch.{Batch}
-use Rattle.load_sessions.specs.Tallies.{found}
+use Rattle.library_batches.specs.Tallies.{found}
 use Rattle.load_sessions.specs.declared.end.End.TheVariants.{NotRun, Done, ReadFault, TooLong}
-use Rattle.load_sessions.specs.declared.report.Report.{Report}
+use Rattle.library_batches.specs.declared.report.Report.{Report}
 use Rattle.load_sessions.specs.declared.session.Session.{Session}
 use Rattle.atomic_table.specs.Seated.{TableId}
-
--- nothing is told yet
-pub record IsBlank (report : Report) : Type 0 where
-  pub frames_are : report.frames ≡ 0
-  pub refused_are : report.refused.items ≡ []
-  pub added_are : report.added ≡ 0
-  pub replaced_are : report.replaced ≡ 0
-  pub removed_are : report.removed ≡ 0
-  pub absent_are : report.absent ≡ 0
-
--- the four counts of a report
-abbrev pub counts_of : Report → OutcomeCounts
-counts_of report =
-    record { added = report.added; replaced = report.replaced; removed = report.removed; absent = report.absent }
 
 -- the report has the frames of the whole source and the refused ones of them, and the batches are those of the source, which is
 -- within the limit

@@ -13,7 +13,7 @@ use Rattle.library_batches.specs.declared.stop.Stop.{Stop}
 use Rattle.library_batches.specs.declared.stop.Stop.TheVariants.{TooLong, Failed, Memory}
 use Rattle.atomic_table.specs.Seated.{TableId}
 use Rattle.load_sessions.specs.Sessions.{IsSameSession}
-use Rattle.load_sessions.specs.Tallies.{found}
+use Rattle.library_batches.specs.Tallies.{found}
 use Rattle.load_sessions.specs.declared.end.End.{End}
 use Rattle.load_sessions.specs.declared.end.End.TheVariants.{Done, ReadFault, TooLong as TooLongEnd, Memory as MemoryEnd}
 use Rattle.load_sessions.specs.declared.session.Session.{Session}

@@ -6,7 +6,7 @@ ghost use Rattle.library_stream.specs.Streaming.{most_ahead};
 ghost use Rattle.library_batches.specs.Batches.{block_size};
 ghost use Rattle.library_batches.specs.Reading.{AnswersBatch};
 ghost use Rattle.load_sessions.specs.Sessions.{IsSameSession};
-ghost use Rattle.load_sessions.specs.Tallies.{found};
+ghost use Rattle.library_batches.specs.Tallies.{found};
 ghost use Rattle.load_sessions.specs.Turning.{stop_beside};
 
 use crate::crew::Crew;

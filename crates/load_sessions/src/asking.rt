@@ -1,7 +1,8 @@
 //! The asking of questions.
 ghost use Rattle.std.specs.Prelude.{◌≡◌, [], length, OnOk};
 ghost use Rattle.catalogue_lock.specs.Tokens.{view, IsPassOf, IsSamePass};
-ghost use Rattle.load_sessions.specs.Askers.{Asks, IsAsker, Knows, Replied};
+ghost use Rattle.load_sessions.specs.Askers.{Asks, IsAsker, Knows};
+ghost use Rattle.catalogue_query.specs.Replies.{Replied};
 
 use crate::asker::Asker;
 use crate::end::End;

@@ -2,7 +2,7 @@
 ghost use Rattle.std.specs.Prelude.{◌≡◌, ◌≤◌, ◌++◌, ◌∷◌, [], length, IfOk, OnOk, OnErr};
 ghost use Rattle.catalogue_lock.specs.Tokens.{view, IsPassOf, IsSamePass};
 ghost use Rattle.library_batches.specs.Batches.{block_size};
-ghost use Rattle.load_sessions.specs.Tallies.{found};
+ghost use Rattle.library_batches.specs.Tallies.{found};
 
 use crate::served::Served;
 use catalogue_core::outcome::Outcome;

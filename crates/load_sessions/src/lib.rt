@@ -7,8 +7,9 @@
 //! `running::run_sessions` runs some sessions on some threads. Whatever their turns' order, each session's pass has gained
 //! the first batches of its source in their order, and all of them where its end is Done; its report then has the frames, the
 //! refused ones, and what came of its operations in the one history of the desk. The machine of the desk is
-//! `served::Served`, whose entries are the history of a catalogue. Definitions: specs/Sessions.antt, specs/Tallies.antt,
-//! specs/Askers.antt.
+//! `served::Served`, whose entries are the history of a catalogue. `watched::Watched` is what a load with questions comes to,
+//! also where no session makes it. Definitions: specs/Sessions.antt, specs/Askers.antt; `found` of library_batches says what came of
+//! a session's operations, and `Replied` of catalogue_query what the replies are.
 //!
 //! Cost: a turn for each batch, and of memory the reader of one source for each session that is under way, with one batch, or two
 //! where it reads ahead, which makes a thread for each turn.
@@ -21,10 +22,9 @@ pub mod crew;
 mod due;
 pub mod end;
 pub mod preparing;
-pub mod questions;
 mod reading;
-pub mod report;
 pub mod running;
 pub mod served;
 pub mod session;
 mod turning;
+pub mod watched;

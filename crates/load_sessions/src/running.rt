@@ -2,7 +2,8 @@
 ghost use Rattle.std.specs.Prelude.{◌≡◌, ◌<◌, ◌≤◌, All};
 ghost use Rattle.library_batches.specs.Reading.{begun};
 ghost use Rattle.load_sessions.specs.Askers.{Asks, IsAsker};
-ghost use Rattle.load_sessions.specs.Sessions.{IsReady, Runs, RunsEach, counts_of};
+ghost use Rattle.load_sessions.specs.Sessions.{IsReady, Runs, RunsEach};
+ghost use Rattle.library_batches.specs.Reports.{counts_of};
 ghost use Rattle.load_sessions.specs.Turning.{Ends};
 
 use crate::asker::Asker;
@@ -10,13 +11,13 @@ use crate::asking::ask_all;
 use crate::crew::Crew;
 use crate::due::Turning;
 use crate::end::End;
-use crate::report::Report;
 use crate::served::Served;
 use crate::session::Session;
 use crate::turning::turn_batches;
 use catalogue_lock::desk::Desk;
 use library_batches::batch_reader::BatchReader;
 use library_batches::outcome_counts::OutcomeCounts;
+use library_batches::report::Report;
 use library_batches::stop::Stop;
 use std::alloc::Global;
 use std::sync::Wait;

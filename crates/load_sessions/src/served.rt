@@ -5,7 +5,8 @@ ghost use Rattle.std.proofs.lemmas.List.{length-map};
 ghost use Rattle.std.specs.FinMap.{empty};
 ghost use Rattle.catalogue_core.specs.Catalogues.{by_names};
 ghost use Rattle.catalogue_core.specs.Histories.{current, outcomes};
-ghost use Rattle.load_sessions.specs.Entries.{entries_of, gives, tells};
+ghost use Rattle.catalogue_core.specs.Entries.{entries_of, gives};
+ghost use Rattle.catalogue_query.specs.Replies.{tells};
 
 use authority_names::name_table::NameTable;
 use catalogue_core::catalogue::Catalogue;

@@ -1,13 +1,13 @@
 //! The loading of one library.
 ghost use Rattle.std.specs.Prelude.{◌≡◌};
 ghost use Rattle.catalogue_lock.specs.Tokens.{view};
-ghost use Rattle.load_sessions.specs.Sessions.{IsBlank};
+ghost use Rattle.library_batches.specs.Reports.{IsBlank};
 
 use crate::end::End;
-use crate::report::Report;
 use crate::served::Served;
 use catalogue_lock::pass::Pass;
 use field_merge::preference::Preference;
+use library_batches::report::Report;
 use std::alloc::Global;
 use union_base::library_code::LibraryCode;
 

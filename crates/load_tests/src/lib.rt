@@ -1,5 +1,5 @@
-//! The tests of the crates that load libraries at a desk: catalogue_lock, library_batches, union_reports and load_sessions; and of
-//! snapshot_desk, which publishes what was loaded.
+//! The tests of the crates that load libraries at a desk: catalogue_lock, library_batches and load_sessions; and of snapshot_desk,
+//! which publishes what was loaded.
 //!
 //! What a proof cannot see is tested here by the public calls of each crate: worked sources, desks in several threads, limits and
 //! failing reads, and a viewer that asks in another thread. The tests are in a crate of their own, since a crate with tests is
@@ -16,8 +16,8 @@ mod load_sessions_tests;
 #[cfg(test)]
 mod one_record;
 #[cfg(test)]
+mod report_tests;
+#[cfg(test)]
 mod snapshot_desk_tests;
 #[cfg(test)]
 mod two_threads_tests;
-#[cfg(test)]
-mod union_reports_tests;

@@ -1,8 +1,8 @@
 -- The names of a run, where they were read.
 use Rattle.std.proofs.Common.{ℕ, List, refl, ap, length}
 use Rattle.std.specs.Prelude.{Option, None, Some, IfSome, Ok, cond}
-use Rattle.union_inputs.specs.Inputs as all
-use Rattle.union_inputs.proofs.InputLaws.{not_over, on_files, on_all}
+use Rattle.union_files.specs.Limits as all
+use Rattle.union_files.proofs.LimitLaws.{not_over, on_files, on_all}
 use Rattle.union_words.specs.Flows.{ShelfFlow, IsCalm}
 use Rattle.union_words.specs.declared.input.Input.TheVariants.{Names}
 use Rattle.names_file.specs.Named.{IsNamedBy, named_by, names_file, names_inputs, ReadsNames}

@@ -7,7 +7,7 @@ use Rattle.iso2709_frame.specs.Frames.{frames}
 use Rattle.union_words.specs.Flows.{ShelfFlow, IsCalm, InputFile}
 use Rattle.union_words.specs.declared.input.Input.TheVariants.{Names}
 use Rattle.union_words.specs.declared.status.Status.{Status}
-use Rattle.union_inputs.specs.Readings.{ReadsFile}
+use Rattle.union_files.specs.Readings.{ReadsFile}
 use Rattle.names_file.specs.NamesFiles.{IsNamesFile}
 use Rattle.names_file.specs.declared.names_read.NamesRead.{NamesRead}
 

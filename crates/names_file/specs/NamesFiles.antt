@@ -4,7 +4,7 @@ use Rattle.std.specs.List.{flat_map}
 use Rattle.authority_names.specs.Leads.{Table, IsTableOf}
 use Rattle.authority_names.specs.Names.{Authority, IsSize, name_at}
 use Rattle.library_batches.specs.Streams.{Frame}
-use Rattle.union_reports.specs.Reports.{counted}
+use Rattle.library_batches.specs.Reports.{counted}
 use Rattle.names_file.specs.Judging.{Judged, IsSo, fault_name, fault_place}
 use Rattle.names_file.specs.declared.fault.NameFault.{NameFault}
 use Rattle.names_file.specs.declared.names_read.NamesRead.{NamesRead}

@@ -5,8 +5,8 @@ ghost use Rattle.names_file.specs.NamesFiles.{IsTally, counts_line, refused_line
 
 use crate::fault::NameFault;
 use crate::tally::Tally;
+use library_batches::report_lines::add_counted;
 use std::alloc::{AllocError, Global};
-use union_reports::lines::add_counted;
 
 impl Tally {
     /// The count of no frames.

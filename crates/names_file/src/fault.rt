@@ -2,8 +2,8 @@
 ghost use Rattle.std.specs.Prelude.{◌≡◌};
 ghost use Rattle.names_file.specs.Judging.{fault_name, fault_place};
 
+use library_batches::report_lines::rule_name;
 use marc_fields::rules::Rule;
-use union_reports::lines::rule_name;
 
 /// Why a frame of a file of names is refused.
 #[derive(Clone, Copy, Debug, PartialEq, Eq)]

@@ -2,7 +2,7 @@
 ghost use Rattle.std.specs.Prelude.{◌≡◌, ◌≢◌, ◌<◌, ◌+◌, ◌++◌, ◌∷◌, [], List, IfOk, OnOk};
 ghost use Rattle.iso2709_frame.specs.Frames.{frames, IsWhole};
 ghost use Rattle.library_stream.specs.declared.frame_reader.TheConstants.{LARGEST_SOURCE};
-ghost use Rattle.union_inputs.specs.Readings.{Reads};
+ghost use Rattle.union_files.specs.Readings.{Reads};
 ghost use Rattle.names_file.specs.Judging.{Judged};
 ghost use Rattle.names_file.specs.NamesFiles.{IsReading, IsNamesRead, IsNamesFile, AreRead};
 

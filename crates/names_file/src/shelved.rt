@@ -2,7 +2,7 @@
 ghost use Rattle.std.specs.Prelude.{◌≡◌};
 ghost use Rattle.std.specs.Option.{option_copied};
 ghost use Rattle.iso2709_frame.specs.Frames.{frames};
-ghost use Rattle.union_inputs.specs.Readings.{ReadsFile};
+ghost use Rattle.union_files.specs.Readings.{ReadsFile};
 ghost use Rattle.names_file.specs.Named.{ReadsNames, names_file};
 ghost use Rattle.names_file.specs.NamesFiles.{IsNamesFile};
 
@@ -13,7 +13,7 @@ use key_hashing::hashing::Hashing;
 use std::alloc::Global;
 use union_base::bytes::Bytes;
 use union_base::memory::Memory;
-use union_inputs::stops::stopped_with;
+use union_files::stops::stopped_with;
 use union_io::shelf::{OpenFail, Shelf};
 use union_words::input::Input;
 use union_words::status::Status;

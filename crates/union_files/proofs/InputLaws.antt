@@ -11,8 +11,8 @@ use Rattle.union_words.specs.declared.input.Input.{Input}
 use Rattle.union_words.specs.declared.status.Status.{Status}
 use Rattle.union_words.specs.declared.status.Status.TheVariants.{Done, DoneWithRefusals, Usage, OpenFault, ReadFault, WriteFault, TooLong, Memory}
 use Rattle.union_words.specs.Flows.{FailsAt}
-use Rattle.union_inputs.specs.Inputs.{Contents}
-use Rattle.union_inputs.proofs.FileLaws.{Counts, flow, same_more}
+use Rattle.union_files.specs.Limits.{Contents}
+use Rattle.union_files.proofs.FileLaws.{Counts, flow, same_more}
 use Rattle.union_files.specs.Inputs.{inputs_of, StopsOpening, OpensInOrder, is_open_fault}
 
 fails_later : (input : Input) (libraries : List LibraryFile) (files : Option Contents) (a b c : Counts) → FailsAt (inputs_of libraries) (flow files a b) input

@@ -1,6 +1,15 @@
+pub mod FileLaws
+pub mod SourceLaws
+pub mod LimitLaws
+pub mod BatchLaws
+pub mod FrameLaws
 pub mod InputLaws
 pub mod DistinctLaws
 pub mod OwnLaws
 pub mod InterleavingLaws
 pub mod UnionLaws
 pub mod RunLaws
+pub mod ListLaws
+pub mod OwnEntryLaws
+pub mod CourseLaws
+pub mod ReportLaws

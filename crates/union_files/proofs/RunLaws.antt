@@ -15,11 +15,11 @@ use Rattle.union_words.specs.declared.input.Input.{Input}
 use Rattle.union_words.specs.declared.input.Input.TheVariants.{Library}
 use Rattle.union_words.specs.declared.status.Status.{Status}
 use Rattle.union_words.specs.declared.status.Status.TheVariants.{Done, DoneWithRefusals, Usage, OpenFault, ReadFault, WriteFault, TooLong, Memory}
-use Rattle.union_inputs.specs.Inputs as all
-use Rattle.union_inputs.specs.Readings as one
-use Rattle.union_inputs.specs.Inputs.{Contents}
-use Rattle.union_inputs.proofs.FileLaws.{Counts, flow, same_more}
-use Rattle.union_inputs.proofs.InputLaws.{not_over, none_fails, told, within_none, on_both}
+use Rattle.union_files.specs.Limits as all
+use Rattle.union_files.specs.Readings as one
+use Rattle.union_files.specs.Limits.{Contents}
+use Rattle.union_files.proofs.FileLaws.{Counts, flow, same_more}
+use Rattle.union_files.proofs.LimitLaws.{not_over, none_fails, told, within_none, on_both}
 use Rattle.union_files.specs.Inputs.{input_of, inputs_of, is_overfull, first_overfull, AreWithin, IsTooLongAt, IsEarliest, FailsEarliest, StopsAt}
 use Rattle.union_files.specs.Runs.{RunTexts, IsRunOver}
 

@@ -6,7 +6,7 @@ use Rattle.library_batches.specs.Batches.{AreBatches}
 use Rattle.library_batches.specs.Outcomes.{found_in}
 use Rattle.library_batches.specs.Refused.{refused}
 use Rattle.library_batches.specs.Streams.{Frame}
-use Rattle.union_reports.specs.Reports.{report_text}
+use Rattle.library_batches.specs.Reports.{report_text}
 
 -- the frames of a library's source, and the preference by which their records are loaded: the list of its codes, the best first
 pub record Delivery : Type 0 where

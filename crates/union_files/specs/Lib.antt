@@ -1,5 +1,9 @@
+pub mod Limits
+pub mod Readings
+pub mod Endings
 pub mod Deliveries
 pub mod Interleavings
 pub mod Unions
 pub mod Inputs
 pub mod Runs
+pub mod Courses

@@ -3,7 +3,7 @@
 use Rattle.std.specs.Prelude.{◌≡◌, ◌≢◌, ℕ, ◌⊎◌, false, IsTrue, List, ◌++◌, Some, IfSome}
 use Rattle.std.specs.Io.KnownBytes.{Appends, Keeps}
 use Rattle.union_io.specs.Writing.{AppendsFront}
-use Rattle.union_inputs.specs.Inputs.{AreWithin, IsTooLongAt, Contents}
+use Rattle.union_files.specs.Limits.{AreWithin, IsTooLongAt, Contents}
 use Rattle.union_words.specs.Flows.{ShelfFlow, IsCalm, InputFile, FailsAt, NoneFails, Outflow, HasFailedAt, IsCutOff}
 use Rattle.union_words.specs.Statuses.{is_done, is_early, is_input_fault}
 use Rattle.union_words.specs.Words.{LibraryFile}

@@ -5,10 +5,9 @@ use mathlib.Core.List.{IsPrefix}
 use Rattle.catalogue_core.specs.declared.history_entry.HistoryEntry.{HistoryEntry}
 use Rattle.catalogue_query.specs.declared.answer.Answer.{Answer}
 use Rattle.catalogue_query.specs.declared.query.Query.{Query}
-use Rattle.load_sessions.specs.Askers.{Replied}
-use Rattle.load_sessions.specs.Entries.{entries_of}
-use Rattle.load_results.proofs.ReplyLaws.{replied_over}
-use Rattle.load_results.specs.Replies.{AreReplies}
+use Rattle.catalogue_query.specs.Replies.{Replied, AreReplies}
+use Rattle.catalogue_core.specs.Entries.{entries_of}
+use Rattle.load_sessions.proofs.ReplyLaws.{replied_over}
 use Rattle.union_follow.proofs.EntryLaws.{entries_prefix}
 
 -- what a viewer replied over a prefix of the history it replied over the history

@@ -11,8 +11,9 @@ use Rattle.catalogue_editions.specs.declared.batch.Batch.{Batch}
 use Rattle.catalogue_lock.specs.History.{changes_of, IsPrefix as IsEntryPrefix}
 use Rattle.catalogue_query.specs.declared.answer.Answer.{Answer}
 use Rattle.catalogue_query.specs.declared.query.Query.{Query}
-use Rattle.load_sessions.specs.Entries.{entries_of, history_of, tells}
-use Rattle.load_sessions.specs.Tallies.{found}
+use Rattle.catalogue_core.specs.Entries.{entries_of, history_of}
+use Rattle.catalogue_query.specs.Replies.{tells}
+use Rattle.library_batches.specs.Tallies.{found}
 use Rattle.load_sessions.proofs.AskLaws.{IsPrefix-same}
 use Rattle.load_sessions.proofs.TallyLaws.{found-turn}
 use Rattle.snapshot_desk.specs.Answering.{IsAnswerOver}

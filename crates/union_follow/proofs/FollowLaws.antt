@@ -9,10 +9,10 @@ use Rattle.library_batches.specs.declared.stop.Stop.TheVariants.{TooLong, Failed
 use Rattle.library_stream.specs.declared.frame_reader.TheConstants.{LARGEST_SOURCE}
 use Rattle.union_files.specs.Inputs.{AreWithin, OpenedState, file_of, files_of, is_overfull, first_overfull}
 use Rattle.union_io.specs.Files.{told_file}
-use Rattle.union_inputs.specs.Inputs.{Contents}
-use Rattle.union_inputs.specs.Readings.{IsStop, Reads}
-use Rattle.union_inputs.proofs.InputLaws.{on_both}
-use Rattle.load_results.specs.declared.reports.Reports.{Reports}
+use Rattle.union_files.specs.Limits.{Contents}
+use Rattle.union_files.specs.Readings.{IsStop, Reads}
+use Rattle.union_files.proofs.LimitLaws.{on_both}
+use Rattle.union_files.specs.declared.reports.Reports.{Reports}
 use Rattle.union_words.specs.Words.{LibraryFile}
 use Rattle.union_follow.specs.Turning.{AreCalm, AreTurnedFrom, AreUnread, HaltsIn, IsTurned, StopsIn}
 use Rattle.union_follow.specs.declared.libraries.Halt.{Halt}

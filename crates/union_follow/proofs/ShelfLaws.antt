@@ -5,13 +5,13 @@ use Rattle.catalogue_core.specs.declared.history_entry.HistoryEntry.{HistoryEntr
 use Rattle.library_batches.specs.declared.stop.Stop.{Stop}
 use Rattle.library_batches.specs.declared.stop.Stop.TheVariants.{TooLong, Failed, Memory}
 use Rattle.union_files.specs.Inputs.{AreFresh, AreWithin, OpenedState, file_of, files_of}
-use Rattle.union_inputs.specs.Inputs.{Contents}
-use Rattle.union_inputs.proofs.FileLaws.{Counts, flow}
+use Rattle.union_files.specs.Limits.{Contents}
+use Rattle.union_files.proofs.FileLaws.{Counts, flow}
 use Rattle.union_files.proofs.InterleavingLaws.{unmapped-at}
 use Rattle.union_io.specs.Causes.{Rose}
 use Rattle.union_io.specs.Counts.{SameCounts, SameElsewhere}
 use Rattle.union_io.specs.Names.{is_among}
-use Rattle.load_results.specs.declared.reports.Reports.{Reports}
+use Rattle.union_files.specs.declared.reports.Reports.{Reports}
 use Rattle.union_words.specs.Words.{LibraryFile}
 use Rattle.union_follow.specs.Turning.{AreCalm, AreListed, AreTurnedFrom, AreUnread, FailsOnly, HaltsAt, HaltsIn, StopsIn}
 use Rattle.union_follow.specs.declared.libraries.Halt.{Halt}

@@ -11,17 +11,17 @@ use Rattle.catalogue_editions.specs.declared.batch.Batch.{Batch}
 use Rattle.catalogue_lock.specs.History.{changes_of}
 use Rattle.catalogue_lock.specs.Rule.{EndedOk}
 use Rattle.iso2709_frame.specs.Frames.{frames}
-use Rattle.load_sessions.specs.Entries.{entries_of}
-use Rattle.union_inputs.specs.Inputs.{Contents}
+use Rattle.catalogue_core.specs.Entries.{entries_of}
+use Rattle.union_files.specs.Limits.{Contents}
 use Rattle.union_files.specs.Deliveries.{codes_of, AreDistinct, delivery, has_refused}
 use Rattle.union_files.specs.Inputs.{deliveries}
 use Rattle.union_files.specs.Unions.{HasUnited}
 use Rattle.union_files.specs.declared.loaded.Loaded.{Loaded}
-use Rattle.load_results.proofs.CourseLaws.{united, delivered-files}
-use Rattle.load_results.proofs.ListLaws.{all_both, each_weaker}
-use Rattle.load_results.proofs.ReportLaws.{reported_both}
-use Rattle.load_results.specs.Courses.{Course, AreNumbered, AreReported, course_text, delivery_of, ended_of, file_of_course}
-use Rattle.load_results.specs.declared.reports.Reports.{Reports}
+use Rattle.union_files.proofs.CourseLaws.{united, delivered-files}
+use Rattle.union_files.proofs.ListLaws.{all_both, each_weaker}
+use Rattle.union_files.proofs.ReportLaws.{reported_both}
+use Rattle.union_files.specs.Courses.{Course, AreNumbered, AreReported, course_text, delivery_of, ended_of, file_of_course}
+use Rattle.union_files.specs.declared.reports.Reports.{Reports}
 use Rattle.union_words.specs.Words.{LibraryFile}
 use Rattle.union_follow.proofs.EntryLaws.{pair, entries_prefix}
 use Rattle.union_follow.specs.Following.{HasFollowed, IsInOrder}

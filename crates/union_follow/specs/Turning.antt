@@ -13,8 +13,8 @@ use Rattle.library_batches.specs.Streams.{Frame}
 use Rattle.library_batches.specs.declared.outcome_counts.OutcomeCounts.{OutcomeCounts}
 use Rattle.library_batches.specs.declared.stop.Stop.{Stop}
 use Rattle.library_batches.specs.declared.stop.Stop.TheVariants.{TooLong, Failed, Memory}
-use Rattle.load_sessions.specs.Entries.{entries_of}
-use Rattle.load_sessions.specs.Tallies.{found}
+use Rattle.catalogue_core.specs.Entries.{entries_of}
+use Rattle.library_batches.specs.Tallies.{found}
 use Rattle.snapshot_desk.specs.States.{Publishing}
 use Rattle.union_files.specs.Deliveries.{delivery, has_refused}
 use Rattle.union_files.specs.Inputs.{OpenedState, AreWithin, files_of, first_overfull, states_of}
@@ -23,8 +23,8 @@ use Rattle.union_io.specs.Causes.{Rose}
 use Rattle.union_io.specs.Counts.{SameElsewhere}
 use Rattle.union_io.specs.Files.{told_file}
 use Rattle.union_io.specs.Names.{is_among}
-use Rattle.union_reports.specs.Reports.{report_text}
-use Rattle.load_results.specs.declared.reports.Reports.{Reports}
+use Rattle.library_batches.specs.Reports.{report_text}
+use Rattle.union_files.specs.declared.reports.Reports.{Reports}
 use Rattle.union_words.specs.Flows.{ShelfFlow, IsCalm}
 use Rattle.union_words.specs.Words.{LibraryFile}
 use Rattle.union_follow.specs.declared.libraries.Halt.{Halt}

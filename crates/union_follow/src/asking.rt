@@ -2,8 +2,8 @@
 ghost use Rattle.std.specs.Prelude.{◌≡◌, [], length, OnOk};
 ghost use Rattle.std.specs.FinMap.{empty};
 ghost use mathlib.Core.List.{IsPrefix};
-ghost use Rattle.load_sessions.specs.Askers.{Replied};
-ghost use Rattle.load_sessions.specs.Entries.{entries_of};
+ghost use Rattle.catalogue_query.specs.Replies.{Replied};
+ghost use Rattle.catalogue_core.specs.Entries.{entries_of};
 
 use catalogue_query::answer::Answer;
 use catalogue_query::query::Query;

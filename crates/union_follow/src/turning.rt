@@ -9,7 +9,6 @@ use catalogue_core::batch::Batch;
 use catalogue_core::catalogue::Catalogue;
 use catalogue_core::history_entry::HistoryEntry;
 use catalogue_core::outcome::Outcome;
-use load_results::reports::Reports;
 use merge_laws::steps::Steps;
 use snapshot_desk::publisher::Publisher;
 use std::alloc::Global;
@@ -18,6 +17,7 @@ use std::sync::Wait;
 use std::sync::ledger::{Blank, Ledger};
 use union_base::copied::Copied;
 use union_base::memory::Memory;
+use union_files::reports::Reports;
 
 /// A load: its catalogue, which has no names, the publisher that shows its history, and the reports of the libraries that are loaded.
 pub struct Load {

@@ -2,7 +2,7 @@
 use Rattle.std.specs.Prelude.{◌≡◌, ◌≢◌, ℕ, ◌⊎◌, ◌≤◌, false, IsTrue, List, length, Some, IfSome}
 use Rattle.std.specs.Io.KnownBytes.{Appends, Keeps}
 use Rattle.library_batches.specs.Reading.{most_bytes}
-use Rattle.union_inputs.specs.Endings.{EndsAtInput}
+use Rattle.union_files.specs.Endings.{EndsAtInput}
 use Rattle.union_json.specs.FromJson.{IsFromJson}
 use Rattle.union_json.specs.Texts.{Making}
 use Rattle.union_json.specs.ToJson.{IsToJson}

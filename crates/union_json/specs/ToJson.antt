@@ -6,8 +6,8 @@ use Rattle.library_batches.specs.Refused.{refused}
 use Rattle.library_batches.specs.Streams.{Frame, accepted, AreSpelled}
 use Rattle.marc_fields.specs.declared.marc_record.Record.{Record}
 use Rattle.marc_json.specs.Values.{json_line}
-use Rattle.union_inputs.specs.Endings.{end_with}
-use Rattle.union_reports.specs.Reports.{refused_lines}
+use Rattle.union_files.specs.Endings.{end_with}
+use Rattle.library_batches.specs.Reports.{refused_lines}
 use Rattle.union_json.specs.Texts.{Making, count_line}
 use Rattle.union_json.specs.declared.written.Written.{Written}
 

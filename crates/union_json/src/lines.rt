@@ -3,8 +3,8 @@ ghost use Rattle.std.specs.Prelude.{◌≡◌, ◌++◌, OnOk};
 ghost use Rattle.union_json.specs.Texts.{count_line, reason_name, reason_place, refused_line, refused_lines};
 
 use crate::outcome::{Reason, RefusedLine};
+use library_batches::report_lines::{add_counted, rule_name};
 use std::alloc::AllocError;
-use union_reports::lines::{add_counted, rule_name};
 
 /// How many things there are, of how many something is written, and how many are refused.
 #[derive(Clone, Copy, Debug, PartialEq, Eq)]

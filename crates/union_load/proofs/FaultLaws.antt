@@ -7,12 +7,12 @@ use Rattle.std.specs.List.{list_any}
 use Rattle.std.specs.Option.{option_map}
 use Rattle.std.proofs.lemmas.Option.{same_Some}
 use Rattle.union_io.specs.Counts.{SameCounts}
-use Rattle.union_inputs.specs.Inputs.{Contents}
-use Rattle.union_inputs.proofs.FileLaws.{Counts, flow}
+use Rattle.union_files.specs.Limits.{Contents}
+use Rattle.union_files.proofs.FileLaws.{Counts, flow}
 use Rattle.union_files.proofs.InputLaws.{drop_at}
 use Rattle.union_files.specs.Inputs.{Gathers, input_of, inputs_of, IsEarliest, IsElsewhere, StopsAt}
 use Rattle.load_sessions.specs.declared.session.Session.{Session}
-use Rattle.load_results.specs.Courses.{Course, file_of_course}
+use Rattle.union_files.specs.Courses.{Course, file_of_course}
 use Rattle.union_load.specs.Sessions.{course_of, courses_of, Closes, fails_on, is_failed_in, first_failed, NoneFailed, RaisesFailed}
 use Rattle.union_words.specs.Flows.{ShelfFlow}
 use Rattle.union_words.specs.Words.{LibraryFile}

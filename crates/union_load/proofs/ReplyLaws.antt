@@ -12,11 +12,11 @@ use Rattle.catalogue_lock.specs.History.{changes_of}
 use Rattle.catalogue_lock.specs.Rule.{EndedOk}
 use Rattle.catalogue_query.specs.declared.answer.Answer.{Answer}
 use Rattle.catalogue_query.specs.declared.query.Query.{Query}
-use Rattle.load_sessions.specs.Entries.{entries_of}
-use Rattle.load_results.proofs.ListLaws.{all_both, each_place, each_weaker, element, first_of_both}
-use Rattle.load_results.proofs.ReplyLaws.{replied_over}
-use Rattle.load_results.specs.Courses.{Course, AreNumbered, ended_of}
-use Rattle.load_results.specs.Replies.{AreReplies}
+use Rattle.catalogue_core.specs.Entries.{entries_of}
+use Rattle.union_files.proofs.ListLaws.{all_both, each_place, each_weaker, element, first_of_both}
+use Rattle.load_sessions.proofs.ReplyLaws.{replied_over}
+use Rattle.union_files.specs.Courses.{Course, AreNumbered, ended_of}
+use Rattle.catalogue_query.specs.Replies.{AreReplies}
 use Rattle.union_files.proofs.InterleavingLaws.{each-at}
 use Rattle.union_load.specs.Asked.{HasAsked}
 

@@ -16,10 +16,10 @@ use Rattle.load_sessions.specs.declared.session.Session.{Session}
 use Rattle.union_io.specs.Causes.{Rose}
 use Rattle.union_io.specs.Files.{told_file}
 use Rattle.union_io.specs.Names.{is_among}
-use Rattle.union_inputs.specs.Inputs.{Contents}
-use Rattle.union_inputs.proofs.InputLaws.{on_both}
+use Rattle.union_files.specs.Limits.{Contents}
+use Rattle.union_files.proofs.LimitLaws.{on_both}
 use Rattle.union_files.specs.Inputs.{is_overfull, first_overfull, AreWithin, IsTooLongAt, IsFresh, AreFresh, files_of}
-use Rattle.load_results.specs.Courses.{file_of_course, AreNumbered}
+use Rattle.union_files.specs.Courses.{file_of_course, AreNumbered}
 use Rattle.union_load.specs.Sessions.{is_fault, Closes, IsReadyAs, AreReady, courses_of, session_state, session_states, HasRun, HaveRun}
 use Rattle.union_words.specs.Words.{LibraryFile}
 use Rattle.union_words.specs.declared.input.Input.{Input}

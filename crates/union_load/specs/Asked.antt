@@ -6,7 +6,7 @@ use Rattle.catalogue_lock.specs.Ended.{Ended}
 use Rattle.catalogue_lock.specs.Tokens.{view}
 use Rattle.catalogue_query.specs.declared.answer.Answer.{Answer}
 use Rattle.catalogue_query.specs.declared.query.Query.{Query}
-use Rattle.load_sessions.specs.Askers.{Replied}
+use Rattle.catalogue_query.specs.Replies.{Replied}
 use Rattle.load_sessions.specs.declared.asker.Asker.{Asker}
 
 -- what the pass of an asker leaves at the desk

@@ -10,8 +10,9 @@ use Rattle.catalogue_lock.specs.Tokens.{view}
 use Rattle.catalogue_lock.specs.declared.view.View.{View}
 use Rattle.library_batches.specs.Outcomes.{AreCounted}
 use Rattle.library_batches.specs.Reading.{most_bytes}
-use Rattle.load_sessions.specs.Sessions.{IsReady, IsLoaded, counts_of}
-use Rattle.load_sessions.specs.Tallies.{found}
+use Rattle.load_sessions.specs.Sessions.{IsReady, IsLoaded}
+use Rattle.library_batches.specs.Reports.{counts_of}
+use Rattle.library_batches.specs.Tallies.{found}
 use Rattle.load_sessions.specs.declared.end.End.{End}
 use Rattle.load_sessions.specs.declared.end.End.TheVariants.{Done as EndDone, ReadFault as EndFault, TooLong as EndTooLong}
 use Rattle.load_sessions.specs.declared.session.Session.{Session}
@@ -19,7 +20,7 @@ use Rattle.union_io.specs.Causes.{Rose}
 use Rattle.union_io.specs.Files.{told_file}
 use Rattle.union_io.specs.Names.{is_among}
 use Rattle.union_files.specs.Inputs.{AreWithin, IsTooLongAt, OpenedState}
-use Rattle.load_results.specs.Courses.{Course}
+use Rattle.union_files.specs.Courses.{Course}
 use Rattle.union_words.specs.Words.{LibraryFile}
 use Rattle.union_words.specs.declared.status.Status.{Status}
 use Rattle.union_words.specs.declared.status.Status.TheVariants.{TooLong, Memory}

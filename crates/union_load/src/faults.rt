@@ -5,7 +5,7 @@
 ghost use Rattle.std.specs.Prelude.{◌≡◌, Some, drop, map, slice_get};
 ghost use Rattle.std.specs.Option.{option_map};
 ghost use Rattle.union_words.specs.Meanings.{libraries_meaning};
-ghost use Rattle.load_results.specs.Courses.{file_of_course};
+ghost use Rattle.union_files.specs.Courses.{file_of_course};
 ghost use Rattle.union_load.specs.Sessions.{course_of, courses_of, fails_on, first_failed, is_failed_in, is_fault};
 
 use load_sessions::end::End;

@@ -4,7 +4,7 @@
 //! reports and the replies. Whatever the order of the turns, the history has the batches of each library in their order and no
 //! others. Where it answers a status, that is the first of these: a file that could not be opened, a file that could not be read,
 //! a file that is too long, or lack of memory. Definitions: specs/Sessions.antt for the sessions, specs/Asked.antt for a pass that
-//! asked, those of load_results for the replies, and those of union_files for what was loaded and for the causes.
+//! asked, `AreReplies` of catalogue_query for the replies, and those of union_files for what was loaded and for the causes.
 //!
 //! Cost: that of the sessions, and of memory what is loaded.
 #![tactic(auto)]

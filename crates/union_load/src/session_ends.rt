@@ -7,18 +7,18 @@ ghost use Rattle.std.specs.Prelude.{◌≡◌, ◌∷◌, [], false, map, IfErr}
 ghost use Rattle.catalogue_lock.specs.Tokens.{root_of, IsRootOf};
 ghost use Rattle.union_words.specs.Meanings.{libraries_meaning};
 ghost use Rattle.union_files.specs.Inputs.{Gathers, is_open_fault};
-ghost use Rattle.load_results.specs.Courses.{AreReported, ended_of, file_of_course};
+ghost use Rattle.union_files.specs.Courses.{AreReported, ended_of, file_of_course};
 ghost use Rattle.union_load.specs.Sessions.{Closes, HasEnded, HasRun, HaveRun, NoneFailed, RaisesFailed, course_of, courses_of};
 
 use crate::faults::first_failed;
 use catalogue_lock::desk::Desk;
 use catalogue_lock::root::Root;
-use load_results::reports::Reports;
 use load_sessions::end::End;
 use load_sessions::served::Served;
 use load_sessions::session::Session;
 use std::collections::VecDeque;
 use union_base::memory::Memory;
+use union_files::reports::Reports;
 use union_io::shelf::Shelf;
 use union_words::input::Input;
 use union_words::libraries::Libraries;

@@ -4,7 +4,7 @@ use Rattle.authority_names.specs.Leads.{Table}
 use Rattle.catalogue_core.specs.declared.history_entry.HistoryEntry.{HistoryEntry}
 use Rattle.catalogue_query.specs.declared.answer.Answer.{Answer}
 use Rattle.catalogue_query.specs.declared.query.Query.{Query}
-use Rattle.load_results.specs.Replies.{AreReplies}
+use Rattle.catalogue_query.specs.Replies.{AreReplies}
 use Rattle.union_watch.specs.AskLines.{asked_lines, lines_in, questions_in}
 use Rattle.union_watch.specs.Lateness.{beside, late, AreTimely}
 use Rattle.union_watch.specs.Told.{AreTold, numbers_of, told_of}

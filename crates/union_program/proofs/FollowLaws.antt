@@ -4,7 +4,7 @@ use Rattle.names_file.specs.Named.{no_names}
 use Rattle.union_files.specs.Deliveries.{Delivery}
 use Rattle.union_files.specs.declared.loaded.Loaded.{Loaded}
 use Rattle.union_follow.specs.Following.{HasFollowed}
-use Rattle.union_commands.specs.Runs.{HasTurned}
+use Rattle.union_watch.specs.Runs.{HasTurned}
 use Rattle.union_program.specs.Follow.{AreInOrder}
 
 pub followed-turned : (all : List Delivery) (loaded : Loaded) → HasFollowed all loaded → HasTurned AreInOrder no_names all loaded

@@ -8,7 +8,7 @@ use Rattle.union_words.specs.Statuses.{is_done, is_early}
 use Rattle.union_words.specs.declared.input.Input.{Input}
 use Rattle.union_words.specs.declared.status.Status.{Status}
 use Rattle.union_words.specs.declared.status.Status.TheVariants.{Done, DoneWithRefusals, Usage, OpenFault, ReadFault, WriteFault, TooLong, Memory}
-use Rattle.union_inputs.specs.Endings.{EndsAtInput}
+use Rattle.union_files.specs.Endings.{EndsAtInput}
 use Rattle.union_json.specs.Runs.{IsMakingRun}
 use Rattle.union_json.specs.Texts.{Making}
 

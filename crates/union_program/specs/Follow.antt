@@ -4,7 +4,7 @@ use Rattle.catalogue_core.specs.declared.history_entry.HistoryEntry.{HistoryEntr
 use Rattle.catalogue_editions.specs.declared.batch.Batch.{Batch}
 use Rattle.union_files.specs.Interleavings.{IsInterleaving}
 use Rattle.union_follow.specs.Following.{IsInOrder}
-use Rattle.union_watch.specs.Runs.{Watch, IsAskedRun}
+use Rattle.union_watch.specs.WatchRuns.{Watch, IsAskedRun}
 use Rattle.union_words.specs.Flows.{ShelfFlow, Outflow}
 use Rattle.union_words.specs.Words.{LibraryFile}
 use Rattle.union_words.specs.declared.status.Status.{Status}

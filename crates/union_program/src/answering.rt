@@ -7,15 +7,15 @@ ghost use Rattle.union_words.specs.Meanings.{libraries_meaning, loading_meaning}
 ghost use Rattle.union_files.specs.Inputs.{Gathers, deliveries};
 ghost use Rattle.union_files.specs.Interleavings.{IsInterleaving};
 ghost use Rattle.union_follow.specs.Following.{HasFollowed};
-ghost use Rattle.load_results.specs.Replies.{AreReplies};
+ghost use Rattle.catalogue_query.specs.Replies.{AreReplies};
 ghost use Rattle.union_watch.specs.AskLines.{line_meaning, asked_lines, lines_in, questions_in, has_refused_line};
 ghost use Rattle.union_watch.specs.Lateness.{beside, late, AreTimely};
 ghost use Rattle.union_watch.specs.Told.{AreTold, numbers_of, told_of};
-ghost use Rattle.union_commands.specs.Runs.{deliveries_of, HasTurned};
+ghost use Rattle.union_watch.specs.Runs.{deliveries_of, HasTurned};
 
 use crate::host::Host;
-use load_results::watched::Watched;
-use load_sessions::questions::Questions;
+use catalogue_query::questions::Questions;
+use load_sessions::watched::Watched;
 use names_file::names_read::NamesRead;
 use std::alloc::{AllocError, Global};
 use std::sync::Wait;

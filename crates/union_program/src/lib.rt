@@ -9,10 +9,10 @@ pub mod host;
 pub mod json;
 pub mod run;
 
-pub use union_commands::check::check_run;
 pub use union_json::from_json::from_json_run;
 pub use union_json::to_json::to_json_run;
 pub use union_script::run::script_run;
 pub use union_trial::trial::trial_run;
+pub use union_watch::check::check_run;
 pub use union_words::input::Input;
 pub use union_words::status::Status;

@@ -13,14 +13,14 @@ use Rattle.union_words.specs.declared.input.Input.TheVariants.{Library}
 use Rattle.union_words.specs.declared.status.Status.{Status}
 use Rattle.union_words.specs.declared.status.Status.TheVariants.{Done, DoneWithRefusals, Usage, OpenFault, ReadFault, WriteFault, TooLong, Memory}
 use Rattle.union_script.specs.Inputs.{files_loaded}
-use Rattle.union_inputs.specs.Inputs.{limit_of, AreWithin, Contents}
+use Rattle.union_files.specs.Limits.{limit_of, AreWithin, Contents}
 use Rattle.union_script.specs.Lines.{WritesFirst, StopsLoading, FailsUnder, LinesStop, LinesRun, Says}
-use Rattle.union_inputs.specs.Readings.{StopsAt}
+use Rattle.union_files.specs.Readings.{StopsAt}
 use Rattle.union_script.specs.Texts.{Writes, is_refused}
-use Rattle.union_inputs.proofs.FileLaws.{Counts, flow}
+use Rattle.union_files.proofs.FileLaws.{Counts, flow}
 use Rattle.union_script.proofs.StopLaws.{Known, outflow}
 use Rattle.union_script.proofs.TextLaws.{text_of_one, front_none}
-use Rattle.union_inputs.proofs.InputLaws.{not_over, on_files, on_all}
+use Rattle.union_files.proofs.LimitLaws.{not_over, on_files, on_all}
 
 -- the line writes that text, the file that it loads is not too long, and so much is refused
 pub record Does (contents : Contents) (line : ScriptLine) (history now : List HistoryEntry) (text : List ℕ) (told : Bool) : Type 0 where

@@ -18,14 +18,14 @@ use Rattle.union_words.specs.declared.input.Input.TheVariants.{Library, Script}
 use Rattle.union_words.specs.declared.status.Status.{Status}
 use Rattle.union_words.specs.declared.status.Status.TheVariants.{Done, DoneWithRefusals, Usage, OpenFault, ReadFault, WriteFault, TooLong, Memory}
 use Rattle.union_script.specs.Inputs.{files_loaded, inputs_with, inputs_of}
-use Rattle.union_inputs.specs.Inputs.{is_overfull, first_overfull, AreWithin, IsTooLongAt, Contents}
+use Rattle.union_files.specs.Limits.{is_overfull, first_overfull, AreWithin, IsTooLongAt, Contents}
 use Rattle.union_script.specs.Lines.{HasRun, WritesFront, StopsLoading, StopsFor, FailsUnder, LinesStop, LinesRun}
-use Rattle.union_inputs.specs.Readings.{StopsAt}
+use Rattle.union_files.specs.Readings.{StopsAt}
 use Rattle.union_script.specs.Runs.{WritesAll, WritesBefore, IsFaultAt, named_by, IsScript}
 use Rattle.union_script.specs.Texts.{script_of, has_refusals}
-use Rattle.union_inputs.proofs.FileLaws.{Counts, flow, same_more}
+use Rattle.union_files.proofs.FileLaws.{Counts, flow, same_more}
 use Rattle.union_script.proofs.LineLaws.{library_input}
-use Rattle.union_inputs.proofs.InputLaws.{none_fails, not_over, on_files, on_all, told, within_none}
+use Rattle.union_files.proofs.LimitLaws.{none_fails, not_over, on_files, on_all, told, within_none}
 use Rattle.union_script.proofs.StopLaws.{Known, outflow, stop_behind}
 use Rattle.union_script.proofs.TextLaws.{files_behind, front_none, run_none}
 

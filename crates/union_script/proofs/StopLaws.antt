@@ -11,10 +11,10 @@ use Rattle.union_words.specs.declared.input.Input.{Input}
 use Rattle.union_words.specs.declared.status.Status.{Status}
 use Rattle.union_words.specs.declared.status.Status.TheVariants.{Done, DoneWithRefusals, Usage, OpenFault, ReadFault, WriteFault, TooLong, Memory}
 use Rattle.union_script.specs.Lines.{HasRun, WritesFirst, WritesFront, StopsLoading, FailsUnder, LinesStop}
-use Rattle.union_inputs.specs.Inputs.{Contents}
-use Rattle.union_inputs.proofs.FileLaws.{Counts, flow, same_more}
+use Rattle.union_files.specs.Limits.{Contents}
+use Rattle.union_files.proofs.FileLaws.{Counts, flow, same_more}
 use Rattle.union_script.proofs.TextLaws.{text_behind, within_behind, front_behind}
-use Rattle.union_inputs.proofs.InputLaws.{on_both}
+use Rattle.union_files.proofs.LimitLaws.{on_both}
 
 abbrev pub Known : Type 0
 Known = Option (List ℕ)

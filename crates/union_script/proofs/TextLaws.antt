@@ -15,7 +15,7 @@ use Rattle.union_io.specs.Writing.{AppendsFront}
 use Rattle.union_words.specs.Lines.{is_skipped}
 use Rattle.union_words.specs.ScriptLines.{ScriptLine, script_line}
 use Rattle.union_script.specs.Inputs.{loaded_by, files_loaded}
-use Rattle.union_inputs.specs.Inputs.{is_overfull, AreWithin, Contents}
+use Rattle.union_files.specs.Limits.{is_overfull, AreWithin, Contents}
 use Rattle.union_script.specs.Lines.{HasRun}
 use Rattle.union_script.specs.Texts.{asked_by, told_line, tells_after, told_from, told_after, Writes, ScriptText, is_refused, has_refusals}
 

@@ -5,7 +5,7 @@ use Rattle.union_words.specs.Flows.{InputFile}
 use Rattle.union_words.specs.ScriptLines.{ScriptLine, Load, Export, Works, Notices, Ask, Word}
 use Rattle.union_words.specs.declared.input.Input.TheVariants.{Library, Script}
 use Rattle.union_script.specs.Texts.{script_of}
-use Rattle.union_inputs.specs.Inputs.{Contents}
+use Rattle.union_files.specs.Limits.{Contents}
 
 -- the file of a line that loads one
 abbrev pub loaded_by : ScriptLine → List InputFile

@@ -1,4 +1,3 @@
-pub mod LineTexts
 pub mod Notices
 pub mod Texts
 pub mod Inputs

@@ -15,7 +15,7 @@ use Rattle.union_words.specs.declared.input.Input.TheVariants.{Library}
 use Rattle.union_words.specs.declared.status.Status.{Status}
 use Rattle.union_words.specs.declared.status.Status.TheVariants.{Done, DoneWithRefusals, Usage, OpenFault, ReadFault, WriteFault, TooLong, Memory}
 use Rattle.union_script.specs.Texts.{ScriptText, has_refusals}
-use Rattle.union_inputs.specs.Inputs.{Contents, AreWithin}
+use Rattle.union_files.specs.Limits.{Contents, AreWithin}
 use Rattle.union_script.specs.Inputs.{files_loaded}
 
 -- the lines were run: their text was written, and the history is that after them

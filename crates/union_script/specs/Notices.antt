@@ -6,7 +6,7 @@ use Rattle.catalogue_editions.specs.declared.edition.Edition.{Edition}
 use Rattle.catalogue_core.specs.declared.history_entry.HistoryEntry.{HistoryEntry}
 use Rattle.change_notices.specs.Notices.{notice_lines}
 use Rattle.edition_blocks.specs.Deltas.{IsDelta}
-use Rattle.union_script.specs.LineTexts.{ended_lines, six_digits}
+use Rattle.catalogue_query.specs.LineTexts.{ended_lines, six_digits}
 
 -- the history with one turn more, by which the batch is applied under the number 0
 abbrev pub with_turn : List HistoryEntry → Batch → List HistoryEntry

@@ -11,7 +11,7 @@ use Rattle.union_words.specs.declared.input.Input.TheVariants.{Library, Asks, Sc
 use Rattle.union_words.specs.declared.status.Status.{Status}
 use Rattle.union_words.specs.declared.status.Status.TheVariants.{Done, DoneWithRefusals, Usage, OpenFault, ReadFault, WriteFault, TooLong, Memory}
 use Rattle.union_script.specs.Inputs.{inputs_of}
-use Rattle.union_inputs.specs.Inputs.{AreWithin, IsTooLongAt, Contents}
+use Rattle.union_files.specs.Limits.{AreWithin, IsTooLongAt, Contents}
 use Rattle.union_script.specs.Lines.{FailsUnder, StopsLoading, StopsFor, WritesFront}
 use Rattle.union_script.specs.Texts.{script_of, ScriptText, has_refusals}
 

@@ -4,7 +4,6 @@ use Rattle.std.specs.List.{list_any}
 use Rattle.std.specs.FinMap.{empty}
 use Rattle.std.specs.Result.{is_err}
 use Rattle.authority_names.specs.Leads.{Table}
-use Rattle.catalogue_query.specs.Answers.{answer_lines}
 use Rattle.catalogue_query.specs.Queries.{query_of}
 use Rattle.catalogue_query.specs.declared.query.Query.{Query}
 use Rattle.catalogue_query.specs.declared.query.QueryRefusal.{QueryRefusal}
@@ -20,12 +19,12 @@ use Rattle.library_batches.specs.Streams.{Frame}
 use Rattle.library_batches.specs.Refused.{refused}
 use Rattle.library_batches.specs.Batches.{AreBatches}
 use Rattle.library_batches.specs.Outcomes.{found_in}
-use Rattle.union_reports.specs.Reports.{report_text}
+use Rattle.library_batches.specs.Reports.{report_text}
 use Rattle.union_words.specs.Lines.{lines_of, kept}
 use Rattle.union_words.specs.ScriptLines.{ScriptLine, Load, Export, Works, Notices, Ask, Word, script_line}
-use Rattle.union_inputs.specs.Inputs.{Contents}
+use Rattle.union_files.specs.Limits.{Contents}
 use Rattle.union_script.specs.Notices.{TellsTurns}
-pub use Rattle.union_script.specs.LineTexts.{refused_word, refused_unknown, ended_lines}
+pub use Rattle.catalogue_query.specs.LineTexts.{refused_word, refused_unknown, ended_lines, IsAnswer}
 
 -- what lines ask for, in their order, but for those that are skipped
 abbrev pub asked_by : List (List ℕ) → List ScriptLine
@@ -88,12 +87,6 @@ pub record IsWorkList (names : Table) (history : List HistoryEntry) (text : List
   pub editions : List Edition
   pub resolved : AreEditionsOf history editions
   pub works : text ≡ works_text_of names editions
-
--- the text is the answer to a query of the catalogue of that history, by these names
-pub record IsAnswer (names : Table) (query : Query) (history : List HistoryEntry) (text : List ℕ) : Type 0 where
-  pub editions : List Edition
-  pub resolved : AreEditionsOf history editions
-  pub answer : text ≡ ended_lines (answer_lines names query (current history) editions)
 
 -- what is written of a line that gives this query, or none for this reason
 abbrev pub IsReply : Result Query QueryRefusal → List HistoryEntry → List ℕ → Type 0

@@ -6,10 +6,10 @@ ghost use Rattle.union_words.specs.ScriptLines.{Ask as AskLine};
 ghost use Rattle.union_script.specs.Lines.{LinesRun};
 ghost use Rattle.union_script.specs.Texts.{IsAnswer};
 
-use crate::line_texts::{REFUSED_UNKNOWN, REFUSED_WORD, add_lines};
 use crate::saying::say;
 use catalogue_core::catalogue::Catalogue;
 use catalogue_query::answering::answer;
+use catalogue_query::line_texts::{REFUSED_UNKNOWN, REFUSED_WORD, add_lines};
 use catalogue_query::query::{Query, QueryRefusal};
 use std::alloc::Global;
 use union_base::memory::Memory;

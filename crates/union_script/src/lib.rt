@@ -1,9 +1,8 @@
 //! The command `script`: a file of lines, run one after the other on one catalogue that begins empty.
 //!
-//! A line loads the file of a library, writes the export, lists the works, has the turns of later loads told, or asks something. Each line's text is written before the next line
-//! is run, and the first fault ends the run. `run::script_run` does it, and its contract is `IsScript` of specs/Runs.antt; what
-//! a line writes and how it changes the catalogue's history is `Writes` of specs/Texts.antt. A file of questions has lines that
-//! are read and told in the same way: `line_texts` has what is told of a line.
+//! A line loads the file of a library, writes the export, lists the works, has the turns of later loads told, or asks something. Each
+//! line's text is written before the next line is run, and the first fault ends the run. `run::script_run` does it, and its contract
+//! is `IsScript` of specs/Runs.antt; what a line writes and how it changes the catalogue's history is `Writes` of specs/Texts.antt.
 //!
 //! Guarantee: what is written is exactly the text of the lines that were run, and each status comes for its own cause. Cost:
 //! the script is kept whole while it runs, and a library's file is read piece by piece; memory grows with the catalogue and
@@ -12,7 +11,6 @@
 
 mod asking;
 mod line;
-pub mod line_texts;
 mod lines;
 mod loading;
 mod noticing;

@@ -6,7 +6,6 @@ ghost use Rattle.union_script.specs.Lines.{LinesRun, Says};
 ghost use Rattle.union_script.specs.Texts.{asked_by, IsExport, IsWorkList, tells_after, told_after, told_from, told_line};
 
 use crate::asking::run_ask;
-use crate::line_texts::REFUSED_WORD;
 use crate::loading::load_file;
 use crate::saying::say;
 use crate::union::Union;
@@ -14,6 +13,7 @@ use catalogue_core::catalogue::Catalogue;
 use catalogue_export::export::export;
 use catalogue_export::export_fail::ExportFail;
 use catalogue_export::works_text::works_text;
+use catalogue_query::line_texts::REFUSED_WORD;
 use std::alloc::Global;
 use std::sync::ledger::Ledger;
 use union_io::shelf::Shelf;

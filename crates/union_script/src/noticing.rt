@@ -6,12 +6,12 @@ ghost use Rattle.change_notices.specs.Followers.{AreHeld};
 ghost use Rattle.edition_blocks.specs.Deltas.{IsDelta};
 ghost use Rattle.union_script.specs.Notices.{IsNotice, TellsTurn, notice_text, with_turn};
 
-use crate::line_texts::{add_lines, add_six_digits};
 use crate::union::Union;
 use catalogue_core::batch::Batch;
 use catalogue_core::catalogue::Catalogue;
 use catalogue_core::delta::Delta;
 use catalogue_core::outcome::Outcome;
+use catalogue_query::line_texts::{add_lines, add_six_digits};
 use change_notices::laws::resolutions_can_be_held;
 use change_notices::notice::notice;
 use merge_laws::steps::Steps;

@@ -18,7 +18,7 @@ use std::mem::forget;
 use std::sync::ledger::{Blank, Ledger};
 use union_base::bytes::Bytes;
 use union_base::memory::Memory;
-use union_inputs::text_file::read_text_file;
+use union_files::text_file::read_text_file;
 use union_io::shelf::Shelf;
 use union_io::sink::Sink;
 use union_words::input::Input;

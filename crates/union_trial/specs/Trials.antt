@@ -3,7 +3,7 @@ use Rattle.std.specs.Prelude.{◌≡◌, ℕ, List, [], ◌∷◌, ◌++◌, cod
 use Rattle.std.specs.FinMap.{empty}
 use Rattle.std.specs.Io.KnownBytes.{Appends}
 use Rattle.union_io.specs.Writing.{AppendsFront}
-use Rattle.union_reports.specs.Reports.{counted}
+use Rattle.library_batches.specs.Reports.{counted}
 use Rattle.union_words.specs.Flows.{Outflow, HasFailedAt}
 use Rattle.union_words.specs.declared.status.Status.{Status}
 use Rattle.union_words.specs.declared.status.Status.TheVariants.{Done, DoneWithRefusals, Usage, OpenFault, ReadFault, WriteFault, TooLong, Memory}

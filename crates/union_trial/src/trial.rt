@@ -1,6 +1,6 @@
 //! The run of a trial.
 ghost use Rattle.std.specs.Prelude.{◌≡◌, ◌≤◌, ◌<◌, ◌++◌, IfOk, OnOk, codes};
-ghost use Rattle.union_reports.specs.Reports.{counted};
+ghost use Rattle.library_batches.specs.Reports.{counted};
 ghost use Rattle.union_trial.specs.Trials.{trial_line, IsTrialText, IsTrial};
 
 use crate::generator::MOST_FRAMES;
@@ -9,6 +9,7 @@ use crate::measures::Measures;
 use crate::measuring::measured;
 use catalogue_core::catalogue::Catalogue;
 use itoa::Buffer;
+use library_batches::report_lines::add_counted;
 use load_sessions::crew::Crew;
 use merge_laws::steps::Steps;
 use std::alloc::{AllocError, Global};
@@ -19,7 +20,6 @@ use std::thread::Threads;
 use union_base::memory::Memory;
 use union_io::failed::Failed;
 use union_io::sink::{Sink, put_all};
-use union_reports::lines::add_counted;
 use union_words::status::Status;
 
 /// Adds ` bytes N`.

@@ -8,7 +8,7 @@ use Rattle.union_base.specs.Both.{both_true}
 use Rattle.union_base.specs.LibraryCodes.{may_stand, is_library_code}
 use Rattle.catalogue_core.specs.declared.history_entry.HistoryEntry.{HistoryEntry}
 use Rattle.catalogue_query.specs.declared.query.QueryRefusal.TheVariants.{Unknown, Word as BadRest, Memory as QueryMemory}
-use Rattle.union_reports.specs.Reports.{counted}
+use Rattle.library_batches.specs.Reports.{counted}
 use Rattle.union_watch.specs.Told.{Told, Reply, Refused, reply_line, told_text_of}
 use Rattle.union_watch.specs.TurnLines.{TurnLine, turn_of, turns_from, six_digits, turn_text, place_of}
 

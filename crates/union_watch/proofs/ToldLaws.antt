@@ -15,9 +15,9 @@ use Rattle.catalogue_query.specs.Queries.{query_of}
 use Rattle.catalogue_query.specs.declared.answer.Answer.{Answer}
 use Rattle.catalogue_query.specs.declared.query.Query.{Query}
 use Rattle.catalogue_query.specs.declared.query.QueryRefusal.{QueryRefusal}
-use Rattle.load_sessions.specs.Askers.{Replied}
-use Rattle.load_sessions.specs.Entries.{entries_of, history_of, tells}
-use Rattle.union_script.specs.Texts.{IsAnswer, ended_lines}
+use Rattle.catalogue_query.specs.Replies.{Replied, tells}
+use Rattle.catalogue_core.specs.Entries.{entries_of, history_of}
+use Rattle.catalogue_query.specs.LineTexts.{IsAnswer, ended_lines}
 use Rattle.union_watch.specs.AskLines.{line_meaning, with_line, read_line, given, question_of, asked_lines, lines_in, questions_in}
 use Rattle.union_watch.specs.Lateness.{late, beside, NeverFall, AreTimely}
 use Rattle.union_watch.specs.Told.{Told, Reply, Refused, IsToldOf, AreTold, numbers_of, told_of, told_first, left_behind, told_text, told_text_of}

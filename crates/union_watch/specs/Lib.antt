@@ -4,4 +4,6 @@ pub mod Told
 pub mod TurnLines
 pub mod WatchTexts
 pub mod Laws
+pub mod WatchRuns
+pub mod Tallies
 pub mod Runs

@@ -1,83 +1,150 @@
--- What a run of `watch` does.
-use Rattle.std.specs.Prelude.{◌≡◌, ℕ, ◌||◌, List, ◌∷◌, ◌++◌, length, map}
-use Rattle.std.specs.List.{list_any}
-use Rattle.std.specs.declared.option.Option.{Option}
+-- What a run does, by the form of its words.
+use Rattle.std.specs.Prelude.{◌≡◌, ◌≢◌, ℕ, ◌⊎◌, ◌<◌, ◌≤◌, ◌||◌, false, IsTrue, List, [], ◌∷◌, ◌++◌, length, map, Some, IfSome}
+use Rattle.std.specs.List.{flat_map, list_any}
+use Rattle.std.specs.Io.KnownBytes.{Appends, Keeps}
 use Rattle.authority_names.specs.Leads.{Table}
-use Rattle.catalogue_editions.specs.declared.batch.Batch.{Batch}
-use Rattle.catalogue_core.specs.declared.history_entry.HistoryEntry.{HistoryEntry}
+use Rattle.catalogue_core.specs.Histories.{AreEditionsOf}
+use Rattle.catalogue_editions.specs.declared.edition.Edition.{Edition}
+use Rattle.catalogue_export.specs.Editions.{export_text, left_of}
+use Rattle.catalogue_export.specs.WorkLists.{works_text_of}
+use Rattle.catalogue_export.specs.JsonExport.{json_export_text}
+use Rattle.iso2709_frame.specs.Frames.{frames}
+use Rattle.union_io.specs.Writing.{AppendsFront}
+use Rattle.library_batches.specs.Reading.{most_bytes}
+use Rattle.library_batches.specs.Refused.{refused}
+use Rattle.library_batches.specs.declared.refused.RefusedFrame.{RefusedFrame}
+use Rattle.library_batches.specs.Reports.{check_text, left_line}
 use Rattle.names_file.specs.Named.{Named, IsNamedBy, names_inputs}
-use Rattle.union_inputs.specs.Inputs.{Contents}
-use Rattle.union_words.specs.Flows.{ShelfFlow, InputFile, Outflow}
-use Rattle.union_words.specs.Statuses.{end_by}
-use Rattle.union_words.specs.Words.{LibraryFile, Loading}
-use Rattle.union_words.specs.declared.input.Input.TheVariants.{Asks}
-use Rattle.union_words.specs.declared.status.Status.{Status}
 use Rattle.union_files.specs.Deliveries.{Delivery, Stream, delivered, batches_of, reports_of, has_refused}
 use Rattle.union_files.specs.Inputs.{deliveries}
-use Rattle.union_files.specs.Interleavings.{IsInterleaving}
 use Rattle.union_files.specs.Runs.{IsRunOver}
-use Rattle.union_watch.specs.AskLines.{asked_lines, has_refused_line}
-use Rattle.union_watch.specs.Lateness.{AreTimely}
-use Rattle.union_watch.specs.Told.{Told, AreTold, numbers_of}
-use Rattle.union_watch.specs.WatchTexts.{watch_text}
+use Rattle.union_files.specs.Unions.{IsUnion}
+use Rattle.union_files.specs.declared.loaded.Loaded.{Loaded}
+use Rattle.union_watch.specs.WatchRuns.{Order}
+use Rattle.union_words.specs.Flows.{ShelfFlow, Inflow, HasFailed, Outflow, HasFailedAt, IsNoted, IsCutOff}
+use Rattle.union_words.specs.Statuses.{is_done, is_early, is_input_fault, end_by}
+use Rattle.union_words.specs.Texts.{early_text}
+use Rattle.union_words.specs.Words.{Loading}
+use Rattle.union_words.specs.declared.form.Form.{Form}
+use Rattle.union_words.specs.declared.form.Form.TheVariants.{Iso2709, Json}
+use Rattle.union_words.specs.declared.input.Input.{Input}
+use Rattle.union_words.specs.declared.input.Input.TheVariants.{Library}
+use Rattle.union_words.specs.declared.status.Status.{Status}
+use Rattle.union_words.specs.declared.status.Status.TheVariants.{Done, DoneWithRefusals, Usage, OpenFault, ReadFault, WriteFault, TooLong, Memory}
+use Rattle.union_files.specs.Endings.{EndsAtInput, end_with}
+use Rattle.union_watch.specs.declared.shown.Shown.{Shown}
+use Rattle.union_watch.specs.declared.shown.Shown.TheVariants.{Export, Works}
 
--- what is asked: a number of workers, a preference among libraries, the name of the file of names, where there is one, that of the file
--- of questions, and the libraries with their files
-pub record Watch : Type 0 where
-  pub workers : ℕ
-  pub prefer : List (List ℕ)
-  pub names : Option (List ℕ)
-  pub asks : List ℕ
-  pub libraries : List LibraryFile
+-- how a check of a stream ends that is done
+abbrev pub end_of : List ℕ → Status
+end_of stream = end_with (refused (frames stream))
 
--- what is asked by a file of questions and a load, which says all the rest
-abbrev pub watch_of : List ℕ → Loading → Watch
-watch_of asks loading =
-    record { workers = loading.workers; prefer = loading.prefer; names = loading.names; asks = asks; libraries = loading.libraries }
+-- `check` of a library's file
+pub record IsCheck (library : List ℕ) (file : Inflow) (out : Outflow) (status : Status) : Type 0 where
+  pub input : EndsAtInput (Library library) file status
+  pub calm : is_input_fault status ≡ false → file.after ≡ file.before
+  pub write_fault : status ≡ WriteFault → HasFailedAt out
+  pub other : status ≢ Usage
+  -- all of the text, none of it, or a prefix of it
+  pub done : IsTrue (is_done status)
+      → IfSome file.told (λ bytes. (status ≡ end_of bytes) × Appends out.old out.new (check_text library (frames bytes)))
+  pub untouched : IsTrue (is_early status) → Keeps out.old out.new
+  pub part : status ≡ WriteFault → IfSome file.told (λ bytes. AppendsFront out.old out.new (check_text library (frames bytes)))
+  -- where nothing fails it is done, or memory ran out
+  pub complete : (bytes : List ℕ) → file.told ≡ Some bytes → length bytes ≤ most_bytes → ¬ HasFailed file → ¬ HasFailedAt out
+      → (status ≡ end_of bytes) ⊎ (status ≡ Memory)
 
--- the file of questions
-abbrev pub asks_file : Watch → InputFile
-asks_file watch = record { input = Asks; path = watch.asks }
+-- a line for each edition of which fields were left out, where its record shows a work key by these names
+abbrev pub left_lines : Table → List Edition → List ℕ
+left_lines names editions = flat_map left_line (left_of names editions)
 
--- the files that are read before those of the libraries: that of questions, and then that of names
-abbrev pub first_files : Watch → List InputFile
-first_files watch = asks_file watch ∷ names_inputs watch.names
+-- what is shown on the output of the editions of a catalogue by some names, and what is noted of them after the reports
+pub record Showing : Type 0 where
+  pub shown : Table → List Edition → List ℕ
+  pub noted : Table → List Edition → List ℕ
 
--- which histories the batches of the libraries may come to
-abbrev pub Order : Type 1
-Order = List (List Batch) → List HistoryEntry → Type 0
+-- what is shown of each edition in some form, one after the other, and lines on what was left out
+abbrev pub shown_by : (Table → Edition → List ℕ) → Showing
+shown_by shown = record { shown = λ names editions. flat_map (shown names) editions; noted = left_lines }
 
--- what is watched over these deliveries: a history of the libraries' batches, and what is told, by these names, of the lines of the
--- file of questions, of each over the first turns of that history
-pub record IsWatched (AreTurns : Order) (names : Table) (workers : ℕ) (asks : List ℕ) (all : List Delivery) (streams : List Stream)
-    (history : List HistoryEntry) (told : List Told) : Type 0 where
-  pub delivered : map delivered streams ≡ all
-  pub turns : AreTurns (map batches_of streams) history
-  pub told_is : AreTold names history (asked_lines asks) told
-  pub timely : AreTimely workers (length history) (numbers_of told)
+-- the export, and lines on what was left out of it
+abbrev pub exported : Showing
+exported = record { shown = export_text; noted = left_lines }
 
--- what the libraries' files deliver
-abbrev pub deliveries_of : Contents → Watch → List Delivery
-deliveries_of contents watch = deliveries watch.prefer contents watch.libraries
+-- the export as lines of JSON, and the same lines on what was left out
+abbrev pub exported_in_json : Showing
+exported_in_json = record { shown = json_export_text; noted = left_lines }
 
--- the texts of a watch, and how it ends: the turns and what is told; what is told of the file of names, and the libraries' reports;
--- and whether a record of the file of names is refused, a frame of a library, or a line of the file of questions
-pub record IsWatchOf (AreTurns : Order) (watch : Watch) (contents : Contents) (shown noted : List ℕ) (end : Status) : Type 0 where
+-- the export in its form
+abbrev pub exported_as : Form → Showing
+exported_as Iso2709 = exported
+exported_as Json = exported_in_json
+
+-- the list of the works
+abbrev pub listed : Showing
+listed = record { shown = works_text_of; noted = λ names editions. [] }
+
+-- what each command shows
+abbrev pub showing_of : Shown → Showing
+showing_of (Export form) = exported_as form
+showing_of Works = listed
+
+-- what the files of a load deliver
+abbrev pub deliveries_of : (List ℕ → List ℕ) → Loading → List Delivery
+deliveries_of contents loading = deliveries loading.prefer contents loading.libraries
+
+-- what a run shows of the union of the libraries' files, by the names of its file of names; what it notes: what is told of that file,
+-- the libraries' reports, and what is noted of the editions; and how it ends where both are written
+pub record IsUnionOf (showing : Showing) (loading : Loading) (contents : List ℕ → List ℕ) (shown noted : List ℕ) (end : Status) : Type 0 where
   pub names : Named
-  pub named : IsNamedBy contents watch.names names
+  pub named : IsNamedBy contents loading.names names
   pub streams : List Stream
-  pub history : List HistoryEntry
-  pub told : List Told
-  pub watched : IsWatched AreTurns names.table watch.workers (contents watch.asks) (deliveries_of contents watch) streams history told
-  pub shown_is : shown ≡ watch_text history told
-  pub noted_is : noted ≡ names.report ++ reports_of streams
-  pub end_is : end ≡ end_by ((names.refused || list_any has_refused (deliveries_of contents watch)) || has_refused_line (contents watch.asks))
+  pub editions : List Edition
+  pub union : IsUnion (deliveries_of contents loading) streams editions
+  pub shown_is : shown ≡ showing.shown names.table editions
+  pub noted_is : noted ≡ names.report ++ (reports_of streams ++ showing.noted names.table editions)
+  pub end_is : end ≡ end_by (names.refused || list_any has_refused (deliveries_of contents loading))
 
--- what is watched while the libraries' files are loaded by turns in such an order, and their reports
-abbrev pub IsAskedRun : Order → Watch → ShelfFlow → Outflow → Outflow → Status → Type 0
-IsAskedRun AreTurns watch shelf out notes status =
-    IsRunOver (first_files watch) watch.libraries (IsWatchOf AreTurns watch) shelf out notes status
+-- a run of `export` or `works`: its texts are those of the union of the libraries' files (IsUnionOf), and for each status it is said what
+-- failed and how much of them was written (IsRunOver). The file of names, if there is one, is read before those of the libraries
+abbrev pub IsUnionRun : Showing → Loading → ShelfFlow → Outflow → Outflow → Status → Type 0
+IsUnionRun showing loading shelf out notes status =
+    IsRunOver (names_inputs loading.names) loading.libraries (IsUnionOf showing loading) shelf out notes status
 
--- `watch`: the turns of different libraries come in any order, and each library's in its own
-abbrev pub IsWatchRun : Watch → ShelfFlow → Outflow → Outflow → Status → Type 0
-IsWatchRun watch shelf out notes status = IsAskedRun IsInterleaving watch shelf out notes status
+-- the deliveries were loaded by turns in such an order, into a catalogue by these names, and their reports stand after what is told of
+-- the names
+pub record HasTurned (AreTurns : Order) (names : Named) (all : List Delivery) (loaded : Loaded) : Type 0 where
+  pub names_are : loaded.catalogue.names ≡ names.table
+  pub refused : loaded.refused ≡ (names.refused || list_any has_refused all)
+  pub streams : List Stream
+  pub delivered : map delivered streams ≡ all
+  pub turns : AreTurns (map batches_of streams) loaded.catalogue.history
+  pub reports : loaded.reports.items ≡ names.report ++ reports_of streams
+
+-- a text of the program's own
+pub record IsTold (text : List ℕ) (out : Outflow) (status : Status) : Type 0 where
+  pub kinds : (status ≡ Done) ⊎ (status ≡ WriteFault)
+  pub done : status ≡ Done → Appends out.old out.new text
+  pub part : status ≡ WriteFault → AppendsFront out.old out.new text
+  pub write_fault : status ≡ WriteFault → HasFailedAt out
+
+-- a text on the second output: all of it, or a prefix of it and then a write failed, or none of it since memory ran out
+pub record IsReported (noted : List ℕ) (end : Status) (notes : Outflow) (status : Status) : Type 0 where
+  pub kinds : (status ≡ end) ⊎ ((status ≡ WriteFault) ⊎ (status ≡ Memory))
+  pub done : IsTrue (is_done status) → Appends notes.old notes.new noted
+  pub part : status ≡ WriteFault → AppendsFront notes.old notes.new noted × HasFailedAt notes
+  pub memory : status ≡ Memory → IsNoted notes (early_text Memory)
+
+-- two texts, one on each output and the second after the first: all of both, or a write failed, or memory ran out before the second
+pub record Written (shown noted : List ℕ) (end : Status) (out notes : Outflow) (status : Status) : Type 0 where
+  pub kinds : (status ≡ end) ⊎ ((status ≡ WriteFault) ⊎ (status ≡ Memory))
+  pub done : IsTrue (is_done status) → Appends out.old out.new shown × Appends notes.old notes.new noted
+  pub part : status ≡ WriteFault → IsCutOff out notes shown noted
+  pub memory : status ≡ Memory → AppendsFront out.old out.new shown × IsNoted notes (early_text Memory)
+
+-- what is shown of a loaded catalogue, and its reports
+abbrev pub Shows : Showing → Loaded → Outflow → Outflow → Status → Type 0
+Shows showing loaded out notes status =
+    (editions : List Edition) × AreEditionsOf loaded.catalogue.history editions
+    × Written (showing.shown loaded.catalogue.names editions) (loaded.reports.items ++ showing.noted loaded.catalogue.names editions)
+    (end_by loaded.refused) out notes status

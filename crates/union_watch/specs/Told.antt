@@ -8,7 +8,7 @@ use Rattle.catalogue_query.specs.declared.answer.Answer.{Answer}
 use Rattle.catalogue_query.specs.declared.query.Query.{Query}
 use Rattle.catalogue_query.specs.declared.query.QueryRefusal.{QueryRefusal}
 use Rattle.catalogue_query.specs.declared.query.QueryRefusal.TheVariants.{Unknown, Word as BadRest, Memory as QueryMemory}
-use Rattle.union_script.specs.Texts.{IsAnswer, ended_lines, refused_unknown, refused_word}
+use Rattle.catalogue_query.specs.LineTexts.{IsAnswer, ended_lines, refused_unknown, refused_word}
 use Rattle.union_words.specs.Texts.{line_feed}
 use Rattle.union_watch.specs.AskLines.{AskLine}
 use Rattle.union_watch.specs.TurnLines.{six_digits}

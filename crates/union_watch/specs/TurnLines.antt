@@ -1,9 +1,10 @@
 -- The lines on the turns of a history, and the history that they stand for.
-use Rattle.std.specs.Prelude.{ℕ, ◌+◌, ◌==◌, cond, List, [], ◌∷◌, ◌++◌, length, drop, map, codes, decimal, slice_index_or}
+use Rattle.std.specs.Prelude.{ℕ, ◌+◌, ◌==◌, cond, List, [], ◌∷◌, ◌++◌, length, drop, map, codes, slice_index_or}
 use Rattle.std.specs.List.{flat_map, position_or_len}
 use Rattle.catalogue_editions.specs.declared.batch.Batch.{Batch}
 use Rattle.catalogue_core.specs.declared.history_entry.HistoryEntry.{HistoryEntry}
-use Rattle.union_reports.specs.Reports.{counted}
+pub use Rattle.catalogue_query.specs.LineTexts.{six_digits}
+use Rattle.library_batches.specs.Reports.{counted}
 use Rattle.union_words.specs.Alike.{is_text}
 use Rattle.union_words.specs.Texts.{line_feed}
 
@@ -21,10 +22,6 @@ turn_of turn entry = record { turn = turn; library = entry.batch.library; operat
 abbrev pub turns_from : ℕ → List HistoryEntry → List TurnLine
 turns_from turn [] = []
 turns_from turn (entry ∷ history) = turn_of turn entry ∷ turns_from (turn + 1) history
-
--- a number in at least six digits
-unfoldable pub six_digits : ℕ → List ℕ
-six_digits number = drop (length (decimal number)) (codes "000000") ++ decimal number
 
 -- `turn T LIB N`
 unfoldable pub turn_text : TurnLine → List ℕ

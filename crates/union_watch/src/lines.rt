@@ -4,29 +4,14 @@
 ghost use Rattle.std.specs.Prelude.{◌≡◌, ◌++◌, OnOk};
 ghost use Rattle.union_watch.specs.AskLines.{line_meaning};
 ghost use Rattle.union_watch.specs.Told.{shown_byte, shown, reply_line, told_first, left_behind, told_text_of};
-ghost use Rattle.union_watch.specs.TurnLines.{turn_of, turn_text, six_digits};
+ghost use Rattle.union_watch.specs.TurnLines.{turn_of, turn_text};
 
 use crate::ask_line::AskLine;
 use catalogue_core::history_entry::HistoryEntry;
 use catalogue_query::answer::Answer;
-use itoa::Buffer;
+use catalogue_query::line_texts::{REFUSED_UNKNOWN, REFUSED_WORD, add_lines, add_six_digits};
+use library_batches::report_lines::add_counted;
 use std::alloc::AllocError;
-use union_reports::lines::add_counted;
-use union_script::line_texts::{REFUSED_UNKNOWN, REFUSED_WORD, add_lines};
-
-/// The zeros before a number that has no digit.
-const ZEROS: &[u8] = b"000000";
-
-/// Adds a number in at least six digits.
-fn add_six_digits(text: &mut Vec<u8>, number: u64) -> Result<(), AllocError>
-    ensures { OnOk result (text.new.items ≡ text.old.items ++ six_digits number) }
-{
-    let mut buffer = Buffer::new();
-    let digits = buffer.format(number).as_bytes();
-    text.extend_from_slice(&ZEROS[digits.len().min(ZEROS.len())..])?;
-    text.extend_from_slice(digits)?;
-    Ok(())
-}
 
 /// Adds `turn T LIB N`.
 pub fn add_turn_line(text: &mut Vec<u8>, turn: u64, entry: &HistoryEntry) -> Result<(), AllocError>

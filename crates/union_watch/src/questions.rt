@@ -3,7 +3,7 @@ ghost use Rattle.std.specs.Prelude.{◌≡◌, IfOk};
 ghost use Rattle.union_watch.specs.Lateness.{beside, late};
 
 use catalogue_query::query::Query;
-use load_sessions::questions::Questions;
+use catalogue_query::questions::Questions;
 use std::alloc::{AllocError, Global};
 
 /// Divides the questions of a file: with one worker all are late, and with more the last one is.

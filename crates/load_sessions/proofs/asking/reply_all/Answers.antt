@@ -1,7 +1,6 @@
 use Rattle.std.proofs.Common.{◌≡◌, ◌<◌, ◌∷◌, [], length, drop, suc, ◌+◌, sym, ap, subst, ◌∙◌, arith, length-append, drop-cons, add-one}
 use Rattle.catalogue_lock.specs.Tokens.{view}
-use Rattle.load_sessions.specs.Askers.{Replied}
-use Rattle.load_sessions.specs.Entries.{tells}
+use Rattle.catalogue_query.specs.Replies.{Replied, tells}
 use Rattle.load_sessions.proofs.AskLaws.{Leads, Leads-more, Leads-ends, IsPrefix-more, IsPrefix-same}
 use Rattle.load_sessions.proofs.asking.reply_all.Goals as goal
 

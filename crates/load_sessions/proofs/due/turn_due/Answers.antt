@@ -2,8 +2,8 @@ use Rattle.std.proofs.Common.{◌≡◌, ◌++◌, length, sym, ap, subst, arith
 use Rattle.catalogue_lock.specs.History.{changes_of}
 use Rattle.catalogue_lock.specs.Tokens.{view}
 use Rattle.catalogue_core.specs.Histories.{current}
-use Rattle.load_sessions.specs.Entries.{history_of}
-use Rattle.load_sessions.specs.Tallies.{found}
+use Rattle.catalogue_core.specs.Entries.{history_of}
+use Rattle.library_batches.specs.Tallies.{found}
 use Rattle.load_sessions.proofs.TallyLaws.{found-turn, few_ops, length-outcomes}
 use Rattle.load_sessions.proofs.due.turn_due.Goals as goal
 

@@ -10,7 +10,7 @@ use Rattle.library_batches.specs.Handing.{HandsOut}
 use Rattle.library_batches.specs.Outcomes.{AreCounted}
 use Rattle.library_batches.specs.Reading.{Batching}
 use Rattle.library_batches.proofs.HandingLaws.{HandsOut-none}
-use Rattle.load_sessions.specs.Tallies.{found}
+use Rattle.library_batches.specs.Tallies.{found}
 use Rattle.load_sessions.specs.Turning.{stop_beside}
 use Rattle.load_sessions.proofs.AheadLaws.{Awaits, Awaits-more, Awaits-first, Awaits-long, to_come, to_come-fewer, stop_beside-short, stop_beside-failed, stop_beside-calm, answered}
 use Rattle.load_sessions.proofs.TallyLaws.{found-none}

@@ -7,7 +7,7 @@ use Rattle.library_batches.specs.Outcomes.{AreCounted, counted}
 use Rattle.library_batches.specs.Reading.{most_bytes}
 use Rattle.library_batches.specs.declared.stop.Stop.TheVariants.{Failed}
 use Rattle.load_sessions.specs.Sessions.{IsSameSession}
-use Rattle.load_sessions.specs.Tallies.{found}
+use Rattle.library_batches.specs.Tallies.{found}
 use Rattle.load_sessions.proofs.AheadLaws.{Awaits, to_come}
 use Rattle.load_sessions.proofs.turning.turn_batches.Given as goal
 

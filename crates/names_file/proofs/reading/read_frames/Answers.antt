@@ -5,7 +5,7 @@ use Rattle.library_stream.proofs.AheadLaws.{Takes-more, handed_all}
 use Rattle.library_stream.specs.Answering.{Takes}
 use Rattle.library_stream.specs.Streaming.{opened}
 use Rattle.library_stream.specs.declared.frame_reader.TheConstants.{LARGEST_SOURCE}
-use Rattle.union_inputs.proofs.SourceLaws.{on_told}
+use Rattle.union_files.proofs.SourceLaws.{on_told}
 use Rattle.names_file.specs.Judging.{Judged}
 use Rattle.names_file.proofs.reading.read_frames.Goals as goal
 

@@ -1,6 +1,6 @@
 use Rattle.std.proofs.Common.{◌∙◌}
 use Rattle.union_words.specs.Flows.{InputFile}
-use Rattle.union_inputs.proofs.FileLaws.{file_stops, stops_before, not_opened}
+use Rattle.union_files.proofs.FileLaws.{file_stops, stops_before, not_opened}
 use Rattle.names_file.specs.Named.{names_file}
 use Rattle.names_file.proofs.shelved.read_names_file.Goals as goal
 

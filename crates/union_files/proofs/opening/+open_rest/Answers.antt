@@ -2,7 +2,7 @@ use Rattle.std.proofs.Common.{◌+◌, ◌∷◌, sym, ap, subst, ◌∙◌}
 use Rattle.std.specs.Prelude.{drop}
 use Rattle.std.proofs.lemmas.Result.{IfOk-weaker}
 use Rattle.union_words.specs.Meanings.{file_meaning, libraries_meaning}
-use Rattle.union_inputs.proofs.FileLaws.{flow}
+use Rattle.union_files.proofs.FileLaws.{flow}
 use Rattle.union_files.specs.Inputs.{StopsOpening, OpensInOrder, files_of, states_of}
 use Rattle.union_files.proofs.InputLaws.{opens_behind, opens_later, drop_at}
 use Rattle.union_files.proofs.opening.+open_rest.Goals as goal

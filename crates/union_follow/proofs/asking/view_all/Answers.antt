@@ -1,8 +1,8 @@
 use Rattle.std.proofs.Common.{◌≡◌, ◌≤◌, ◌∷◌, [], length, drop, suc, ◌+◌, ◌<◌, refl, sym, ap, subst, ◌∙◌, arith, append-nil, length-append, drop-cons, add-one}
 use Rattle.std.specs.FinMap.{empty}
 use Rattle.std.proofs.lemmas.List.{length-map}
-use Rattle.load_sessions.specs.Askers.{Replied}
-use Rattle.load_sessions.specs.Entries.{entries_of}
+use Rattle.catalogue_query.specs.Replies.{Replied}
+use Rattle.catalogue_core.specs.Entries.{entries_of}
 use Rattle.load_sessions.proofs.AskLaws.{Leads, Leads-none, Leads-more, Leads-ends, IsPrefix-same}
 use Rattle.snapshot_desk.proofs.Prefixes.{prefix_trans, prefix_length}
 use Rattle.union_follow.proofs.EntryLaws.{answer_told, entries_prefix}

@@ -1,8 +1,8 @@
 use Rattle.std.proofs.Common.{[], length, append-nil, subst, arith}
 use Rattle.std.specs.FinMap.{empty}
-use Rattle.load_sessions.specs.Askers.{Replied}
-use Rattle.load_sessions.specs.Entries.{entries_of}
-use Rattle.load_results.proofs.ReplyLaws.{replied_over}
+use Rattle.catalogue_query.specs.Replies.{Replied}
+use Rattle.catalogue_core.specs.Entries.{entries_of}
+use Rattle.load_sessions.proofs.ReplyLaws.{replied_over}
 use Rattle.union_follow.proofs.following.ask_beside.Goals as goal
 
 pub returns-clause-replied : goal.returns-clause-replied

@@ -1,9 +1,9 @@
 use Rattle.std.proofs.Common.{[], length, append-nil, subst}
 use Rattle.std.specs.FinMap.{empty}
 use mathlib.Core.List.{IsPrefix}
-use Rattle.load_sessions.specs.Entries.{entries_of}
+use Rattle.catalogue_core.specs.Entries.{entries_of}
 use Rattle.snapshot_desk.proofs.Prefixes.{prefix_length}
-use Rattle.load_results.proofs.ReplyLaws.{replied_over}
+use Rattle.load_sessions.proofs.ReplyLaws.{replied_over}
 use Rattle.union_follow.proofs.following.ask_late.Goals as goal
 
 pub returns-clause-replied : goal.returns-clause-replied

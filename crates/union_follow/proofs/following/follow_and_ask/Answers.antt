@@ -8,9 +8,9 @@ use Rattle.catalogue_core.specs.Catalogues.{CatalogueValue}
 use Rattle.snapshot_desk.proofs.Prefixes.{prefix_trans}
 use Rattle.union_base.specs.Both.{both_true}
 use Rattle.union_files.proofs.DistinctLaws.{distinct_deliveries}
-use Rattle.union_inputs.proofs.FileLaws.{same_more}
+use Rattle.union_files.proofs.FileLaws.{same_more}
 use Rattle.union_files.specs.Inputs.{AreWithin, deliveries}
-use Rattle.load_results.specs.Replies.{AreReplies}
+use Rattle.catalogue_query.specs.Replies.{AreReplies}
 use Rattle.union_words.specs.Meanings.{libraries_meaning}
 use Rattle.union_words.specs.Words.{is_library_word, have_distinct_codes, most_libraries}
 use Rattle.union_follow.proofs.AskedLaws.{replies_over}

@@ -1,7 +1,7 @@
 use Rattle.std.proofs.Common.{subst}
 use Rattle.std.proofs.lemmas.Option.{slice_get_within}
 use Rattle.union_files.specs.Inputs.{files_of, states_of}
-use Rattle.union_inputs.proofs.FileLaws.{flow}
+use Rattle.union_files.proofs.FileLaws.{flow}
 use Rattle.union_words.specs.Meanings.{libraries_meaning}
 use Rattle.union_follow.proofs.ShelfLaws.{fresh_listed, fresh_unread, gathers_all, halts_at, listed_same}
 use Rattle.union_follow.specs.Turning.{AreTurnedFrom, HaltsIn}

@@ -5,11 +5,11 @@ use Rattle.library_batches.specs.Outcomes.{AreCounted}
 use Rattle.library_batches.specs.Reading.{AnswersBatch}
 use Rattle.library_stream.specs.Streaming.{most_ahead}
 use Rattle.library_stream.specs.declared.frame_reader.TheConstants.{LARGEST_SOURCE}
-use Rattle.load_sessions.specs.Entries.{entries_of}
-use Rattle.load_sessions.specs.Tallies.{found as found_under}
+use Rattle.catalogue_core.specs.Entries.{entries_of}
+use Rattle.library_batches.specs.Tallies.{found as found_under}
 use Rattle.load_sessions.proofs.TallyLaws.{found-none, few_ops, length-outcomes}
-use Rattle.union_inputs.proofs.BatchLaws.{Hands, hands_none, hands_more, hands_rest}
-use Rattle.union_inputs.proofs.SourceLaws.{on_told}
+use Rattle.union_files.proofs.BatchLaws.{Hands, hands_none, hands_more, hands_rest}
+use Rattle.union_files.proofs.SourceLaws.{on_told}
 use Rattle.union_follow.proofs.EntryLaws.{found_one_more, turns_as_more}
 use Rattle.union_follow.proofs.loading.load_batches.Goals as goal
 

@@ -3,9 +3,9 @@ use Rattle.catalogue_editions.specs.declared.batch.Batch.{Batch}
 use Rattle.library_batches.specs.Outcomes.{AreCounted, counted}
 use Rattle.library_stream.specs.Streaming.{most_ahead}
 use Rattle.library_stream.specs.declared.frame_reader.TheConstants.{LARGEST_SOURCE}
-use Rattle.load_sessions.specs.Entries.{entries_of}
-use Rattle.load_sessions.specs.Tallies.{found as found_under}
-use Rattle.union_inputs.proofs.BatchLaws.{Hands}
+use Rattle.catalogue_core.specs.Entries.{entries_of}
+use Rattle.library_batches.specs.Tallies.{found as found_under}
+use Rattle.union_files.proofs.BatchLaws.{Hands}
 use Rattle.union_follow.specs.Turning.{IsShown, turns_as}
 use Rattle.union_follow.proofs.loading.load_batches.Given as goal
 

@@ -3,11 +3,11 @@ use Rattle.std.specs.Prelude.{nat_lt}
 use Rattle.iso2709_frame.specs.Frames.{frames}
 use Rattle.library_batches.specs.Batches.{AreBatches}
 use Rattle.library_batches.specs.Outcomes.{AreCounted}
-use Rattle.load_sessions.specs.Entries.{entries_of}
-use Rattle.load_sessions.specs.Tallies.{found as found_under}
-use Rattle.union_reports.specs.Reports.{report_text}
-use Rattle.union_inputs.proofs.SourceLaws.{on_told}
-use Rattle.load_results.specs.declared.reports.Reports.{Reports}
+use Rattle.catalogue_core.specs.Entries.{entries_of}
+use Rattle.library_batches.specs.Tallies.{found as found_under}
+use Rattle.library_batches.specs.Reports.{report_text}
+use Rattle.union_files.proofs.SourceLaws.{on_told}
+use Rattle.union_files.specs.declared.reports.Reports.{Reports}
 use Rattle.union_follow.proofs.loading.load_file.Goals as goal
 
 pub returns-in-Ok-clause-reads : goal.returns-in-Ok-clause-reads

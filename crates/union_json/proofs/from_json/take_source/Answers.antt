@@ -3,7 +3,7 @@ use Rattle.std.proofs.KnownBytes.{Consumes-nil, Consumes-trans}
 use Rattle.std.proofs.lemmas.List.{take_at}
 use Rattle.union_json.specs.Converting.{HasTaken}
 use Rattle.library_stream.specs.declared.frame_reader.TheConstants.{LARGEST_SOURCE}
-use Rattle.union_inputs.proofs.SourceLaws.{on_told, long_source, whole_source}
+use Rattle.union_files.proofs.SourceLaws.{on_told, long_source, whole_source}
 use Rattle.union_json.proofs.from_json.take_source.Goals as goal
 
 pub pieces-init : goal.pieces-init

@@ -3,7 +3,7 @@ use Rattle.library_stream.proofs.AheadLaws.{Takes-more, handed_all}
 use Rattle.library_stream.specs.Streaming.{opened}
 use Rattle.library_stream.specs.declared.frame_reader.TheConstants.{LARGEST_SOURCE}
 use Rattle.union_json.specs.ToJson.{AreWritten}
-use Rattle.union_inputs.proofs.SourceLaws.{on_told}
+use Rattle.union_files.proofs.SourceLaws.{on_told}
 use Rattle.union_json.proofs.to_json.write_frames.Goals as goal
 
 pub loop-cut-preserved : goal.loop-cut-preserved

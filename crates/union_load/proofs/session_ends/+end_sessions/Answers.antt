@@ -1,9 +1,9 @@
 use Rattle.std.proofs.Common.{◌∷◌, [], sym, subst}
 use Rattle.std.specs.Prelude.{map}
 use Rattle.union_load.proofs.FaultLaws.{unfailed-one, unfailed-more}
-use Rattle.load_results.proofs.ReportLaws.{reported_both}
+use Rattle.union_files.proofs.ReportLaws.{reported_both}
 use Rattle.union_load.proofs.SessionLaws.{closes_behind}
-use Rattle.load_results.specs.Courses.{AreReported, file_of_course}
+use Rattle.union_files.specs.Courses.{AreReported, file_of_course}
 use Rattle.union_load.specs.Sessions.{Closes, NoneFailed, course_of, courses_of}
 use Rattle.union_load.proofs.session_ends.+end_sessions.Goals as goal
 

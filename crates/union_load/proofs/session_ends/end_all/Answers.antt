@@ -2,7 +2,7 @@ use Rattle.std.proofs.Common.{◌≡◌, subst}
 use Rattle.std.specs.Prelude.{map, Some, None}
 use Rattle.std.specs.Option.{option_map}
 use Rattle.union_load.proofs.FaultLaws.{failed-first, unfailed-gathers}
-use Rattle.load_results.specs.Courses.{AreReported, file_of_course}
+use Rattle.union_files.specs.Courses.{AreReported, file_of_course}
 use Rattle.union_load.specs.Sessions.{NoneFailed, Closes, RaisesFailed, courses_of, first_failed}
 use Rattle.union_words.specs.Words.{LibraryFile}
 use Rattle.union_words.specs.Meanings.{libraries_meaning}

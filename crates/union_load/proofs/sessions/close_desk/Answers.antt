@@ -5,8 +5,8 @@ use Rattle.catalogue_editions.specs.declared.batch.Batch.{Batch}
 use Rattle.catalogue_lock.specs.Ended.{Ended}
 use Rattle.catalogue_lock.specs.Rule.{EndedOk}
 use Rattle.catalogue_lock.specs.Tokens.{root_of}
-use Rattle.load_sessions.specs.Entries.{entries_of}
-use Rattle.load_results.proofs.ListLaws.{all_both, each_weaker}
+use Rattle.catalogue_core.specs.Entries.{entries_of}
+use Rattle.union_files.proofs.ListLaws.{all_both, each_weaker}
 use Rattle.union_load.proofs.ReplyLaws.{IsClosed, asked_over, is-closed}
 use Rattle.union_load.specs.Asked.{HasAsked, left_by}
 use Rattle.union_load.proofs.sessions.close_desk.Goals as goal

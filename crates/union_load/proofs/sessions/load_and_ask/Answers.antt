@@ -8,21 +8,20 @@ use mathlib.Core.Path.{fun_ext}
 use Rattle.catalogue_editions.specs.declared.batch.Batch.{Batch}
 use Rattle.catalogue_lock.specs.Rule.{EndedOk}
 use Rattle.catalogue_lock.specs.Tokens.{root_of, view}
-use Rattle.load_sessions.specs.Askers.{Replied}
-use Rattle.load_sessions.specs.Entries.{entries_of}
+use Rattle.catalogue_query.specs.Replies.{Replied, AreReplies}
+use Rattle.catalogue_core.specs.Entries.{entries_of}
 use Rattle.load_sessions.specs.Sessions.{IsReady}
 use Rattle.union_base.specs.Both.{both_true}
-use Rattle.load_results.proofs.CourseLaws.{united, delivered-files}
+use Rattle.union_files.proofs.CourseLaws.{united, delivered-files}
 use Rattle.union_files.proofs.DistinctLaws.{distinct_deliveries}
-use Rattle.union_inputs.proofs.FileLaws.{flow, same_more}
-use Rattle.load_results.proofs.ListLaws.{each_weaker}
-use Rattle.load_results.proofs.ReplyLaws.{replied_over}
+use Rattle.union_files.proofs.FileLaws.{flow, same_more}
+use Rattle.union_files.proofs.ListLaws.{each_weaker}
+use Rattle.load_sessions.proofs.ReplyLaws.{replied_over}
 use Rattle.union_load.proofs.ReplyLaws.{numbered_below}
 use Rattle.union_load.proofs.SessionLaws.{have_ended, ready_all}
 use Rattle.union_files.specs.Deliveries.{codes_of, AreDistinct, has_refused}
 use Rattle.union_files.specs.Inputs.{AreWithin, StopsAt, deliveries}
-use Rattle.load_results.specs.Replies.{AreReplies}
-use Rattle.load_results.specs.Courses.{course_text, delivery_of, ended_of, file_of_course}
+use Rattle.union_files.specs.Courses.{course_text, delivery_of, ended_of, file_of_course}
 use Rattle.union_load.specs.Sessions.{courses_of}
 use Rattle.union_files.specs.Unions.{HasUnited}
 use Rattle.union_words.specs.Meanings.{libraries_meaning}

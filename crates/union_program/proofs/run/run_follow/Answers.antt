@@ -2,18 +2,18 @@ use Rattle.std.proofs.Common.{◌≡◌, ◌≤◌, ◌++◌, [], length, refl, 
 use Rattle.std.specs.Prelude.{IfSome}
 use Rattle.names_file.specs.Named.{no_names}
 use Rattle.union_words.specs.Meanings.{libraries_meaning}
-use Rattle.union_inputs.specs.Inputs as all
-use Rattle.union_inputs.specs.declared.text_file.TheConstants.{LARGEST_TEXT}
-use Rattle.union_inputs.proofs.FileLaws.{flow, same_more}
-use Rattle.union_inputs.proofs.InputLaws.{on_files}
+use Rattle.union_files.specs.Limits as all
+use Rattle.union_files.specs.declared.text_file.TheConstants.{LARGEST_TEXT}
+use Rattle.union_files.proofs.FileLaws.{flow, same_more}
+use Rattle.union_files.proofs.LimitLaws.{on_files}
 use Rattle.union_files.specs.Inputs.{AreWithin, StopsAt}
 use Rattle.union_files.proofs.RunLaws.{stopped_at_libraries, within_cons}
 use Rattle.union_follow.specs.Following.{HasFollowed}
 use Rattle.union_watch.specs.AskLines.{lines_in}
-use Rattle.union_watch.specs.Runs.{asks_file, first_files, deliveries_of, IsWatchOf}
+use Rattle.union_watch.specs.WatchRuns.{asks_file, first_files, deliveries_of, IsWatchOf}
 use Rattle.union_watch.specs.Told.{told_of}
-use Rattle.union_commands.proofs.RunLaws.{keeps_all}
-use Rattle.union_commands.proofs.WatchLaws.{asked_run, HasRead}
+use Rattle.union_watch.proofs.RunLaws.{keeps_all}
+use Rattle.union_watch.proofs.WatchLaws.{asked_run, HasRead}
 use Rattle.union_program.specs.Follow.{AreInOrder, followed}
 use Rattle.union_program.proofs.FollowLaws.{followed-turned}
 use Rattle.union_program.proofs.run.run_follow.Goals as goal

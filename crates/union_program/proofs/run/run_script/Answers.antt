@@ -1,7 +1,7 @@
 use Rattle.std.proofs.Common.{refl}
 use Rattle.union_words.specs.declared.status.Status.TheVariants.{Memory}
 use Rattle.union_script.proofs.ScriptLaws.{stopped_at_script}
-use Rattle.union_inputs.proofs.FileLaws.{flow}
+use Rattle.union_files.proofs.FileLaws.{flow}
 use Rattle.union_program.proofs.run.run_script.Goals as goal
 
 pub returns-in-Err : goal.returns-in-Err

@@ -3,14 +3,14 @@ use Rattle.std.specs.Prelude.{IfSome}
 use Rattle.std.specs.Option.{option_copied}
 use Rattle.names_file.specs.Named.{named_by, names_inputs}
 use Rattle.names_file.proofs.NamesLaws.{names_read}
-use Rattle.union_inputs.proofs.FileLaws.{flow, same_more}
-use Rattle.union_inputs.proofs.InputLaws.{on_all, on_files}
+use Rattle.union_files.proofs.FileLaws.{flow, same_more}
+use Rattle.union_files.proofs.LimitLaws.{on_all, on_files}
 use Rattle.union_words.specs.Meanings.{loading_meaning}
 use Rattle.union_files.specs.Inputs.{AreWithin, StopsAt}
 use Rattle.union_files.specs.Interleavings.{IsInterleaving}
 use Rattle.union_files.proofs.RunLaws.{stopped_at_libraries}
-use Rattle.union_commands.specs.Runs.{deliveries_of, showing_of, HasTurned, IsUnionOf}
-use Rattle.union_commands.proofs.RunLaws.{stopped_at_names, loaded_run, loaded_noted, keeps_all}
+use Rattle.union_watch.specs.Runs.{deliveries_of, showing_of, HasTurned, IsUnionOf}
+use Rattle.union_watch.proofs.RunLaws.{stopped_at_names, loaded_run, loaded_noted, keeps_all}
 use Rattle.union_program.proofs.run.run_union.Goals as goal
 
 pub returns-in-Ok-load_by_names-clause-run : goal.returns-in-Ok-load_by_names-clause-run

@@ -3,19 +3,19 @@ use Rattle.std.specs.Prelude.{◌||◌, Err, IfSome}
 use Rattle.names_file.specs.Named.{named_by, IsNamedBy, names_inputs, ReadsNames}
 use Rattle.names_file.proofs.NamesLaws.{names_read}
 use Rattle.union_words.specs.Meanings.{loading_meaning}
-use Rattle.union_inputs.specs.Inputs as all
-use Rattle.union_inputs.specs.declared.text_file.TheConstants.{LARGEST_TEXT}
-use Rattle.union_inputs.proofs.FileLaws.{flow, same_more}
-use Rattle.union_inputs.proofs.InputLaws.{on_both, on_files}
+use Rattle.union_files.specs.Limits as all
+use Rattle.union_files.specs.declared.text_file.TheConstants.{LARGEST_TEXT}
+use Rattle.union_files.proofs.FileLaws.{flow, same_more}
+use Rattle.union_files.proofs.LimitLaws.{on_both, on_files}
 use Rattle.union_files.specs.Inputs.{AreWithin, StopsAt}
 use Rattle.union_files.specs.Interleavings.{IsInterleaving}
 use Rattle.union_files.proofs.RunLaws.{stopped_at_libraries, within_cons}
 use Rattle.union_watch.specs.AskLines.{lines_in}
-use Rattle.union_watch.specs.Runs.{asks_file, first_files, watch_of, deliveries_of, IsWatchOf}
+use Rattle.union_watch.specs.WatchRuns.{asks_file, first_files, watch_of, deliveries_of, IsWatchOf}
 use Rattle.union_watch.specs.Told.{told_of}
-use Rattle.union_commands.specs.Runs.{HasTurned}
-use Rattle.union_commands.proofs.RunLaws.{keeps_all, stopped_at_names, written_noted}
-use Rattle.union_commands.proofs.WatchLaws.{asked_run, HasRead}
+use Rattle.union_watch.specs.Runs.{HasTurned}
+use Rattle.union_watch.proofs.RunLaws.{keeps_all, stopped_at_names, written_noted}
+use Rattle.union_watch.proofs.WatchLaws.{asked_run, HasRead}
 use Rattle.union_program.proofs.run.run_watch.Goals as goal
 
 pub returns-in-Ok-load_and_answer-clause-run : goal.returns-in-Ok-load_and_answer-clause-run

@@ -8,7 +8,7 @@ use Rattle.union_script.specs.Lines.{Says}
 use Rattle.union_script.specs.Texts.{IsAnswer, IsReply, refused_word, refused_unknown}
 use Rattle.union_script.proofs.LineLaws.{says_line}
 use Rattle.union_script.proofs.StopLaws.{outflow}
-use Rattle.union_inputs.proofs.InputLaws.{on_all}
+use Rattle.union_files.proofs.LimitLaws.{on_all}
 use Rattle.union_script.proofs.asking.run_ask.Goals as goal
 
 pub returns-in-Ok-answer_text : goal.returns-in-Ok-answer_text

@@ -4,9 +4,9 @@ use Rattle.union_words.specs.ScriptLines.{Export, Works, Word}
 use Rattle.union_script.specs.Lines.{LinesRun}
 use Rattle.union_script.specs.Texts.{IsExport, IsWorkList, refused_word, told_line}
 use Rattle.union_script.proofs.LineLaws.{notices_run, says_line}
-use Rattle.union_inputs.proofs.FileLaws.{flow}
+use Rattle.union_files.proofs.FileLaws.{flow}
 use Rattle.union_script.proofs.StopLaws.{outflow}
-use Rattle.union_inputs.proofs.InputLaws.{on_all}
+use Rattle.union_files.proofs.LimitLaws.{on_all}
 use Rattle.union_script.proofs.line.run_line.Goals as goal
 
 pub returns-in-Export-clause-run : goal.returns-in-Export-clause-run

@@ -4,9 +4,9 @@ use Rattle.union_words.specs.ScriptLines.{Load}
 use Rattle.union_words.specs.Words
 use Rattle.union_script.specs.Lines.{Says}
 use Rattle.union_script.proofs.LineLaws.{says_line, stop_at_file, one_within}
-use Rattle.union_inputs.proofs.FileLaws.{flow}
+use Rattle.union_files.proofs.FileLaws.{flow}
 use Rattle.union_script.proofs.StopLaws.{outflow}
-use Rattle.union_inputs.proofs.InputLaws.{on_files}
+use Rattle.union_files.proofs.LimitLaws.{on_files}
 use Rattle.union_script.proofs.line.run_load.Goals as goal
 
 pub returns-in-Ok-clause-run : goal.returns-in-Ok-clause-run

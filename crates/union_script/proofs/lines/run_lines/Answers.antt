@@ -3,10 +3,10 @@ use Rattle.std.specs.Prelude.{IfSome}
 use Rattle.union_words.specs.Lines.{lines_of}
 use Rattle.union_script.specs.Lines.{HasRun, LinesStop}
 use Rattle.union_script.specs.Texts.{asked_by, script_of, told_from, told_after}
-use Rattle.union_inputs.proofs.FileLaws.{flow, same_more}
+use Rattle.union_files.proofs.FileLaws.{flow, same_more}
 use Rattle.union_script.proofs.StopLaws.{outflow, stop_more, stop_behind}
 use Rattle.union_script.proofs.TextLaws.{asked_behind, told_behind, run_none, run_behind}
-use Rattle.union_inputs.proofs.InputLaws.{on_all, on_both}
+use Rattle.union_files.proofs.LimitLaws.{on_all, on_both}
 use Rattle.union_script.proofs.lines.run_lines.Goals as goal
 
 pub loop-line-init : goal.loop-line-init

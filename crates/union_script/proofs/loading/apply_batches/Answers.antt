@@ -6,10 +6,10 @@ use Rattle.library_batches.specs.Reading.{AnswersBatch}
 use Rattle.library_stream.specs.Streaming.{most_ahead}
 use Rattle.library_stream.specs.declared.frame_reader.TheConstants.{LARGEST_SOURCE}
 use Rattle.union_script.proofs.BatchLaws.{found_behind, turns_more, few_outcomes}
-use Rattle.union_inputs.proofs.BatchLaws.{Hands, hands_none, hands_more, hands_rest}
+use Rattle.union_files.proofs.BatchLaws.{Hands, hands_none, hands_more, hands_rest}
 use Rattle.union_script.specs.Notices.{TellsTurn, TellsTurns}
 use Rattle.union_script.proofs.NoticeLaws.{tells_more}
-use Rattle.union_inputs.proofs.SourceLaws.{on_told}
+use Rattle.union_files.proofs.SourceLaws.{on_told}
 use Rattle.union_script.proofs.loading.apply_batches.Goals as goal
 
 pub loop-notices-init : goal.loop-notices-init

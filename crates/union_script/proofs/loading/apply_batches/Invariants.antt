@@ -6,7 +6,7 @@ use Rattle.library_stream.specs.Streaming.{most_ahead}
 use Rattle.library_stream.specs.declared.frame_reader.TheConstants.{LARGEST_SOURCE}
 use Rattle.union_script.specs.Notices.{TellsTurns}
 use Rattle.union_script.specs.Texts.{turns_of}
-use Rattle.union_inputs.proofs.BatchLaws.{Hands}
+use Rattle.union_files.proofs.BatchLaws.{Hands}
 use Rattle.union_script.proofs.loading.apply_batches.Given as goal
 
 -- the batches that were handed out are applied and counted, and nothing failed

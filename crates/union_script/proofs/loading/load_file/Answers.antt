@@ -4,7 +4,7 @@ use Rattle.union_io.specs.Counts.{SameElsewhere}
 use Rattle.union_io.specs.Files.{told_file}
 use Rattle.union_words.specs.Flows.{InputFile}
 use Rattle.union_words.specs.declared.input.Input.TheVariants.{Library}
-use Rattle.union_inputs.proofs.FileLaws.{file_stops, stops_before, not_opened}
+use Rattle.union_files.proofs.FileLaws.{file_stops, stops_before, not_opened}
 use Rattle.union_script.proofs.loading.load_file.Goals as goal
 
 pub returns-in-Ok-open-clause-reads : goal.returns-in-Ok-open-clause-reads

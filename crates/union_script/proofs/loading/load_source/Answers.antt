@@ -4,8 +4,8 @@ use Rattle.catalogue_core.specs.Histories.{current}
 use Rattle.iso2709_frame.specs.Frames.{frames}
 use Rattle.library_batches.specs.Batches.{AreBatches}
 use Rattle.library_batches.specs.Outcomes.{found_in}
-use Rattle.union_reports.specs.Reports.{report_text}
-use Rattle.union_inputs.proofs.SourceLaws.{on_told}
+use Rattle.library_batches.specs.Reports.{report_text}
+use Rattle.union_files.proofs.SourceLaws.{on_told}
 use Rattle.union_script.proofs.BatchLaws.{some_of}
 use Rattle.union_script.proofs.loading.load_source.Goals as goal
 

@@ -1,7 +1,7 @@
 use Rattle.std.proofs.Common.{[], subst}
 use Rattle.union_script.specs.Lines.{LinesStop}
 use Rattle.union_script.specs.Texts.{script_of}
-use Rattle.union_inputs.proofs.FileLaws.{flow}
+use Rattle.union_files.proofs.FileLaws.{flow}
 use Rattle.union_script.proofs.ScriptLaws.{ran_part}
 use Rattle.union_script.proofs.StopLaws.{outflow}
 use Rattle.union_script.proofs.run.script_run.Goals as goal

@@ -1,5 +1,5 @@
 use Rattle.std.proofs.Common.{append_assoc}
-use Rattle.union_reports.specs.Reports.{counted}
+use Rattle.library_batches.specs.Reports.{counted}
 use Rattle.union_trial.proofs.trial.add_bytes.Goals as goal
 
 pub returns : goal.returns

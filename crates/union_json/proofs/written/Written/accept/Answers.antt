@@ -1,7 +1,7 @@
 use Rattle.std.proofs.Common.{[], ◌∷◌, ◌++◌, ◌+◌, length, sym, ap, subst, ◌∙◌}
 use Rattle.std.proofs.lemmas.List.{length_push}
 use Rattle.library_batches.specs.Streams.{accepted, AreSpelled}
-use Rattle.union_inputs.proofs.FrameLaws.{accepted-one_more, refused-accepted_more}
+use Rattle.union_files.proofs.FrameLaws.{accepted-one_more, refused-accepted_more}
 use Rattle.union_json.proofs.WrittenLaws.{json_text-more, spelled-more}
 use Rattle.union_json.specs.ToJson.{json_text}
 use Rattle.union_json.proofs.written.Written.accept.Goals as goal

@@ -1,7 +1,7 @@
 use Rattle.std.proofs.Common.{◌+◌, length, sym, ap, subst, ◌∙◌}
 use Rattle.std.proofs.lemmas.List.{length_push}
 use Rattle.library_batches.specs.Streams.{AreSpelled}
-use Rattle.union_inputs.proofs.FrameLaws.{accepted-refused_more, refused-one_more}
+use Rattle.union_files.proofs.FrameLaws.{accepted-refused_more, refused-one_more}
 use Rattle.union_json.proofs.written.Written.refuse.Goals as goal
 
 pub returns-clause-counted : goal.returns-clause-counted

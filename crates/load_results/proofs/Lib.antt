@@ -1,5 +1,0 @@
-pub mod ListLaws
-pub mod OwnLaws
-pub mod CourseLaws
-pub mod ReplyLaws
-pub mod ReportLaws

@@ -1,4 +1,0 @@
-pub mod TallyLaws
-pub mod NoteLaws
-pub mod RunLaws
-pub mod WatchLaws

@@ -1,6 +1,0 @@
-use Rattle.union_commands.proofs.NoteLaws.{front_more}
-use Rattle.union_commands.proofs.notes.put_both.Goals as goal
-
-pub returns-clause-front : goal.returns-clause-front
-returns-clause-front g c =
-    front_more c.put_all-2.result _ _ _ c.args.one.now c.args.two.now c.in_ok-put_all.ensures.all c.put_all-2.ensures.front

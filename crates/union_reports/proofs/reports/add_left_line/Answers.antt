@@ -1,9 +1,0 @@
-use Rattle.std.proofs.Common.{append_assoc}
-use Rattle.union_reports.specs.Reports.{left_line}
-use Rattle.union_reports.proofs.reports.add_left_line.Goals as goal
-
-pub returns : goal.returns
-unfolding left_line
-returns c =
-    rw (c.in_ok-push.ensures.items, c.in_ok-add_counted.ensures, c.bytes.ensures, c.in_ok-name.ensures, c.in_ok-extend_from_slice.ensures.items)
-    (simp append_assoc)

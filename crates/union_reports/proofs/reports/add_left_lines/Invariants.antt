@@ -1,9 +1,0 @@
-use Rattle.std.proofs.Common.{◌≡◌, ◌++◌}
-use Rattle.std.specs.Prelude.{take}
-use Rattle.std.specs.List.{flat_map}
-use Rattle.union_reports.specs.Reports.{left_line}
-use Rattle.union_reports.proofs.reports.add_left_lines.Given as goal
-
--- a line for each that was gone over
-abbrev pub invariant-loop-line : goal.invariant-loop-line
-invariant-loop-line l = l.text.items ≡ l.initial.text.items ++ flat_map left_line (take l.line-index l.left)

@@ -1,8 +1,0 @@
-use Rattle.std.proofs.Common.{◌≡◌, ◌++◌}
-use Rattle.std.specs.Prelude.{take}
-use Rattle.union_script.specs.Texts.{ended_lines}
-use Rattle.union_script.proofs.line_texts.add_lines.Given as goal
-
--- the lines so far were added
-abbrev pub invariant-loop-line : goal.invariant-loop-line
-invariant-loop-line l = l.text.items ≡ l.initial.text.items ++ ended_lines (take l.line-index l.lines)

@@ -1,0 +1,194 @@
+//! The writing of what libraries came to: of the catalogue's editions on `out`, and of the reports on `notes` after it.
+ghost use Rattle.std.specs.Prelude.{◌≡◌, ◌++◌, IfOk};
+ghost use Rattle.std.specs.List.{flat_map};
+ghost use Rattle.library_batches.specs.Reports.{left_line};
+ghost use Rattle.union_words.specs.Statuses.{end_by};
+ghost use Rattle.union_watch.specs.Runs.{listed, showing_of, shown_by, IsReported, Shows};
+
+use crate::notes::put_early;
+use crate::shown::Shown;
+use catalogue_export::by_workers::export_by_workers;
+use catalogue_export::export_fail::ExportFail;
+use catalogue_export::form::{ExportForm, Iso2709};
+use catalogue_export::json_export::JsonLines;
+use catalogue_export::works_text::works_text;
+use library_batches::report_texts::add_left_lines;
+use std::alloc::Global;
+use std::mem::forget;
+use std::thread::Threads;
+use union_base::memory::Memory;
+use union_base::record_id::RecordId;
+use union_files::loaded::Loaded;
+use union_io::failed::Failed;
+use union_io::sink::{Sink, put_all};
+use union_words::form::Form;
+use union_words::status::Status;
+use union_words::workers::Workers;
+
+/// How a run ends that came to its end, by whether some frame was refused. Takes no memory.
+fn end_by(refused: bool) -> Status
+    ensures { result ≡ end_by refused }
+{
+    if refused {
+        Status::DoneWithRefusals
+    } else {
+        Status::Done
+    }
+}
+
+/// The reports, and after them a line for each edition of which fields were left out.
+fn with_left_lines(
+    alloc: Global,
+    reports: Vec<u8>,
+    left: &[(RecordId, usize)],
+) -> Result<Vec<u8>, Memory>
+    ensures { IfOk result (λ text. text.items ≡ reports.items ++ flat_map left_line left.now) }
+{
+    let mut text = reports;
+    add_left_lines(alloc, &mut text, left)?;
+    Ok(text)
+}
+
+/// Writes the reports, and a line for each edition of which fields were left out. If allocation fails, the line that says so
+/// is written in their place.
+///
+/// Where all was written, the catalogue's memory is not given back: the program ends after this, and the system takes all of it
+/// back at once. With any other status it is.
+pub fn write_reports<N: Sink>(
+    alloc: Global,
+    loaded: Loaded,
+    left: &[(RecordId, usize)],
+    notes: &mut N,
+) -> Status
+    ensures { IsReported (loaded.reports.items ++ flat_map left_line left.now)
+        (end_by loaded.refused)
+        (record {
+          old = N.written notes.old;
+          new = N.written notes.new;
+          before = N.faults notes.old;
+          after = N.faults notes.new;
+        })
+        result }
+{
+    let (catalogue, reports, refused) = loaded.into_parts();
+    match with_left_lines(alloc, reports, left) {
+        Ok(text) => match put_all(notes, text.as_slice()) {
+            Ok(()) => {
+                forget(catalogue);
+                end_by(refused)
+            }
+            Err(Failed) => Status::WriteFault,
+        },
+        Err(Memory) => {
+            put_early(notes, &Status::Memory);
+            Status::Memory
+        }
+    }
+}
+
+/// Writes the records of the editions in this form, which `workers` workers make, the reports, and what was left out.
+fn write_export<R: Threads + Sync, F: ExportForm + Send, O: Sink, N: Sink>(
+    rt: &R,
+    alloc: Global,
+    workers: Workers,
+    loaded: Loaded,
+    out: &mut O,
+    notes: &mut N,
+) -> Status
+    ensures { Shows (shown_by F.shown) loaded
+        (record {
+          old = O.written out.old;
+          new = O.written out.new;
+          before = O.faults out.old;
+          after
+              = O.faults out.new;
+        })
+        (record {
+          old = N.written notes.old;
+          new = N.written notes.new;
+          before = N.faults notes.old;
+          after = N.faults notes.new;
+        })
+        result }
+{
+    let mut left = Vec::new(alloc);
+    let catalogue = &loaded.catalogue;
+    match export_by_workers::<R, F, O>(rt, alloc, catalogue, workers.number(), out, &mut left) {
+        Ok(()) => write_reports(alloc, loaded, left.as_slice(), notes),
+        Err(ExportFail::WriteFault) => Status::WriteFault,
+        Err(ExportFail::Memory) => {
+            put_early(notes, &Status::Memory);
+            Status::Memory
+        }
+    }
+}
+
+/// Writes the list of works, and the reports.
+fn write_works<O: Sink, N: Sink>(
+    alloc: Global,
+    loaded: Loaded,
+    out: &mut O,
+    notes: &mut N,
+) -> Status
+    ensures { Shows listed loaded
+        (record {
+          old = O.written out.old;
+          new = O.written out.new;
+          before = O.faults out.old;
+          after
+              = O.faults out.new;
+        })
+        (record {
+          old = N.written notes.old;
+          new = N.written notes.new;
+          before = N.faults notes.old;
+          after = N.faults notes.new;
+        })
+        result }
+{
+    match works_text(alloc, &loaded.catalogue, out) {
+        Ok(()) => write_reports(alloc, loaded, &[], notes),
+        Err(ExportFail::WriteFault) => Status::WriteFault,
+        Err(ExportFail::Memory) => {
+            put_early(notes, &Status::Memory);
+            Status::Memory
+        }
+    }
+}
+
+/// Writes what is to be shown of the catalogue, and the reports. The records of an export are made by `workers` workers.
+pub fn write_shown<R: Threads + Sync, O: Sink, N: Sink>(
+    rt: &R,
+    alloc: Global,
+    shown: Shown,
+    workers: Workers,
+    loaded: Loaded,
+    out: &mut O,
+    notes: &mut N,
+) -> Status
+    ensures { Shows (showing_of shown) loaded
+        (record {
+          old = O.written out.old;
+          new = O.written out.new;
+          before = O.faults out.old;
+          after
+              = O.faults out.new;
+        })
+        (record {
+          old = N.written notes.old;
+          new = N.written notes.new;
+          before = N.faults notes.old;
+          after = N.faults notes.new;
+        })
+        result }
+{
+    match shown {
+        Shown::Export(Form::Iso2709) => {
+            write_export::<R, Iso2709, O, N>(rt, alloc, workers, loaded, out, notes)
+        }
+        Shown::Export(Form::Json) => {
+            write_export::<R, JsonLines, O, N>(rt, alloc, workers, loaded, out, notes)
+        }
+        Shown::Works => write_works(alloc, loaded, out, notes),
+    }
+}

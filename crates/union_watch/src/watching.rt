@@ -1,0 +1,101 @@
+//! The command `watch`: what was loaded and asked is written, the text on `out` and the reports on `notes` after it.
+ghost use Rattle.std.specs.Prelude.{◌≡◌, ◌++◌, ◌||◌, map};
+ghost use Rattle.union_files.specs.Readings.{ReadsFile};
+ghost use Rattle.union_words.specs.Statuses.{end_by};
+ghost use Rattle.union_watch.specs.AskLines.{line_meaning};
+ghost use Rattle.union_watch.specs.Told.{told_of};
+ghost use Rattle.union_watch.specs.WatchTexts.{watch_text};
+ghost use Rattle.union_watch.specs.Runs.{Written};
+
+use crate::answered::Answered;
+use crate::notes::put_early;
+use crate::showing::write_reports;
+use crate::writing::write_watch;
+use catalogue_export::export_fail::ExportFail;
+use std::alloc::Global;
+use union_base::bytes::Bytes;
+use union_base::memory::Memory;
+use union_files::loaded::Loaded;
+use union_files::text_file::read_text_file;
+use union_io::shelf::Shelf;
+use union_io::sink::Sink;
+use union_words::input::Input;
+use union_words::status::Status;
+
+/// Reads the file of questions of that name whole.
+pub fn read_asks<F: Shelf>(alloc: Global, path: &[u8], shelf: &mut F) -> Result<Vec<u8>, Status>
+    ensures files { F.files shelf.new ≡ F.files shelf.old }
+    ensures reads { ReadsFile result (record { input = Input.Asks; path = path.now })
+        (record {
+          files = F.files shelf.old;
+          before = F.faults shelf.old;
+          after = F.faults shelf.new;
+        })
+        (λ text bytes. text.items ≡ bytes) }
+{
+    match Bytes::of(alloc, path) {
+        Ok(path) => read_text_file(alloc, &path, Input::Asks, shelf),
+        Err(Memory) => Err(Status::Memory),
+    }
+}
+
+/// What was loaded, with a refused line counted as a refused frame.
+fn with_refusal(loaded: Loaded, refused: bool) -> Loaded
+    ensures reports { result.reports ≡ loaded.reports }
+    ensures refused { result.refused ≡ (loaded.refused || refused) }
+{
+    let mut all = loaded;
+    all.refused = all.refused || refused;
+    all
+}
+
+/// Writes what `watch` shows of what was loaded and asked, and the reports.
+pub fn write_answered<O: Sink, N: Sink>(
+    alloc: Global,
+    answered: Answered<'_>,
+    out: &mut O,
+    notes: &mut N,
+) -> Status
+    ensures { Written (watch_text answered.entry.loaded.catalogue.history
+        (told_of (map line_meaning answered.entry.lines.items)
+        (answered.entry.beside.items ++ answered.entry.late.items)))
+        answered.entry.loaded.reports.items (end_by
+        (answered.entry.loaded.refused || answered.entry.refused))
+        (record {
+          old = O.written out.old;
+          new = O.written out.new;
+          before = O.faults out.old;
+          after
+              = O.faults out.new;
+        })
+        (record {
+          old = N.written notes.old;
+          new = N.written notes.new;
+          before = N.faults notes.old;
+          after = N.faults notes.new;
+        })
+        result }
+{
+    let Answered {
+        loaded,
+        lines,
+        beside,
+        late,
+        refused,
+    } = answered;
+    match write_watch(
+        alloc,
+        &loaded.catalogue,
+        lines.as_slice(),
+        beside,
+        late,
+        out,
+    ) {
+        Ok(()) => write_reports(alloc, with_refusal(loaded, refused), &[], notes),
+        Err(ExportFail::WriteFault) => Status::WriteFault,
+        Err(ExportFail::Memory) => {
+            put_early(notes, &Status::Memory);
+            Status::Memory
+        }
+    }
+}
