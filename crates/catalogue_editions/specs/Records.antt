@@ -2,7 +2,7 @@
 use Rattle.std.specs.Prelude.{◌≡◌, ℕ, Bool, true, false, ◌++◌, IsTrue, List, Option, Some, None, refl}
 use Rattle.std.specs.List.{flat_map}
 use Rattle.marc_fields.specs.declared.marc_record.Record.{Record}
-use Rattle.match_features.specs.Gathering.{assigned_pair, numbers_in, features}
+use Rattle.record_features.specs.Gathering.{assigned_pair, numbers_in, features}
 use Rattle.field_merge.specs.Contents.{contributor, content}
 use Rattle.catalogue_editions.specs.LinkedLaws.{linked-one}
 use Rattle.catalogue_editions.specs.RecordLaws.{is_loaded, sound_record}

@@ -17,7 +17,7 @@ use field_merge::preference::Preference;
 use marc_fields::marc_record::Record;
 use marc_parts::loads::is_deleted;
 use marc_parts::parts::control_number;
-use match_features::of_record::features_of;
+use record_features::of_record::features_of;
 use std::alloc::Global;
 use union_base::bytes::Bytes;
 use union_base::library_code::LibraryCode;

@@ -6,7 +6,7 @@ use match_features::control_pair::ControlPair;
 use match_features::description_key::DescriptionKey;
 use match_features::features::Features;
 use match_features::keys::{FeatureKey, feature_keys};
-use match_features::of_record::features_of;
+use record_features::of_record::features_of;
 use merge_laws::join::Join;
 use std::alloc::Global;
 use std::mem::size_of;

@@ -4,7 +4,7 @@ ghost use Rattle.std.specs.Prelude.{◌+◌, ◌≤◌, length};
 use crate::frames::record_in;
 use match_features::features::Features;
 use match_features::keys::{FeatureKey, posted_beside, posted_keys, sought_beside, sought_keys};
-use match_features::of_record::features_of;
+use record_features::of_record::features_of;
 use merge_laws::join::Join;
 use std::alloc::Global;
 use std::test::Fail;

@@ -6,13 +6,13 @@ ghost use Rattle.std.specs.List.{list_all};
 ghost use Rattle.marc_parts.specs.Loads.{is_loadable};
 ghost use Rattle.union_base.specs.SortedLists.{set_of};
 ghost use Rattle.match_features.specs.Kept.{has_some, pairs_cmp, texts_cmp};
-ghost use Rattle.match_features.specs.Gathering.{own_pair, assigned_pair, types_of, date_in, features};
+ghost use Rattle.record_features.specs.Gathering.{own_pair, assigned_pair, types_of, date_in, features};
 
-use crate::features::Features;
 use crate::gathering::{Findings, gathered};
 use isbn_keys::control::pair;
 use marc_fields::marc_record::Record;
 use marc_parts::parts::{control_number, text_under};
+use match_features::features::Features;
 use std::alloc::Global;
 use union_base::bytes::Bytes;
 use union_base::library_code::LibraryCode;

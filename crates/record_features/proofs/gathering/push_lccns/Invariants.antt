@@ -1,7 +1,7 @@
 use Rattle.std.proofs.Common.{◌≡◌, ◌++◌}
 use Rattle.std.specs.List.{flat_map}
-use Rattle.match_features.specs.Gathering.{lccn_in}
-use Rattle.match_features.proofs.gathering.push_lccns.Given as goal
+use Rattle.record_features.specs.Gathering.{lccn_in}
+use Rattle.record_features.proofs.gathering.push_lccns.Given as goal
 
 -- what was gathered, and what the subfields that are left give
 abbrev pub invariant-loop-subfield : goal.invariant-loop-subfield

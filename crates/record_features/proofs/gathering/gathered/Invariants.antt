@@ -1,7 +1,7 @@
 use Rattle.std.proofs.Common.{◌≡◌, ◌++◌, take}
 use Rattle.std.specs.List.{flat_map}
-use Rattle.match_features.specs.Gathering.{numbers_in, isbns_in, issns_in, title_in, name_in}
-use Rattle.match_features.proofs.gathering.gathered.Given as goal
+use Rattle.record_features.specs.Gathering.{numbers_in, isbns_in, issns_in, title_in, name_in}
+use Rattle.record_features.proofs.gathering.gathered.Given as goal
 
 abbrev pub invariant-loop-field : goal.invariant-loop-field
 invariant-loop-field l =

@@ -4,10 +4,10 @@ use Rattle.union_base.specs.SortedLists.{set_of}
 use Rattle.marc_parts.specs.Parts.{text_under}
 use Rattle.workset_keys.specs.Names.{HasTexts}
 use Rattle.match_features.specs.Kept.{has_some, pairs_cmp, texts_cmp}
-use Rattle.match_features.specs.Gathering.{numbers_in, isbns_in, issns_in, title_in, name_in, date_in, features}
-use Rattle.match_features.proofs.Loadable.{loadable_texts}
-use Rattle.match_features.proofs.Made.{features_made}
-use Rattle.match_features.proofs.of_record.features_of.Goals as goal
+use Rattle.record_features.specs.Gathering.{numbers_in, isbns_in, issns_in, title_in, name_in, date_in, features}
+use Rattle.record_features.proofs.Loadable.{loadable_texts}
+use Rattle.record_features.proofs.Made.{features_made}
+use Rattle.record_features.proofs.of_record.features_of.Goals as goal
 
 pub gathered-requires : goal.gathered-requires
 gathered-requires c = subst (All HasTexts) (sym c.as_slice-fields.ensures) (loadable_texts c.args.rec.now c.requires)

@@ -1,7 +1,7 @@
 use Rattle.std.proofs.Common.{◌∙◌}
 use Rattle.match_features.specs.Kept.{are_features}
 use Rattle.match_features.specs.KeptLaws.{kept_sets}
-use Rattle.match_features.proofs.of_record.of_lists.Goals as goal
+use Rattle.record_features.proofs.of_record.of_lists.Goals as goal
 
 pub invariant_of-result : goal.invariant_of-result
 invariant_of-result c = record {
