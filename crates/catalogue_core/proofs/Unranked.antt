@@ -26,8 +26,8 @@ use Rattle.catalogue_editions.specs.Ids.{edition_cmp}
 use Rattle.catalogue_editions.specs.Joining.{join}
 use Rattle.catalogue_editions.specs.JoinLaws.{edition_join_laws}
 use Rattle.catalogue_editions.specs.MatchLaws.{edition_match_laws}
-use Rattle.catalogue_editions.specs.RecordLaws.{is_loaded}
-use Rattle.catalogue_editions.specs.Records.{where_true, edition_made, edition}
+use Rattle.record_editions.specs.RecordLaws.{is_loaded}
+use Rattle.record_editions.specs.Records.{where_true, edition_made, edition}
 use Rattle.catalogue_editions.specs.Resolutions.{IsOrderedResolution}
 use Rattle.catalogue_core.specs.Preferring.{editions_by, unranked}
 use Rattle.catalogue_editions.proofs.Apart.{one-ordered}

@@ -5,7 +5,7 @@ use Rattle.union_base.specs.declared.field.Field.{Field}
 use Rattle.union_base.specs.declared.record_id.RecordId.{RecordId}
 use Rattle.marc_fields.specs.declared.marc_record.Record.{Record}
 use Rattle.match_features.specs.declared.features.Features.{Features}
-use Rattle.catalogue_editions.specs.Records.{edition}
+use Rattle.record_editions.specs.Records.{edition}
 use Rattle.catalogue_editions.specs.declared.edition.Edition.{Edition}
 
 -- each library's record that can be loaded, as the preference makes it an edition

@@ -11,9 +11,9 @@ ghost use Rattle.catalogue_core.specs.Preferring.{editions_by, unranked};
 ghost use Rattle.catalogue_core.specs.Reaches.{IsReachOfInsertion, IsReachOfWithdrawal};
 
 pub use catalogue_editions::laws::{
-    accepted_can_be_loaded, common_contributor_matches, ordered_resolution_is_unique,
-    sorted_resolution_is_ordered,
+    common_contributor_matches, ordered_resolution_is_unique, sorted_resolution_is_ordered,
 };
+pub use record_editions::laws::accepted_can_be_loaded;
 
 /// The editions of a history are one list.
 pub fn editions_of_a_history_are_unique()

@@ -12,9 +12,10 @@
 #![tactic(auto)]
 
 pub use catalogue_editions::{
-    batch, edition, net, op, ordering, outcome, prepared, records, shown, work_key,
+    batch, edition, net, op, ordering, outcome, prepared, shown, work_key,
 };
 pub use edition_blocks::delta;
+pub use record_editions::records;
 
 pub mod catalogue;
 pub mod grouping;

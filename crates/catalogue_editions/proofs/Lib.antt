@@ -2,8 +2,6 @@ mod EditionTexts
 pub mod KeyTexts
 mod LeastNames
 pub mod Apart
-pub mod OwnLaws
-mod RecordsLaws
 mod NetLaws
 mod JoinedLaws
 mod BorrowedUnions

@@ -4,8 +4,8 @@ ghost use Rattle.marc_rules.specs.Accepted.{IsAccepted};
 ghost use Rattle.union_keys.specs.Standings.{edition_by, standing_of};
 
 use catalogue_editions::edition::Edition;
-use catalogue_editions::laws::accepted_can_be_loaded;
-use catalogue_editions::records::{control_of, edition_of};
+use record_editions::laws::accepted_can_be_loaded;
+use record_editions::records::{control_of, edition_of};
 use field_merge::preference::Preference;
 use marc_fields::marc_record::Record;
 use marc_parts::loads::is_deleted;

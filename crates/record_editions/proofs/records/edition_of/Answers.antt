@@ -8,10 +8,10 @@ use Rattle.marc_fields.specs.Spelling.{is_short}
 use Rattle.marc_parts.specs.Loads.{is_loadable}
 use Rattle.catalogue_editions.specs.Linked.{are_linked}
 use Rattle.catalogue_editions.specs.Sound.{is_sound}
-use Rattle.catalogue_editions.specs.RecordLaws.{is_loaded}
-use Rattle.catalogue_editions.specs.Records.{edition_made}
-use Rattle.catalogue_editions.proofs.RecordsLaws.{edition-is}
-use Rattle.catalogue_editions.proofs.records.edition_of.Goals as goal
+use Rattle.record_editions.specs.RecordLaws.{is_loaded}
+use Rattle.record_editions.specs.Records.{edition_made}
+use Rattle.record_editions.proofs.RecordsLaws.{edition-is}
+use Rattle.record_editions.proofs.records.edition_of.Goals as goal
 
 pub invariant_of-parts : goal.invariant_of-parts
 invariant_of-parts c =

@@ -1,5 +1,5 @@
-use Rattle.catalogue_editions.proofs.OwnLaws.{own-edition}
-use Rattle.catalogue_editions.proofs.records.op_of.Goals as goal
+use Rattle.record_editions.proofs.OwnLaws.{own-edition}
+use Rattle.record_editions.proofs.records.op_of.Goals as goal
 
 pub returns-in_ok-edition-clause-own : goal.returns-in_ok-edition-clause-own
 returns-in_ok-edition-clause-own c =

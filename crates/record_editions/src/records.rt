@@ -2,16 +2,16 @@
 ghost use Rattle.std.specs.Prelude.{◌≡◌, Some, IfOk, IsTrue};
 ghost use Rattle.marc_rules.specs.Accepted.{IsAccepted};
 ghost use Rattle.catalogue_editions.specs.Batches.{is_own_op};
-ghost use Rattle.catalogue_editions.specs.Ops.{op};
+ghost use Rattle.record_editions.specs.Ops.{op};
 ghost use Rattle.std.specs.List.{list_all};
 ghost use Rattle.marc_fields.specs.Spelling.{is_short};
 ghost use Rattle.marc_parts.specs.Parts.{control_number};
 ghost use Rattle.marc_parts.specs.Loads.{is_loadable};
-ghost use Rattle.catalogue_editions.specs.Records.{IsEditionOf, edition};
+ghost use Rattle.record_editions.specs.Records.{IsEditionOf, edition};
 
-use crate::edition::{Edition, EditionParts};
 use crate::laws::accepted_can_be_loaded;
-use crate::op::Op;
+use catalogue_editions::edition::{Edition, EditionParts};
+use catalogue_editions::op::Op;
 use field_merge::making::content_of;
 use field_merge::preference::Preference;
 use marc_fields::marc_record::Record;

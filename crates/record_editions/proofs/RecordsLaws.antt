@@ -2,8 +2,8 @@
 use Rattle.std.proofs.Common.{◌≡◌, ℕ, Bool, true, false, IsTrue, List, refl, sym, ap}
 use Rattle.std.specs.Prelude.{Some}
 use Rattle.marc_fields.specs.declared.marc_record.Record.{Record}
-use Rattle.catalogue_editions.specs.RecordLaws.{is_loaded}
-use Rattle.catalogue_editions.specs.Records.{IsEditionOf, where_true, edition_made, edition}
+use Rattle.record_editions.specs.RecordLaws.{is_loaded}
+use Rattle.record_editions.specs.Records.{IsEditionOf, where_true, edition_made, edition}
 use Rattle.catalogue_editions.specs.Equal.{same_editions}
 use Rattle.catalogue_editions.specs.declared.edition.Edition.{Edition}
 

@@ -5,7 +5,7 @@ use Rattle.marc_fields.specs.declared.marc_record.Record.{Record}
 use Rattle.record_features.specs.Gathering.{assigned_pair, numbers_in, features}
 use Rattle.field_merge.specs.Contents.{contributor, content}
 use Rattle.catalogue_editions.specs.LinkedLaws.{linked-one}
-use Rattle.catalogue_editions.specs.RecordLaws.{is_loaded, sound_record}
+use Rattle.record_editions.specs.RecordLaws.{is_loaded, sound_record}
 use Rattle.catalogue_editions.specs.declared.edition.Edition.{Edition}
 
 -- the edition has the features and, by the preference, the content of the library's record

@@ -14,7 +14,7 @@ use Rattle.field_merge.specs.Ranks.{rank}
 use Rattle.field_merge.specs.Contents.{is_main_entry, slot, contributor, content}
 use Rattle.field_merge.specs.declared.rank.Rank.{Rank}
 use Rattle.catalogue_editions.specs.Batches.{is_one_of, is_at_level, has_one_level, is_own}
-use Rattle.catalogue_editions.specs.Records.{IsEditionOf}
+use Rattle.record_editions.specs.Records.{IsEditionOf}
 use Rattle.catalogue_editions.specs.declared.edition.Edition.{Edition}
 
 same_number : (n : ℕ) → (n == n) ≡ true

@@ -4,7 +4,7 @@ use Rattle.std.specs.Option.{option_map}
 use Rattle.marc_fields.specs.declared.marc_record.Record.{Record}
 use Rattle.marc_parts.specs.Parts.{control_number}
 use Rattle.marc_parts.specs.Loads.{is_deleted}
-use Rattle.catalogue_editions.specs.Records.{edition}
+use Rattle.record_editions.specs.Records.{edition}
 use Rattle.catalogue_editions.specs.declared.op.Op.{Op}
 use Rattle.catalogue_editions.specs.declared.op.Op.TheVariants.{Load, Withdraw}
 
