@@ -1,7 +1,7 @@
 -- The edition of a record is told by its features and its content.
 use Rattle.std.proofs.Common.{◌≡◌, ℕ, Bool, true, false, IsTrue, List, refl, sym, ap}
 use Rattle.std.specs.Prelude.{Some}
-use Rattle.marc_fields.specs.declared.marc_record.Record.{Record}
+use Rattle.marc_parts.specs.declared.marc_record.Record.{Record}
 use Rattle.record_editions.specs.RecordLaws.{is_loaded}
 use Rattle.record_editions.specs.Records.{IsEditionOf, where_true, edition_made, edition}
 use Rattle.catalogue_editions.specs.Equal.{same_editions}

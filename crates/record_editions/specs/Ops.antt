@@ -1,7 +1,7 @@
 -- What a record that a library delivers asks for.
 use Rattle.std.specs.Prelude.{ℕ, List, Option, Some, if◌then◌else◌}
 use Rattle.std.specs.Option.{option_map}
-use Rattle.marc_fields.specs.declared.marc_record.Record.{Record}
+use Rattle.marc_parts.specs.declared.marc_record.Record.{Record}
 use Rattle.marc_parts.specs.Parts.{control_number}
 use Rattle.marc_parts.specs.Loads.{is_deleted}
 use Rattle.record_editions.specs.Records.{edition}

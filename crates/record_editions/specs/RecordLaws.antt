@@ -13,7 +13,7 @@ use Rattle.union_base.specs.Bodies.{Body, Control, Data}
 use Rattle.union_base.specs.declared.field.Field.{Field}
 use Rattle.marc_leader.specs.Codes.{Codes, is_printable, are_printable}
 use Rattle.marc_fields.specs.Spelling.{is_short}
-use Rattle.marc_fields.specs.declared.marc_record.Record.{Record}
+use Rattle.marc_parts.specs.declared.marc_record.Record.{Record}
 use Rattle.marc_parts.specs.Parts.{has_tag, first_under, text_under, how_many, control_text, control_number}
 use Rattle.marc_parts.specs.Loads.{is_utf8_body, is_utf8_field, has_number_shape, is_numbered, is_load_status, is_described, is_loadable}
 use Rattle.field_merge.specs.Contents.{is_main_entry, is_united, codes_of, slot, content, contributor, untitled}

@@ -1,7 +1,7 @@
 -- The edition of one record.
 use Rattle.std.specs.Prelude.{◌≡◌, ℕ, Bool, true, false, ◌++◌, IsTrue, List, Option, Some, None, refl}
 use Rattle.std.specs.List.{flat_map}
-use Rattle.marc_fields.specs.declared.marc_record.Record.{Record}
+use Rattle.marc_parts.specs.declared.marc_record.Record.{Record}
 use Rattle.record_features.specs.Gathering.{assigned_pair, numbers_in, features}
 use Rattle.field_merge.specs.Contents.{contributor, content}
 use Rattle.catalogue_editions.specs.LinkedLaws.{linked-one}

@@ -2,7 +2,7 @@
 ghost use Rattle.std.specs.Prelude.{◌≡◌, false, IsTrue};
 ghost use Rattle.std.specs.List.{list_all};
 ghost use Rattle.marc_fields.specs.Spelling.{is_short};
-ghost use Rattle.marc_fields.specs.declared.marc_record.Record.{Record};
+ghost use Rattle.marc_parts.specs.declared.marc_record.Record.{Record};
 ghost use Rattle.marc_parts.specs.Loads.{is_deleted, is_loadable};
 ghost use Rattle.marc_rules.specs.Accepted.{IsAccepted};
 

@@ -5,7 +5,7 @@ use Rattle.std.proofs.lemmas.Str.{IsUtf8-from_is_utf8}
 use Rattle.std.proofs.lemmas.List.Elements.{All-nil, All-cons}
 use Rattle.union_base.specs.Both.{both_true}
 use Rattle.union_base.specs.Bodies.{Subfield, Body, Control, Data, subfields_of}
-use Rattle.marc_fields.specs.declared.marc_record.Record.{Record}
+use Rattle.marc_parts.specs.declared.marc_record.Record.{Record}
 use Rattle.marc_parts.specs.Loads.{is_utf8_subfield, is_utf8_body, is_utf8_field, is_load_status, is_numbered, is_described, is_loadable}
 use Rattle.workset_keys.specs.Names.{HasTexts}
 

@@ -6,7 +6,7 @@ use Rattle.std.specs.Option.{option_to_list}
 use Rattle.union_base.specs.Bodies.{Subfield, subfields_of}
 use Rattle.union_base.specs.declared.field.Field.{Field}
 use Rattle.union_base.specs.SortedLists.{set_of}
-use Rattle.marc_fields.specs.declared.marc_record.Record.{Record}
+use Rattle.marc_parts.specs.declared.marc_record.Record.{Record}
 use Rattle.marc_parts.specs.Parts.{has_tag, text_under, control_number}
 use Rattle.naco_normal.specs.Words.{is_empty}
 use Rattle.isbn_keys.specs.Isbn.{isbn_key}

@@ -10,7 +10,7 @@ ghost use Rattle.record_features.specs.Gathering.{own_pair, assigned_pair, types
 
 use crate::gathering::{Findings, gathered};
 use isbn_keys::control::pair;
-use marc_fields::marc_record::Record;
+use marc_parts::marc_record::Record;
 use marc_parts::parts::{control_number, text_under};
 use match_features::features::Features;
 use std::alloc::Global;
