@@ -7,7 +7,7 @@ pub use Rattle.catalogue_editions.specs.MatchLaws
 pub use Rattle.record_editions.specs.Records
 pub use Rattle.catalogue_editions.specs.Ids
 pub use Rattle.catalogue_editions.specs.IndexKeys
-pub use Rattle.catalogue_editions.specs.EditionKeys
+pub use Rattle.record_editions.specs.EditionKeys
 pub use Rattle.catalogue_editions.specs.Resolutions
 pub use Rattle.catalogue_editions.specs.Batches
 pub use Rattle.record_editions.specs.Ops

@@ -1,7 +1,4 @@
-mod EditionTexts
-pub mod KeyTexts
-mod LeastNames
 pub mod Apart
 mod NetLaws
-mod JoinedLaws
+pub mod JoinedLaws
 mod BorrowedUnions

@@ -14,7 +14,6 @@ pub mod MatchLaws
 pub mod ExactKeys
 pub mod Ids
 pub mod IndexKeys
-pub mod EditionKeys
 pub mod Resolutions
 pub mod Batches
 pub mod CurrentRecords

@@ -4,7 +4,6 @@ ghost use Rattle.std.specs.List.Sorted.{IsPermutation, IsSorted};
 ghost use Rattle.union_base.specs.declared.record_id.RecordId.{RecordId};
 ghost use Rattle.merge_laws.specs.Resolution.{IsResolution};
 ghost use Rattle.catalogue_editions.specs.declared.edition.Edition.{Edition};
-ghost use Rattle.catalogue_editions.specs.EditionKeys.{IsKeyWithoutNames};
 ghost use Rattle.catalogue_editions.specs.declared.op.TheConstants.{LARGEST_BATCH};
 ghost use Rattle.catalogue_editions.specs.Batches.{largest_batch};
 ghost use Rattle.catalogue_editions.specs.Ids.{least, edition_cmp};
@@ -33,11 +32,6 @@ pub fn sorted_resolution_is_ordered()
 pub fn ordered_resolution_is_unique()
     ensures { (list one other : List Edition) → IsOrderedResolution list one
         → IsOrderedResolution list other → one ≡ other }
-{}
-
-/// Where no names are given, the work key is that of the fields alone.
-pub fn key_without_names()
-    ensures { IsKeyWithoutNames }
 {}
 
 /// `op::LARGEST_BATCH` is the number that the definition of a batch has.

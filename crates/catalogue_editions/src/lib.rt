@@ -12,10 +12,9 @@
 //! order; and a batch is of one library, with as many operations as a turn may have.
 //! Cost: merging and matching walk sorted lists side by side; merging copies features and contributors, and no content. One more
 //! owner of an edition takes no memory. The content of an edition of several records is made by each call that asks for it. What it
-//! shows is borrowed from the contents of its records, of which its work key is made too: neither merges nor copies any.
+//! shows is borrowed from the contents of its records, which merges and copies none.
 #![tactic(auto)]
 
-mod added_entries;
 pub mod batch;
 mod contents;
 pub mod edition;
@@ -34,4 +33,3 @@ mod shared_part;
 pub mod shown;
 mod slots;
 mod united;
-pub mod work_key;

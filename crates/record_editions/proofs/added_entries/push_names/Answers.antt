@@ -2,8 +2,8 @@ use Rattle.std.proofs.Common.{All, subst, sym, ap, ◌∙◌}
 use Rattle.union_base.specs.declared.field.Field.{Field}
 use Rattle.workset_keys.specs.Names.{HasTexts}
 use Rattle.field_merge.specs.declared.content.Content.{Content}
-use Rattle.catalogue_editions.proofs.EditionTexts.{united_texts}
-use Rattle.catalogue_editions.proofs.added_entries.push_names.Goals as goal
+use Rattle.record_editions.proofs.EditionTexts.{united_texts}
+use Rattle.record_editions.proofs.added_entries.push_names.Goals as goal
 
 pub push_name-requires : goal.push_name-requires
 push_name-requires c =

@@ -5,12 +5,11 @@
 ghost use Rattle.std.specs.Prelude.{◌≡◌, [], ◌∷◌, ◌++◌, IfOk, OnOk};
 ghost use Rattle.workset_keys.specs.Names.{HasTexts};
 ghost use Rattle.workset_keys.specs.WorkKeys.{least_of};
-ghost use Rattle.catalogue_editions.specs.EditionKeys.{added_names, is_added_entry};
+ghost use Rattle.record_editions.specs.EditionKeys.{added_names, is_added_entry};
 
-use crate::contents::Contents;
-use crate::shared_content::SharedContent;
-use crate::shared_part::each_of;
 use authority_names::name_table::NameTable;
+use catalogue_editions::shared_content::SharedContent;
+use catalogue_editions::shown::Shown;
 use marc_parts::parts::has_tag;
 use std::alloc::Global;
 use union_base::bytes::Bytes;
@@ -18,19 +17,18 @@ use union_base::field::Field;
 use union_base::memory::Memory;
 use workset_keys::fields::name_of;
 
-/// The names of the added entries of each content, as the table has them. An entry that stands in several contents is named as
+/// The names of the added entries of each content that is shown, as the table has them. An entry that stands in several contents is named as
 /// often, so the list can be longer than that of the merged content; the least name is the same. Returns `Memory` if allocation
 /// fails.
 pub(crate) fn names_used(
     alloc: Global,
     names: &NameTable,
-    contents: &Contents,
+    shown: &Shown<'_>,
 ) -> Result<Vec<Bytes>, Memory>
     ensures { IfOk result (λ used. least_of used.items
-        ≡ least_of (added_names names.now contents.now.united)) }
+        ≡ least_of (added_names names.now shown.now.united)) }
 {
-    let (first, parts) = contents.parts();
-    let each = each_of(alloc, parts)?;
+    let (first, each) = shown.contents(alloc)?;
     let behind = each.as_slice();
     let mut used = Vec::new(alloc);
     push_names(alloc, names, first, &mut used)?;

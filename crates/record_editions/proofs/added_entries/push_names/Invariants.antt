@@ -1,6 +1,6 @@
 use Rattle.std.proofs.Common.{◌≡◌, ◌++◌, take}
-use Rattle.catalogue_editions.specs.EditionKeys.{added_names}
-use Rattle.catalogue_editions.proofs.added_entries.push_names.Given as goal
+use Rattle.record_editions.specs.EditionKeys.{added_names}
+use Rattle.record_editions.proofs.added_entries.push_names.Given as goal
 
 -- the names so far follow what was there
 abbrev pub invariant-loop-field : goal.invariant-loop-field

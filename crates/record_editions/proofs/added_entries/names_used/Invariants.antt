@@ -2,8 +2,8 @@ use Rattle.std.proofs.Common.{◌≡◌, Bor, take}
 use Rattle.std.specs.Prelude.{fold}
 use Rattle.field_merge.specs.declared.content.Content.{Content}
 use Rattle.workset_keys.specs.WorkKeys.{lesser, least_of}
-use Rattle.catalogue_editions.specs.EditionKeys.{added_names}
-use Rattle.catalogue_editions.proofs.added_entries.names_used.Given as goal
+use Rattle.record_editions.specs.EditionKeys.{added_names}
+use Rattle.record_editions.proofs.added_entries.names_used.Given as goal
 
 -- the least name so far is the least of those of the contents so far
 abbrev pub invariant-loop-other : goal.invariant-loop-other

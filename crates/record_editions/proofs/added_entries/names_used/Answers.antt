@@ -5,11 +5,11 @@ use Rattle.std.proofs.lemmas.List.Sums.{fold_more}
 use Rattle.field_merge.specs.declared.content.Content.{Content}
 use Rattle.workset_keys.specs.WorkKeys.{lesser, least_of}
 use Rattle.catalogue_editions.specs.Borrowed.{contents_of}
-use Rattle.catalogue_editions.specs.EditionKeys.{added_names}
+use Rattle.record_editions.specs.EditionKeys.{added_names}
 use Rattle.catalogue_editions.specs.Joined.{joined_all}
 use Rattle.catalogue_editions.proofs.JoinedLaws.{joined-part}
-use Rattle.catalogue_editions.proofs.LeastNames.{least-append, least-union}
-use Rattle.catalogue_editions.proofs.added_entries.names_used.Goals as goal
+use Rattle.record_editions.proofs.LeastNames.{least-append, least-union}
+use Rattle.record_editions.proofs.added_entries.names_used.Goals as goal
 
 pub loop-other-preserved : goal.loop-other-preserved
 loop-other-preserved c =
@@ -25,7 +25,7 @@ loop-other-preserved c =
 pub returns : goal.returns
 returns c =
     let names = c.args.names.now in
-    let first = c.parts.result.0.now in
+    let first = c.in_ok-first.first.now in
     let behind = c.as_slice-behind.result.now in
     let least_in : Content → List ℕ = λ d. least_of (added_names names d.united) in
     c.loop-other.invariant
@@ -34,5 +34,5 @@ returns c =
     (take_all c.loop-other.other-index behind c.loop-other-test.false)
     ∙ sym (fold-map (λ least d. lesser least (least_in d)) (λ (d : Bor Content). d.now) (least_in first) behind)
     ∙ joined-part least_in lesser (λ a b. least-union names a.united b.united) first (contents_of behind)
-    ∙ ap (λ cs. least_in (joined_all first cs)) (ap contents_of c.as_slice-behind.ensures.value ∙ c.in_ok-each.ensures)
-    ∙ ap least_in c.parts.ensures
+    ∙ ap (λ cs. least_in (joined_all first cs)) (ap contents_of c.as_slice-behind.ensures.value)
+    ∙ ap least_in c.in_ok-first.ensures

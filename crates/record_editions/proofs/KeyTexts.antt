@@ -22,12 +22,12 @@ use Rattle.workset_keys.specs.Texts.{is_key_text}
 use Rattle.workset_keys.specs.WorkKeys.{main_name, least_of, or_else, own_name, key_of_names, work_key}
 use Rattle.workset_keys.proofs.KeyTexts.{key-both, key-either, key-append, key-name, key-main_name, key-least_of, key-of_names}
 use Rattle.authority_names.specs.Leads.{Table, AreTexts, seen_from, used_for}
-use Rattle.catalogue_editions.specs.EditionKeys.{is_added_entry, field_in, added_names, work_key_by}
+use Rattle.record_editions.specs.EditionKeys.{is_added_entry, field_in, added_names, work_key_by}
 use Rattle.catalogue_editions.specs.ListLaws.{all-weaker}
 use Rattle.catalogue_editions.specs.Ids.{least}
 use Rattle.catalogue_editions.specs.Sound.{is_id}
 use Rattle.catalogue_editions.specs.declared.edition.Edition.{Edition}
-use Rattle.catalogue_editions.proofs.EditionTexts.{least-is_id}
+use Rattle.record_editions.proofs.EditionTexts.{least-is_id}
 
 -- ---- ids
 

@@ -9,12 +9,12 @@ ghost use Rattle.std.specs.Str.{is_utf8};
 ghost use Rattle.union_base.specs.Fields.{is_text};
 ghost use Rattle.naco_normal.specs.Words.{is_empty};
 ghost use Rattle.workset_keys.specs.WorkKeys.{least_of};
-ghost use Rattle.catalogue_editions.specs.EditionKeys.{added_names, field_in, work_key_by};
+ghost use Rattle.record_editions.specs.EditionKeys.{added_names, field_in, work_key_by};
 
 use crate::added_entries::names_used;
-use crate::contents::Contents;
-use crate::edition::Edition;
 use authority_names::name_table::NameTable;
+use catalogue_editions::edition::Edition;
+use catalogue_editions::shown::Shown;
 use field_merge::slot::Slot;
 use std::alloc::Global;
 use union_base::bytes::Bytes;
@@ -36,7 +36,7 @@ pub fn work_key_of(alloc: Global, names: &NameTable, edition: &Edition) -> Resul
     let shown = edition.shown();
     let main = field_in(shown.f1xx());
     let name = names.used_for(alloc, main_name(alloc, main)?)?;
-    let others = names_needed(alloc, names, &name, edition.contents())?;
+    let others = names_needed(alloc, names, &name, &shown)?;
     key_of_names(
         alloc,
         &name,
@@ -53,13 +53,13 @@ fn names_needed(
     alloc: Global,
     names: &NameTable,
     name: &Bytes,
-    contents: &Contents,
+    shown: &Shown<'_>,
 ) -> Result<Vec<Bytes>, Memory>
     ensures { IfOk result (λ others. least_of others.items ≡ (if is_empty name.now
-        then least_of (added_names names.now contents.now.united) else [])) }
+        then least_of (added_names names.now shown.now.united) else [])) }
 {
     if name.bytes().is_empty() {
-        names_used(alloc, names, contents)
+        names_used(alloc, names, shown)
     } else {
         Ok(Vec::new(alloc))
     }

@@ -21,7 +21,7 @@ use Rattle.field_merge.specs.GreaterLaws.{greater-idempotent, greater-commutativ
 use Rattle.workset_keys.specs.Names.{name_of}
 use Rattle.workset_keys.specs.WorkKeys.{lesser, least_of}
 use Rattle.authority_names.specs.Leads.{Table, used_for}
-use Rattle.catalogue_editions.specs.EditionKeys.{is_added_entry, added_names}
+use Rattle.record_editions.specs.EditionKeys.{is_added_entry, added_names}
 
 -- ---- the lesser of two names
 

@@ -22,7 +22,7 @@ use Rattle.workset_keys.specs.Names.{HasTexts}
 use Rattle.catalogue_editions.specs.Sound.{is_id, is_storable, is_slot, is_slot_or_none, is_sound}
 use Rattle.catalogue_editions.specs.SoundLaws.{AreSoundParts, sound_parts}
 use Rattle.catalogue_editions.specs.Ids.{first_id, least}
-use Rattle.catalogue_editions.specs.EditionKeys.{field_in}
+use Rattle.record_editions.specs.EditionKeys.{field_in}
 use Rattle.catalogue_editions.specs.declared.edition.Edition.{Edition}
 
 all_from : {X : Type 0} (p : X → Bool) (P : X → Type 0) → ((x : X) → p x ≡ true → P x) → (xs : List X) → list_all p xs ≡ true → All P xs

@@ -10,10 +10,10 @@ use Rattle.workset_keys.specs.Names.{HasTexts}
 use Rattle.workset_keys.specs.WorkKeys.{least_of}
 use Rattle.field_merge.specs.declared.content.Content.{Content}
 use Rattle.field_merge.specs.declared.slot.Slot.{Slot}
-use Rattle.catalogue_editions.specs.EditionKeys.{added_names, field_in, work_key_by}
-use Rattle.catalogue_editions.proofs.EditionTexts.{main_texts, uniform_texts, title_texts}
-use Rattle.catalogue_editions.proofs.KeyTexts.{key-made, key-work_key}
-use Rattle.catalogue_editions.proofs.work_key.work_key_of.Goals as goal
+use Rattle.record_editions.specs.EditionKeys.{added_names, field_in, work_key_by}
+use Rattle.record_editions.proofs.EditionTexts.{main_texts, uniform_texts, title_texts}
+use Rattle.record_editions.proofs.KeyTexts.{key-made, key-work_key}
+use Rattle.record_editions.proofs.work_key.work_key_of.Goals as goal
 
 pub main_name-requires : goal.main_name-requires
 main_name-requires c =
@@ -39,7 +39,7 @@ returns c =
     let uniform = c.field_in.ensures ∙ ap field_in (c.f240.ensures ∙ ap (λ (x : Content). x.f240) c.shown-shown.ensures) in
     let title = ap (λ (s : Slot). s.field) (c.f245.ensures ∙ ap (λ (x : Content). x.f245) c.shown-shown.ensures) in
     let others = ap least_of c.as_slice.ensures.value ∙ c.in_ok-others.ensures
-    ∙ ap (λ (x : Content). if is_empty c.in_ok-name.name then least_of (added_names names x.united) else []) c.contents.ensures in
+    ∙ ap (λ (x : Content). if is_empty c.in_ok-name.name then least_of (added_names names x.united) else []) c.shown-shown.ensures in
     let made = key-made names edition (option_copied c.field_in-main.result) (option_copied c.field_in.result) c.f245.result.now.field main uniform title
     c.in_ok-main_name.field-0 c.in_ok-main_name.ensures c.in_ok-name.name c.in_ok-name.ensures.value (least_of c.as_slice.result.now) others
     c.least.result.now c.least.ensures in
