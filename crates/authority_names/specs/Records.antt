@@ -4,7 +4,7 @@ use Rattle.std.specs.List.{list_all, flat_map}
 use Rattle.std.specs.Option.{option_map_or}
 use Rattle.union_base.specs.Bodies.{Subfield, Body, Control, Data}
 use Rattle.union_base.specs.declared.field.Field.{Field}
-use Rattle.marc_fields.specs.declared.marc_record.Record.{Record}
+use Rattle.marc_parts.specs.declared.marc_record.Record.{Record}
 use Rattle.marc_parts.specs.Loads.{is_utf8_field}
 use Rattle.marc_parts.specs.Parts.{has_tag}
 use Rattle.naco_normal.specs.Words.{is_empty}

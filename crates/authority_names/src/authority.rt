@@ -5,7 +5,7 @@ ghost use Rattle.authority_names.specs.Records.{is_heading, is_see_from, is_code
 
 use crate::refusal::NameRefusal;
 use crate::texts::{are_plain, are_utf8};
-use marc_fields::marc_record::Record;
+use marc_parts::marc_record::Record;
 use marc_parts::parts::has_tag;
 use std::alloc::Global;
 use union_base::bytes::Bytes;

@@ -11,7 +11,7 @@ use crate::leads::{Headings, establish, heading_from, how_many_lead, lead_all};
 use crate::refusal::NameRefusal;
 use indexmap::IndexMap;
 use key_hashing::hashing::Hashing;
-use marc_fields::marc_record::Record;
+use marc_parts::marc_record::Record;
 use std::alloc::Global;
 use std::marker::Model;
 use union_base::bytes::Bytes;

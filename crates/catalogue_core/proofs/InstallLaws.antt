@@ -24,7 +24,7 @@ use Rattle.swoosh_resolver.proofs.Places.{number-from_block}
 use Rattle.swoosh_resolver.proofs.Views.{view-same}
 use Rattle.work_clusters.specs.Works.{AreAfter, changed}
 use Rattle.work_clusters.proofs.MemberLaws.{changed-members, works_of-permutation}
-use Rattle.catalogue_editions.specs.EditionKeys.{work_key_by, work_pairs}
+use Rattle.record_editions.specs.EditionKeys.{work_key_by, work_pairs}
 use Rattle.authority_names.specs.Leads.{Table}
 use Rattle.catalogue_core.specs.ClosedKeys.{closed_pairs}
 use Rattle.catalogue_core.specs.Grouping.{WorkList, KeptWorks}

@@ -24,7 +24,7 @@ use Rattle.swoosh_resolver.specs.Tables.{block_at, blocks_in, values_of}
 use Rattle.swoosh_resolver.proofs.Places.{number-from_block}
 use Rattle.work_clusters.proofs.MemberLaws.{works_of-permutation}
 use Rattle.work_clusters.specs.Works.{works_of}
-use Rattle.catalogue_editions.specs.EditionKeys.{work_key_by, work_pairs}
+use Rattle.record_editions.specs.EditionKeys.{work_key_by, work_pairs}
 use Rattle.authority_names.specs.Leads.{Table}
 use Rattle.catalogue_core.specs.Grouping.{WorkList, KeptWorks}
 use Rattle.catalogue_core.specs.Histories.{MapOf, at_id, is_current, bases, current, AreEditionsOf}

@@ -10,7 +10,7 @@ use Rattle.std.proofs.lemmas.Str.{is_utf8-from_IsUtf8, IsUtf8-from_ascii, IsUtf8
 use Rattle.std.specs.Ordering.{is_lt}
 use Rattle.union_base.specs.Both.{true_both}
 use Rattle.union_base.specs.SortedLists.{is_ascending}
-use Rattle.marc_fields.specs.declared.marc_record.Record.{Record}
+use Rattle.marc_parts.specs.declared.marc_record.Record.{Record}
 use Rattle.field_merge.specs.Contents.{slot, untitled, content}
 use Rattle.field_merge.specs.Equal.{same_contents}
 use Rattle.field_merge.specs.GreaterLaws.{greater-idempotent}
@@ -26,8 +26,8 @@ use Rattle.catalogue_editions.specs.Ids.{edition_cmp}
 use Rattle.catalogue_editions.specs.Joining.{join}
 use Rattle.catalogue_editions.specs.JoinLaws.{edition_join_laws}
 use Rattle.catalogue_editions.specs.MatchLaws.{edition_match_laws}
-use Rattle.catalogue_editions.specs.RecordLaws.{is_loaded}
-use Rattle.catalogue_editions.specs.Records.{where_true, edition_made, edition}
+use Rattle.record_editions.specs.RecordLaws.{is_loaded}
+use Rattle.record_editions.specs.Records.{where_true, edition_made, edition}
 use Rattle.catalogue_editions.specs.Resolutions.{IsOrderedResolution}
 use Rattle.catalogue_core.specs.Preferring.{editions_by, unranked}
 use Rattle.catalogue_editions.proofs.Apart.{one-ordered}

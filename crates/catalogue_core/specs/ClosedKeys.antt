@@ -3,7 +3,7 @@ use Rattle.std.specs.Prelude.{ℕ, List, Option, filter_map}
 use Rattle.std.specs.Option.{option_map}
 use Rattle.union_base.specs.declared.record_id.RecordId.{RecordId}
 use Rattle.swoosh_resolver.specs.Tables.{block_at}
-use Rattle.catalogue_editions.specs.EditionKeys.{work_key_by}
+use Rattle.record_editions.specs.EditionKeys.{work_key_by}
 use Rattle.authority_names.specs.Leads.{Table}
 use Rattle.catalogue_editions.specs.Ids.{least}
 use Rattle.catalogue_core.specs.Homes.{Block}

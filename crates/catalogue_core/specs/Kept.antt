@@ -4,7 +4,7 @@ use Rattle.std.specs.Option.{ForSome}
 use Rattle.merge_laws.specs.Resolution.{IsResolution}
 use Rattle.swoosh_resolver.specs.Tables.{blocks_in, values_of}
 use Rattle.work_clusters.specs.Works.{works_of}
-use Rattle.catalogue_editions.specs.EditionKeys.{work_pairs}
+use Rattle.record_editions.specs.EditionKeys.{work_pairs}
 use Rattle.catalogue_core.specs.Grouping.{KeptWorks}
 use Rattle.catalogue_core.specs.Histories.{MapOf, bases, current as current_of}
 use Rattle.catalogue_core.specs.Homes.{Block, AreHoused, places_in}

@@ -4,13 +4,13 @@ pub use Rattle.catalogue_editions.specs.Joining
 pub use Rattle.catalogue_editions.specs.JoinLaws
 pub use Rattle.catalogue_editions.specs.Matching
 pub use Rattle.catalogue_editions.specs.MatchLaws
-pub use Rattle.catalogue_editions.specs.Records
+pub use Rattle.record_editions.specs.Records
 pub use Rattle.catalogue_editions.specs.Ids
 pub use Rattle.catalogue_editions.specs.IndexKeys
-pub use Rattle.catalogue_editions.specs.EditionKeys
+pub use Rattle.record_editions.specs.EditionKeys
 pub use Rattle.catalogue_editions.specs.Resolutions
 pub use Rattle.catalogue_editions.specs.Batches
-pub use Rattle.catalogue_editions.specs.Ops
+pub use Rattle.record_editions.specs.Ops
 pub use Rattle.catalogue_editions.specs.Net
 pub mod Histories
 pub mod Entries

@@ -3,9 +3,9 @@ use Rattle.std.specs.Prelude.{ℕ, List}
 use Rattle.std.specs.List.{filter_map}
 use Rattle.union_base.specs.declared.field.Field.{Field}
 use Rattle.union_base.specs.declared.record_id.RecordId.{RecordId}
-use Rattle.marc_fields.specs.declared.marc_record.Record.{Record}
+use Rattle.marc_parts.specs.declared.marc_record.Record.{Record}
 use Rattle.match_features.specs.declared.features.Features.{Features}
-use Rattle.catalogue_editions.specs.Records.{edition}
+use Rattle.record_editions.specs.Records.{edition}
 use Rattle.catalogue_editions.specs.declared.edition.Edition.{Edition}
 
 -- each library's record that can be loaded, as the preference makes it an edition

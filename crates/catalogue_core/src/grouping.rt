@@ -3,12 +3,12 @@ ghost use Rattle.std.specs.Prelude.{◌≡◌, IfOk};
 ghost use Rattle.work_clusters.specs.Works.{works_of};
 ghost use Rattle.catalogue_core.specs.Grouping.{works_in};
 ghost use Rattle.swoosh_resolver.specs.Tables.{blocks_in, values_of};
-ghost use Rattle.catalogue_editions.specs.EditionKeys.{work_key_by, work_pairs};
+ghost use Rattle.record_editions.specs.EditionKeys.{work_key_by, work_pairs};
 ghost use Rattle.catalogue_editions.specs.Ids.{least};
 
 use authority_names::name_table::NameTable;
 use catalogue_editions::edition::Edition;
-use catalogue_editions::work_key::work_key_of;
+use record_editions::work_key::work_key_of;
 use std::alloc::Global;
 use swoosh_resolver::blocks::Blocks;
 use union_base::bytes::Bytes;

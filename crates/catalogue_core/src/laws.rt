@@ -1,7 +1,7 @@
 //! What holds of the editions of a catalogue. Each function here does nothing when it runs: its contract is the law.
 ghost use Rattle.std.specs.Prelude.{◌≡◌, ◌⊎◌, ℕ, false, List, [], ◌∷◌, map, Contains};
 ghost use Rattle.union_base.specs.declared.record_id.RecordId.{RecordId};
-ghost use Rattle.marc_fields.specs.declared.marc_record.Record.{Record};
+ghost use Rattle.marc_parts.specs.declared.marc_record.Record.{Record};
 ghost use Rattle.catalogue_editions.specs.declared.edition.Edition.{Edition};
 ghost use Rattle.catalogue_editions.specs.Resolutions.{IsOrderedResolution};
 ghost use Rattle.catalogue_editions.specs.Matching.{share};
@@ -11,9 +11,9 @@ ghost use Rattle.catalogue_core.specs.Preferring.{editions_by, unranked};
 ghost use Rattle.catalogue_core.specs.Reaches.{IsReachOfInsertion, IsReachOfWithdrawal};
 
 pub use catalogue_editions::laws::{
-    accepted_can_be_loaded, common_contributor_matches, ordered_resolution_is_unique,
-    sorted_resolution_is_ordered,
+    common_contributor_matches, ordered_resolution_is_unique, sorted_resolution_is_ordered,
 };
+pub use record_editions::laws::accepted_can_be_loaded;
 
 /// The editions of a history are one list.
 pub fn editions_of_a_history_are_unique()

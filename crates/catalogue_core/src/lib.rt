@@ -11,10 +11,9 @@
 //! that is not merged is copied. The editions in order are sorted for whoever asks for them.
 #![tactic(auto)]
 
-pub use catalogue_editions::{
-    batch, edition, net, op, ordering, outcome, prepared, records, shown, work_key,
-};
+pub use catalogue_editions::{batch, edition, net, op, ordering, outcome, prepared, shown};
 pub use edition_blocks::delta;
+pub use record_editions::{records, work_key};
 
 pub mod catalogue;
 pub mod grouping;

@@ -1,9 +1,4 @@
-mod EditionTexts
-pub mod KeyTexts
-mod LeastNames
 pub mod Apart
-pub mod OwnLaws
-mod RecordsLaws
 mod NetLaws
-mod JoinedLaws
+pub mod JoinedLaws
 mod BorrowedUnions

@@ -12,13 +12,9 @@ pub mod JoinLaws
 pub mod Matching
 pub mod MatchLaws
 pub mod ExactKeys
-pub mod RecordLaws
-pub mod Records
 pub mod Ids
 pub mod IndexKeys
-pub mod EditionKeys
 pub mod Resolutions
 pub mod Batches
-pub mod Ops
 pub mod CurrentRecords
 pub mod Net

@@ -1,28 +1,15 @@
 //! What holds of editions. Each function here does nothing when it runs: its contract is the law.
 ghost use Rattle.std.specs.Prelude.{◌≡◌, ◌≢◌, false, IsTrue, List, Contains};
-ghost use Rattle.std.specs.List.{list_all};
 ghost use Rattle.std.specs.List.Sorted.{IsPermutation, IsSorted};
 ghost use Rattle.union_base.specs.declared.record_id.RecordId.{RecordId};
-ghost use Rattle.marc_fields.specs.Spelling.{is_short};
-ghost use Rattle.marc_fields.specs.declared.marc_record.Record.{Record};
-ghost use Rattle.marc_parts.specs.Loads.{is_deleted, is_loadable};
-ghost use Rattle.marc_rules.specs.Accepted.{IsAccepted};
 ghost use Rattle.merge_laws.specs.Resolution.{IsResolution};
 ghost use Rattle.catalogue_editions.specs.declared.edition.Edition.{Edition};
-ghost use Rattle.catalogue_editions.specs.EditionKeys.{IsKeyWithoutNames};
 ghost use Rattle.catalogue_editions.specs.declared.op.TheConstants.{LARGEST_BATCH};
 ghost use Rattle.catalogue_editions.specs.Batches.{largest_batch};
 ghost use Rattle.catalogue_editions.specs.Ids.{least, edition_cmp};
 ghost use Rattle.catalogue_editions.specs.Joining.{join};
 ghost use Rattle.catalogue_editions.specs.Matching.{match as edition_match};
 ghost use Rattle.catalogue_editions.specs.Resolutions.{IsOrderedResolution};
-
-/// An accepted record that is no withdrawal is one that `records::edition_of` makes an edition of.
-pub fn accepted_can_be_loaded()
-    ensures loadable { (r : Record) → IsAccepted r → is_deleted r.leader.status ≡ false
-        → IsTrue (is_loadable r) }
-    ensures short { (r : Record) → IsAccepted r → IsTrue (list_all is_short r.fields) }
-{}
 
 /// Editions that have a contributor in common match. So those that do not match have none, and their least contributors
 /// differ.
@@ -45,11 +32,6 @@ pub fn sorted_resolution_is_ordered()
 pub fn ordered_resolution_is_unique()
     ensures { (list one other : List Edition) → IsOrderedResolution list one
         → IsOrderedResolution list other → one ≡ other }
-{}
-
-/// Where no names are given, the work key is that of the fields alone.
-pub fn key_without_names()
-    ensures { IsKeyWithoutNames }
 {}
 
 /// `op::LARGEST_BATCH` is the number that the definition of a batch has.

@@ -2,20 +2,19 @@
 //! which a library loads and withdraws its records.
 //!
 //! An [`edition::Edition`] is the features by which it is matched and the content that it shows. The edition of one record
-//! has those of the record; editions that match merge to the union of their features and the merge of their contents. It keeps
-//! the contents of its records as they are. What they merge to is made for whoever asks, as a
+//! has those of the record, and is made in `record_editions`; editions that match merge to the union of their features and the
+//! merge of their contents. It keeps the contents of its records as they are. What they merge to is made for whoever asks, as a
 //! [`shared_content::SharedContent`], or borrowed from where it lies, as a [`shown::Shown`]. An [`op::Op`] loads the edition of a
 //! record, or withdraws a record; the operations of one turn are a [`batch::Batch`], and a [`prepared::Prepared`] batch has its
 //! records resolved among themselves.
 //!
 //! Guarantee: editions keep the laws of `Join` and of matching, so what a list of records resolves to does not depend on their
-//! order; each accepted record asks for one operation; and a batch is of one library, with as many operations as a turn may have.
+//! order; and a batch is of one library, with as many operations as a turn may have.
 //! Cost: merging and matching walk sorted lists side by side; merging copies features and contributors, and no content. One more
 //! owner of an edition takes no memory. The content of an edition of several records is made by each call that asks for it. What it
-//! shows is borrowed from the contents of its records, of which its work key is made too: neither merges nor copies any.
+//! shows is borrowed from the contents of its records, which merges and copies none.
 #![tactic(auto)]
 
-mod added_entries;
 pub mod batch;
 mod contents;
 pub mod edition;
@@ -29,10 +28,8 @@ pub mod op;
 pub mod ordering;
 pub mod outcome;
 pub mod prepared;
-pub mod records;
 pub mod shared_content;
 mod shared_part;
 pub mod shown;
 mod slots;
 mod united;
-pub mod work_key;

@@ -2,11 +2,13 @@
 //!
 //! Cost: the fixed part and the slots are chosen by one walk over the contents, and the united fields are merged, as references, for
 //! whoever asks for them, over a list of references to the contents. Nothing is copied.
-ghost use Rattle.std.specs.Prelude.{◌≡◌, ◌++◌, OnOk, IsTrue};
-ghost use Rattle.catalogue_editions.specs.Borrowed.{fields_of};
+ghost use Rattle.std.specs.Prelude.{◌≡◌, ◌++◌, IfOk, OnOk, IsTrue};
+ghost use Rattle.catalogue_editions.specs.Borrowed.{contents_of, fields_of};
+ghost use Rattle.catalogue_editions.specs.Joined.{joined_all};
 ghost use Rattle.catalogue_editions.specs.Sound.{is_sound};
 
 use crate::contents::Contents;
+use crate::shared_content::SharedContent;
 use crate::shared_part::each_of;
 use crate::slots::Slots;
 use crate::united::push_united;
@@ -102,6 +104,15 @@ impl<'a> Shown<'a> {
         ensures { result.now ≡ self.now.f245 }
     {
         self.slots.f245
+    }
+
+    /// The contents of the edition's records where they lie: the first one, and those behind it in room that is made once. Returns
+    /// `Memory` if allocation fails.
+    pub fn contents(&self, alloc: Global) -> Result<(&SharedContent, Vec<&SharedContent>), Memory>
+        ensures { IfOk result (λ all. joined_all all.0.now (contents_of all.1.items) ≡ self.now) }
+    {
+        let (first, parts) = self.contents.parts();
+        Ok((first, each_of(alloc, parts)?))
     }
 
     /// Pushes the united fields, in order and each once, in room that is made once. Returns `Memory` if allocation fails.

@@ -11,7 +11,7 @@ use Rattle.union_base.specs.declared.record_id.RecordId.{RecordId}
 use Rattle.marc_parts.specs.Loads.{is_utf8_field}
 use Rattle.field_merge.specs.Kept.{id_cmp}
 use Rattle.authority_names.specs.Leads.{Table, AreTexts}
-use Rattle.catalogue_editions.proofs.KeyTexts.{key-work_key}
+use Rattle.record_editions.proofs.KeyTexts.{key-work_key}
 use Rattle.catalogue_core.specs.Ids.{first_id, least}
 use Rattle.catalogue_core.specs.EditionKeys.{work_key_by}
 use Rattle.catalogue_editions.specs.declared.edition.Edition.{Edition}

@@ -12,7 +12,7 @@ use Rattle.union_base.specs.declared.field.Field.{Field}
 use Rattle.marc_fields.specs.Rows.{or_then, least_where_not}
 use Rattle.marc_fields.specs.Rules.{entry_in, texts_of, data_in, first_failure, head_failure, directory_failure, tiling_failure, shape_failure, data_failure, parts_failure}
 use Rattle.marc_fields.specs.Spelling.{leader_bytes, Spells, AreEntriesOf}
-use Rattle.marc_fields.specs.declared.marc_record.Record.{Record}
+use Rattle.marc_parts.specs.declared.marc_record.Record.{Record}
 use Rattle.marc_fields.specs.declared.rules.Failure.{Failure}
 use Rattle.marc_fields.proofs.NoFailure.{text-spelled, spelled-entries, spelled-data, spelled-no_failure}
 use Rattle.marc_parts.specs.Loads.{is_utf8_subfield, is_utf8_body, is_utf8_field}

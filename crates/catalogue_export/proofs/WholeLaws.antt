@@ -14,7 +14,7 @@ use Rattle.union_base.specs.declared.field.Field.{Field}
 use Rattle.marc_fields.specs.Rows.{ends_in_only}
 use Rattle.marc_fields.specs.Shapes.{is_inner, ends_no_record}
 use Rattle.marc_fields.specs.Spelling.{stored, entry_at, entries_from, entry_bytes, leader_bytes, frame_size, spelling}
-use Rattle.marc_fields.specs.declared.marc_record.Record.{Record}
+use Rattle.marc_parts.specs.declared.marc_record.Record.{Record}
 use Rattle.marc_fields.proofs.RowLaws.{ends-from}
 use Rattle.marc_fields.proofs.ShapeLaws.{inner-spelled}
 

@@ -5,7 +5,7 @@ use Rattle.std.specs.Str.{is_utf8}
 use Rattle.union_base.specs.declared.record_id.RecordId.{RecordId}
 use Rattle.iso2709_frame.specs.Frames.{IsWhole}
 use Rattle.iso2709_frame.specs.declared.cut.Cut.TheVariants.{Whole}
-use Rattle.marc_fields.specs.declared.marc_record.Record.{Record}
+use Rattle.marc_parts.specs.declared.marc_record.Record.{Record}
 use Rattle.marc_fields.specs.declared.rules.Rule.TheVariants.{ControlNumber}
 use Rattle.marc_parts.specs.Loads.{is_utf8_field}
 use Rattle.marc_parts.specs.Parts.{how_many, control_number}

@@ -8,7 +8,7 @@ use crate::own_fields::own_fields;
 use crate::shown_fields::shown_fields;
 use catalogue_core::shown::Shown;
 use marc_fields::encoding::{EncodeRefusal, encode_fields};
-use marc_fields::marc_record::Record;
+use marc_parts::marc_record::Record;
 use std::alloc::Global;
 use union_base::bytes::Bytes;
 use union_base::copied::Copied;

@@ -16,7 +16,7 @@ use field_merge::content::Content;
 use field_merge::preference::Preference;
 use field_merge::slot::Slot;
 use key_hashing::hashing::Hashing;
-use marc_fields::marc_record::Record;
+use marc_parts::marc_record::Record;
 use marc_parts::parts::has_tag;
 use match_features::features::Features;
 use merge_laws::join::Join;

@@ -11,7 +11,7 @@ use Rattle.std.proofs.lemmas.List.Elements.{filter-append}
 use Rattle.std.proofs.lemmas.List.Sums.{sum_by-cons}
 use Rattle.union_base.specs.Both.{both_true}
 use Rattle.union_base.specs.declared.field.Field.{Field}
-use Rattle.marc_fields.specs.declared.marc_record.Record.{Record}
+use Rattle.marc_parts.specs.declared.marc_record.Record.{Record}
 use Rattle.marc_parts.specs.Parts.{has_tag, first_under, how_many}
 use Rattle.marc_parts.specs.Loads.{is_utf8_field, is_load_status, is_numbered, is_described, is_loadable}
 use Rattle.field_merge.specs.Contents.{is_main_entry, is_united, slot, untitled}

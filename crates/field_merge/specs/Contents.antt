@@ -7,7 +7,7 @@ use Rattle.union_base.specs.declared.record_id.RecordId.{RecordId}
 use Rattle.union_base.specs.Bodies.{Data}
 use Rattle.union_base.specs.declared.field.Field.{Field}
 use Rattle.marc_leader.specs.Codes.{Codes}
-use Rattle.marc_fields.specs.declared.marc_record.Record.{Record}
+use Rattle.marc_parts.specs.declared.marc_record.Record.{Record}
 use Rattle.marc_parts.specs.Parts.{has_tag, first_under, text_under, control_number}
 use Rattle.field_merge.specs.Ranks.{rank}
 use Rattle.field_merge.specs.KeptLaws.{kept-one}

@@ -1,6 +1,6 @@
 -- The rank of a record.
 use Rattle.std.specs.Prelude.{ℕ, List, length, ◌==◌, ◌||◌, if◌then◌else◌, replicate, codes}
-use Rattle.marc_fields.specs.declared.marc_record.Record.{Record}
+use Rattle.marc_parts.specs.declared.marc_record.Record.{Record}
 use Rattle.marc_parts.specs.Parts.{text_under, control_number}
 use Rattle.field_merge.specs.Preferences.{level}
 use Rattle.field_merge.specs.declared.rank.Rank.{Rank}

@@ -5,7 +5,7 @@
 ghost use Rattle.std.specs.Prelude.{◌≡◌, ◌↔◌, ◌⊎◌, ℕ, List, IfSome, IsTrue, Contains};
 ghost use Rattle.union_base.specs.declared.record_id.RecordId.{RecordId};
 ghost use Rattle.union_base.specs.declared.field.Field.{Field};
-ghost use Rattle.marc_fields.specs.declared.marc_record.Record.{Record};
+ghost use Rattle.marc_parts.specs.declared.marc_record.Record.{Record};
 ghost use Rattle.marc_parts.specs.Loads.{is_loadable};
 ghost use Rattle.field_merge.specs.Contents.{is_united, content};
 ghost use Rattle.field_merge.specs.Merging.{join};

@@ -7,7 +7,7 @@ ghost use Rattle.field_merge.specs.OrderLaws.{rank_total};
 ghost use Rattle.field_merge.specs.Ranks.{class_of, stamp_of, rank};
 
 use crate::preference::Preference;
-use marc_fields::marc_record::Record;
+use marc_parts::marc_record::Record;
 use marc_parts::parts::{control_number, text_under};
 use std::alloc::Global;
 use std::cmp::Ordering;

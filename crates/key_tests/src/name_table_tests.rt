@@ -4,7 +4,7 @@ use authority_names::name_table::NameTable;
 use authority_names::refusal::NameRefusal;
 use key_hashing::hashing::Hashing;
 use marc_fields::decoding::{decode, is_frame};
-use marc_fields::marc_record::Record;
+use marc_parts::marc_record::Record;
 use std::alloc::Global;
 use std::str::Split;
 use std::test::Fail;

@@ -6,10 +6,10 @@ use Rattle.std.proofs.lemmas.List.{map-append}
 use Rattle.std.proofs.lemmas.List.Elements.{filter-append}
 use Rattle.std.proofs.lemmas.List.Folds.{list_all-append}
 use Rattle.marc_fields.specs.Spelling.{Spells}
-use Rattle.marc_fields.specs.declared.marc_record.Record.{Record}
+use Rattle.marc_parts.specs.declared.marc_record.Record.{Record}
 use Rattle.marc_fields.specs.declared.rules.Failure.{Failure}
 use Rattle.catalogue_editions.specs.Batches.{is_own_op}
-use Rattle.catalogue_editions.specs.Ops.{op}
+use Rattle.record_editions.specs.Ops.{op}
 use Rattle.catalogue_editions.specs.declared.op.Op.{Op}
 use Rattle.library_batches.specs.Streams.{Frame, failure_of, is_accepted, accepted}
 use Rattle.library_batches.specs.Refused.{refusal_of, refused_from}

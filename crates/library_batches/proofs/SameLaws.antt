@@ -7,7 +7,7 @@ use Rattle.std.specs.List.{AllZip}
 use Rattle.std.proofs.lemmas.Option.{same_Some}
 use Rattle.marc_fields.proofs.RecordLaws.{Spells-one}
 use Rattle.catalogue_editions.specs.Batches.{is_batch}
-use Rattle.catalogue_editions.specs.Ops.{op}
+use Rattle.record_editions.specs.Ops.{op}
 use Rattle.catalogue_editions.specs.declared.batch.Batch.{Batch}
 use Rattle.catalogue_editions.specs.declared.op.Op.{Op}
 use Rattle.library_batches.specs.Batches.{IsOpOf, IsBatchOf, AreBatches, blocks, has_accepted}

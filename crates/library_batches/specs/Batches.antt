@@ -2,8 +2,8 @@
 use Rattle.std.specs.Prelude.{◌≡◌, ℕ, zero, suc, Bool, List, [], ◌∷◌, length, take, drop, filter, Some}
 use Rattle.std.specs.List.{AllZip, list_any}
 use Rattle.marc_fields.specs.Spelling.{Spells}
-use Rattle.marc_fields.specs.declared.marc_record.Record.{Record}
-use Rattle.catalogue_editions.specs.Ops.{op}
+use Rattle.marc_parts.specs.declared.marc_record.Record.{Record}
+use Rattle.record_editions.specs.Ops.{op}
 use Rattle.catalogue_editions.specs.declared.op.Op.{Op}
 use Rattle.catalogue_editions.specs.declared.batch.Batch.{Batch}
 use Rattle.library_batches.specs.Streams.{Frame, is_accepted, accepted}

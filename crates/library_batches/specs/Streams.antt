@@ -2,7 +2,7 @@
 use Rattle.std.specs.Prelude.{ℕ, Bool, List, [], ◌∷◌, map, filter, Option, is_none}
 use Rattle.iso2709_frame.specs.declared.cut.Cut.{Cut}
 use Rattle.marc_fields.specs.Spelling.{Spells}
-use Rattle.marc_fields.specs.declared.marc_record.Record.{Record}
+use Rattle.marc_parts.specs.declared.marc_record.Record.{Record}
 use Rattle.marc_fields.specs.declared.rules.Failure.{Failure}
 use Rattle.marc_rules.specs.NineteenRules.{first_rule}
 

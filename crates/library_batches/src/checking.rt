@@ -7,10 +7,10 @@ ghost use Rattle.library_batches.specs.declared.refused.RefusedFrame.{RefusedFra
 
 use crate::refused::RefusedFrame;
 use catalogue_editions::op::Op;
-use catalogue_editions::records::op_of;
 use field_merge::preference::Preference;
 use iso2709_frame::cut::Cut;
 use marc_rules::check::{Refusal, check_frame};
+use record_editions::records::op_of;
 use std::alloc::Global;
 use union_base::library_code::LibraryCode;
 use union_base::memory::Memory;

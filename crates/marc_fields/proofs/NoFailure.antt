@@ -12,7 +12,7 @@ use Rattle.marc_leader.specs.declared.entry.Entry.{Entry}
 use Rattle.marc_leader.specs.declared.leader.Leader.{Leader}
 use Rattle.union_base.specs.Fields.{is_control_tag, spelled as body_bytes}
 use Rattle.union_base.specs.declared.field.Field.{Field}
-use Rattle.marc_fields.specs.declared.marc_record.Record.{Record}
+use Rattle.marc_parts.specs.declared.marc_record.Record.{Record}
 use Rattle.marc_fields.specs.declared.decoding.DecodeRefusal.{DecodeRefusal}
 use Rattle.marc_fields.specs.declared.decoding.DecodeRefusal.TheVariants.{Rule as RuleRefusal, Memory}
 use Rattle.marc_fields.specs.declared.rules.Failure.{Failure}

@@ -11,7 +11,7 @@ use Rattle.marc_leader.specs.declared.entry.Entry.{Entry}
 use Rattle.union_base.specs.FieldLaws.{same_fields}
 use Rattle.union_base.specs.Fields.{is_tag, fits_tag, spelled as body_bytes}
 use Rattle.union_base.specs.declared.field.Field.{Field}
-use Rattle.marc_fields.specs.declared.marc_record.Record.{Record}
+use Rattle.marc_parts.specs.declared.marc_record.Record.{Record}
 use Rattle.marc_fields.specs.declared.encoding.EncodeRefusal.TheVariants.{FieldTooLong, RecordTooLong}
 use Rattle.marc_fields.specs.Appending.{too_long}
 use Rattle.marc_fields.specs.Spelling.{stored, entry_bytes, leader_bytes, is_short, frame_size, spelling, Spells, IsEntryOf, AreEntriesOf}

@@ -14,7 +14,7 @@ use Rattle.marc_leader.specs.declared.leader.LeaderRule.TheVariants.{LengthDigit
 use Rattle.marc_leader.proofs.LeaderLaws.{printable-at}
 use Rattle.union_base.specs.Fields.{is_tag, fits_tag, is_tag_byte}
 use Rattle.union_base.specs.declared.field.Field.{Field}
-use Rattle.marc_fields.specs.declared.marc_record.Record.{Record}
+use Rattle.marc_parts.specs.declared.marc_record.Record.{Record}
 use Rattle.marc_fields.specs.Spelling.{stored, entry_at, entries_from, entry_bytes, leader_bytes, is_short, is_in, owners, frame_size, spelling, Spells, IsEntryOf, AreEntriesOf}
 
 -- a tag has three bytes

@@ -2,7 +2,7 @@
 use Rattle.std.specs.Prelude.{◌≡◌, ℕ, nat_le, List, ◌++◌, length, take, Option, Some, None, if◌then◌else◌, Result, MatchResult}
 use Rattle.std.specs.List.{list_all}
 use Rattle.marc_fields.specs.Spelling.{longest_frame, is_short, frame_size}
-use Rattle.marc_fields.specs.declared.marc_record.Record.{Record}
+use Rattle.marc_parts.specs.declared.marc_record.Record.{Record}
 use Rattle.marc_fields.specs.declared.encoding.EncodeRefusal.{EncodeRefusal}
 use Rattle.marc_fields.specs.declared.encoding.EncodeRefusal.TheVariants.{FieldTooLong, RecordTooLong, Memory}
 

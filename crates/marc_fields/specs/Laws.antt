@@ -6,7 +6,7 @@ use Rattle.marc_fields.specs.Appending.{too_long}
 use Rattle.marc_fields.specs.Places.{IsLeast, IsUntiled, IsGap}
 use Rattle.marc_fields.specs.Rules.{first_failure, tiling_failure}
 use Rattle.marc_fields.specs.Spelling.{Spells, spelling}
-use Rattle.marc_fields.specs.declared.marc_record.Record.{Record}
+use Rattle.marc_parts.specs.declared.marc_record.Record.{Record}
 use Rattle.marc_fields.specs.declared.rules.Rule.TheVariants.{Tiling}
 
 -- a frame spells one record at most

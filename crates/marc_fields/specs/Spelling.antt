@@ -8,7 +8,7 @@ use Rattle.marc_leader.specs.Leader.{leader_text}
 use Rattle.marc_leader.specs.declared.entry.Entry.{Entry}
 use Rattle.union_base.specs.Fields.{spelled, field_terminator, record_terminator}
 use Rattle.union_base.specs.declared.field.Field.{Field}
-use Rattle.marc_fields.specs.declared.marc_record.Record.{Record}
+use Rattle.marc_parts.specs.declared.marc_record.Record.{Record}
 
 -- the most bytes that a leader's five digits can tell
 abbrev pub longest_frame : ℕ

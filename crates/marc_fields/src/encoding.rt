@@ -7,10 +7,10 @@ ghost use Rattle.marc_fields.specs.Spelling.{stored, is_short, longest_frame, en
 ghost use Rattle.marc_fields.specs.Appending.{Appends, too_long, IsCause};
 
 use crate::has_field::HasField;
-use crate::marc_record::Record;
 use marc_leader::codes::LeaderCodes;
 use marc_leader::entry::{ENTRY_SIZE, Entry, write_entry};
 use marc_leader::leader::{LEADER_SIZE, Leader, write_leader};
+use marc_parts::marc_record::Record;
 use std::alloc::AllocError;
 use union_base::body::{Body, FIELD_TERMINATOR, RECORD_TERMINATOR};
 use union_base::field::Field;

@@ -4,6 +4,8 @@
 //! Both directions are linear in the frame.
 #![tactic(auto)]
 
+pub use marc_parts::marc_record;
+
 pub mod decoding;
 pub mod directory;
 pub mod encoding;
@@ -12,7 +14,6 @@ pub mod fields;
 mod has_field;
 pub mod head;
 pub mod laws;
-pub mod marc_record;
 pub mod parts;
 pub mod rules;
 pub mod shape;

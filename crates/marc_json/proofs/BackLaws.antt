@@ -9,7 +9,7 @@ use Rattle.union_base.specs.Fields.{spelled}
 use Rattle.union_base.specs.declared.field.Field.{Field}
 use Rattle.marc_leader.specs.Codes.{are_printable}
 use Rattle.marc_leader.specs.Leader.{codes_of}
-use Rattle.marc_fields.specs.declared.marc_record.Record.{Record}
+use Rattle.marc_parts.specs.declared.marc_record.Record.{Record}
 use Rattle.marc_parts.specs.Loads.{is_utf8_field}
 use Rattle.marc_json.specs.Values.{subfield_value, body_value, field_value, leader_characters, record_value, json_line}
 use Rattle.marc_json.specs.Shapes.{value_in, is_leader, leader_in, list_in, in_unicode, unicode_record, StandsFor, IsMisfit, IsCause, IsReadAs}

@@ -23,7 +23,7 @@ use Rattle.union_base.specs.Both.{both_true, true_both}
 use Rattle.union_base.specs.Fields.{is_indicator, is_subfield, is_tag, fits_tag}
 use Rattle.union_base.specs.declared.field.Field.{Field}
 use Rattle.marc_leader.specs.Codes.{are_printable}
-use Rattle.marc_fields.specs.declared.marc_record.Record.{Record}
+use Rattle.marc_parts.specs.declared.marc_record.Record.{Record}
 use Rattle.marc_parts.specs.Loads.{is_utf8_subfield, is_utf8_body, is_utf8_field}
 use Rattle.marc_json.specs.Values.{line_feed, subfield_value, body_value, field_value, leader_characters, record_value, json_line}
 use Rattle.marc_json.specs.Shapes.{value_in}

@@ -10,7 +10,7 @@ use Rattle.serde_json.specs.Written.{items_outline, compact_text}
 use Rattle.serde_json.proofs.Texts.{print-outline}
 use Rattle.union_base.specs.Bodies.{Subfield, Data}
 use Rattle.union_base.specs.declared.field.Field.{Field}
-use Rattle.marc_fields.specs.declared.marc_record.Record.{Record}
+use Rattle.marc_parts.specs.declared.marc_record.Record.{Record}
 use Rattle.marc_json.specs.Values.{line_feed, subfield_value, body_value, field_value, leader_characters, record_value, json_line}
 use Rattle.marc_json.specs.Tokens.{value_tokens}
 

@@ -11,7 +11,7 @@ use Rattle.marc_leader.specs.Leader.{codes_of}
 use Rattle.union_base.specs.Bodies.{Subfield}
 use Rattle.union_base.specs.Fields.{is_subfield}
 use Rattle.union_base.specs.declared.field.Field.{Field}
-use Rattle.marc_fields.specs.declared.marc_record.Record.{Record}
+use Rattle.marc_parts.specs.declared.marc_record.Record.{Record}
 use Rattle.marc_json.specs.Values.{field_value}
 use Rattle.marc_json.specs.declared.reading.JsonRefusal.{JsonRefusal}
 use Rattle.marc_json.specs.declared.reading.JsonRefusal.TheVariants.{Json as NoJson, Shape, Memory}

@@ -7,7 +7,7 @@ use Rattle.marc_leader.specs.Codes.{Codes}
 use Rattle.marc_leader.specs.Leader.{leader_text}
 use Rattle.union_base.specs.Bodies.{Subfield, Body, Control, Data}
 use Rattle.union_base.specs.declared.field.Field.{Field}
-use Rattle.marc_fields.specs.declared.marc_record.Record.{Record}
+use Rattle.marc_parts.specs.declared.marc_record.Record.{Record}
 
 -- ends a line
 abbrev pub line_feed : ℕ

@@ -10,9 +10,9 @@ ghost use Rattle.marc_parts.specs.Loads.{is_utf8_field};
 ghost use Rattle.marc_json.specs.Values.{only_member, list_value, subfield_value, data_object, body_value, field_value, json_line};
 ghost use Rattle.marc_json.specs.Shapes.{value_in, is_leader, leader_in, list_in, in_unicode, unicode_record, StandsFor, IsCause, IsListCause, IsReadAs, are_subfields, IsFound};
 
-use marc_fields::marc_record::Record;
 use marc_leader::codes::LeaderCodes;
 use marc_leader::leader::{CONTROL, ENCODING, FORM, KIND, LAST, LEADER_SIZE, LEVEL, PART, STATUS};
+use marc_parts::marc_record::Record;
 use serde_json::Value;
 use std::alloc::{AllocError, AllocFailed, Global};
 use std::collections::btree_map::Iter;

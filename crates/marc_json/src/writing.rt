@@ -11,9 +11,9 @@ ghost use Rattle.marc_json.specs.Values.{subfield_value, body_value, field_value
 ghost use Rattle.marc_json.specs.Tokens.{value_tokens, Sends};
 
 use json::Writer;
-use marc_fields::marc_record::Record;
 use marc_leader::codes::LeaderCodes;
 use marc_leader::leader::{LEADER_SIZE, Leader, write_leader};
+use marc_parts::marc_record::Record;
 use std::alloc::AllocError;
 use std::mem;
 use union_base::body::Parts;

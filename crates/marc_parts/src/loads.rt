@@ -5,8 +5,8 @@ ghost use Rattle.std.specs.Str.{is_utf8};
 ghost use Rattle.marc_leader.specs.Codes.{is_printable};
 ghost use Rattle.marc_parts.specs.Loads.{is_utf8_subfield, is_utf8_body, is_utf8_field, has_number_shape, is_numbered, is_load_status, is_deleted, is_described, is_loadable, is_withdrawal};
 
+use crate::marc_record::Record;
 use crate::parts::{control_number, how_many, text_under};
-use marc_fields::marc_record::Record;
 use union_base::body::{Body, Parts};
 use union_base::field::Field;
 use union_base::subfields::Subfields;

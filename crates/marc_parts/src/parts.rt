@@ -2,8 +2,8 @@
 ghost use Rattle.std.specs.Prelude.{◌≡◌, find, option_copied};
 ghost use Rattle.marc_parts.specs.Parts.{has_tag, first_under, how_many, control_text, text_under, control_number};
 
+use crate::marc_record::Record;
 use crate::trimming::trimmed;
-use marc_fields::marc_record::Record;
 use union_base::body::{Body, Parts};
 use union_base::field::Field;
 

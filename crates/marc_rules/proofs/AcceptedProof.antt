@@ -14,7 +14,7 @@ use Rattle.union_base.specs.declared.field.Field.{Field}
 use Rattle.marc_fields.specs.Rows.{least_where_not, fails, or_then, unless}
 use Rattle.marc_fields.specs.Rules.{entry_in, texts_of, data_in, text_of, tiling_failure, shape_failure, head_failure, directory_failure}
 use Rattle.marc_fields.specs.Spelling.{leader_bytes, Spells, AreEntriesOf}
-use Rattle.marc_fields.specs.declared.marc_record.Record.{Record}
+use Rattle.marc_parts.specs.declared.marc_record.Record.{Record}
 use Rattle.marc_fields.specs.declared.rules.Failure.{Failure}
 use Rattle.marc_fields.specs.declared.rules.Rule.{Rule}
 use Rattle.marc_fields.specs.declared.rules.Rule.TheVariants.{Status, Coding, NotUtf8, ControlNumber, Repeated, Fixed008, Title245}

@@ -2,7 +2,7 @@
 use Rattle.std.specs.Prelude.{◌≡◌, ℕ, List, None}
 use Rattle.iso2709_frame.specs.declared.cut.Cut.TheVariants.{Whole}
 use Rattle.marc_fields.specs.Spelling.{Spells}
-use Rattle.marc_fields.specs.declared.marc_record.Record.{Record}
+use Rattle.marc_parts.specs.declared.marc_record.Record.{Record}
 use Rattle.marc_rules.specs.NineteenRules.{first_rule}
 
 -- some whole frame that breaks no rule spells the record

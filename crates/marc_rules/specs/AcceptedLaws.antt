@@ -3,7 +3,7 @@ use Rattle.std.specs.Prelude.{◌≡◌, true, false, ◌||◌, IsTrue}
 use Rattle.std.specs.List.{list_all}
 use Rattle.marc_leader.specs.Codes.{are_printable}
 use Rattle.marc_fields.specs.Spelling.{is_short}
-use Rattle.marc_fields.specs.declared.marc_record.Record.{Record}
+use Rattle.marc_parts.specs.declared.marc_record.Record.{Record}
 use Rattle.marc_parts.specs.Loads.{is_deleted, is_loadable, is_withdrawal}
 use Rattle.marc_rules.specs.Accepted.{IsAccepted}
 

@@ -1,5 +1,3 @@
-mod Loadable
-mod Made
 mod BesideSteps
 mod BesideLaws
 pub mod MemberLaws

@@ -1,6 +1,5 @@
 pub mod Kept
 pub mod KeptLaws
-pub mod Gathering
 pub mod Joining
 pub mod JoinLaws
 pub mod Meeting

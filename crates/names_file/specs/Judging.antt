@@ -10,7 +10,7 @@ use Rattle.iso2709_frame.specs.declared.cut.Cut.TheVariants as cuts
 use Rattle.library_batches.specs.Streams.{Frame}
 use Rattle.marc_fields.specs.Rules.{first_failure}
 use Rattle.marc_fields.specs.Spelling.{Spells}
-use Rattle.marc_fields.specs.declared.marc_record.Record.{Record}
+use Rattle.marc_parts.specs.declared.marc_record.Record.{Record}
 use Rattle.marc_fields.specs.declared.rules.Failure.{Failure}
 use Rattle.marc_fields.specs.declared.rules.Rule.TheVariants.{Truncated, TooLong}
 use Rattle.library_batches.specs.Reports.{rule_name}

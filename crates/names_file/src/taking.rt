@@ -11,8 +11,8 @@ use authority_names::name_table::NameTable;
 use authority_names::refusal::NameRefusal;
 use iso2709_frame::cut::Cut;
 use marc_fields::decoding::{DecodeRefusal, decode};
-use marc_fields::marc_record::Record;
 use marc_fields::rules::Rule;
+use marc_parts::marc_record::Record;
 use std::alloc::Global;
 use union_base::memory::Memory;
 

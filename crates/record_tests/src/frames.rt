@@ -1,6 +1,6 @@
 //! Frames of records that are read and accepted, from an independent program.
 use marc_fields::decoding::{decode, is_frame};
-use marc_fields::marc_record::Record;
+use marc_parts::marc_record::Record;
 use std::alloc::Global;
 use std::test::Fail;
 

@@ -1,7 +1,7 @@
 //! The holdings of records whose expected texts another program made.
 use crate::frames::record_of;
 use holdings_book::holdings::holdings_of;
-use marc_fields::marc_record::Record;
+use marc_parts::marc_record::Record;
 use std::alloc::Global;
 use std::test::Fail;
 use union_base::bytes::Bytes;

@@ -3,7 +3,7 @@ use Rattle.std.proofs.Common.{◌≡◌, List, [], ◌∷◌, ◌++◌, append-n
 use Rattle.std.proofs.lemmas.Grind.{flat_map-append}
 use Rattle.library_batches.specs.Streams.{AreSpelled}
 use Rattle.marc_fields.specs.Spelling.{Spells}
-use Rattle.marc_fields.specs.declared.marc_record.Record.{Record}
+use Rattle.marc_parts.specs.declared.marc_record.Record.{Record}
 use Rattle.marc_json.specs.Values.{json_line}
 use Rattle.std.proofs.Common.{ℕ}
 use Rattle.union_json.specs.ToJson.{json_text}

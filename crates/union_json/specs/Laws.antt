@@ -1,7 +1,7 @@
 -- What an accepted record has.
 use Rattle.std.specs.Prelude.{◌≡◌, true}
 use Rattle.std.specs.List.{list_all}
-use Rattle.marc_fields.specs.declared.marc_record.Record.{Record}
+use Rattle.marc_parts.specs.declared.marc_record.Record.{Record}
 use Rattle.marc_parts.specs.Loads.{is_utf8_field}
 use Rattle.marc_rules.specs.Accepted.{IsAccepted}
 

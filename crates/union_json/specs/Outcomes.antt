@@ -4,7 +4,7 @@ use Rattle.iso2709_frame.specs.declared.cut.Cut.TheVariants.{Whole}
 use Rattle.marc_fields.specs.Appending.{too_long}
 use Rattle.marc_fields.specs.Spelling.{spelling}
 use Rattle.marc_fields.specs.declared.encoding.EncodeRefusal.TheVariants.{FieldTooLong as LongField, RecordTooLong as LongRecord}
-use Rattle.marc_fields.specs.declared.marc_record.Record.{Record}
+use Rattle.marc_parts.specs.declared.marc_record.Record.{Record}
 use Rattle.marc_json.specs.Shapes.{value_in, StandsFor, IsCause}
 use Rattle.marc_json.specs.declared.reading.JsonRefusal.TheVariants.{Json as NoJson, Shape as NoShape}
 use Rattle.marc_rules.specs.NineteenRules.{first_rule}

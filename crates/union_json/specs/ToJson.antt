@@ -4,7 +4,7 @@ use Rattle.std.specs.List.{flat_map}
 use Rattle.iso2709_frame.specs.Frames.{frames}
 use Rattle.library_batches.specs.Refused.{refused}
 use Rattle.library_batches.specs.Streams.{Frame, accepted, AreSpelled}
-use Rattle.marc_fields.specs.declared.marc_record.Record.{Record}
+use Rattle.marc_parts.specs.declared.marc_record.Record.{Record}
 use Rattle.marc_json.specs.Values.{json_line}
 use Rattle.union_files.specs.Endings.{end_with}
 use Rattle.library_batches.specs.Reports.{refused_lines}

@@ -4,15 +4,15 @@ ghost use Rattle.std.specs.Option.{option_copied};
 ghost use Rattle.iso2709_frame.specs.Frames.{IsWhole};
 ghost use Rattle.marc_fields.specs.Appending.{too_long};
 ghost use Rattle.marc_fields.specs.Spelling.{spelling};
-ghost use Rattle.marc_fields.specs.declared.marc_record.Record.{Record as RecordModel};
+ghost use Rattle.marc_parts.specs.declared.marc_record.Record.{Record as RecordModel};
 ghost use Rattle.union_json.specs.Lines.{line_within};
 ghost use Rattle.union_json.specs.Outcomes.{IsRecordOf, IsOutcomeWithin, IsOutcome};
 
 use crate::outcome::{Outcome, Reason};
 use iso2709_frame::cut::Cut;
 use marc_fields::encoding::{EncodeRefusal, encode};
-use marc_fields::marc_record::Record;
 use marc_json::reading::{JsonRefusal, from_json};
+use marc_parts::marc_record::Record;
 use marc_rules::check::{Refusal, accepted_status};
 use std::alloc::Global;
 use union_base::memory::Memory;

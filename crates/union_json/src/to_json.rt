@@ -4,7 +4,7 @@ ghost use Rattle.iso2709_frame.specs.Frames.{frames, IsWhole};
 ghost use Rattle.library_batches.specs.Reading.{most_bytes};
 ghost use Rattle.library_batches.specs.Streams.{Frame, failure_of};
 ghost use Rattle.marc_fields.specs.Spelling.{Spells};
-ghost use Rattle.marc_fields.specs.declared.marc_record.Record.{Record as RecordModel};
+ghost use Rattle.marc_parts.specs.declared.marc_record.Record.{Record as RecordModel};
 ghost use Rattle.marc_json.specs.Values.{json_line};
 ghost use Rattle.union_files.specs.Readings.{Reads};
 ghost use Rattle.union_json.specs.Runs.{IsToJsonRun};

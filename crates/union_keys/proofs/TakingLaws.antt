@@ -3,7 +3,7 @@ use Rattle.std.proofs.Common.{◌≡◌, ℕ, suc, ◌+◌, List, [], ◌∷◌,
 use Rattle.std.specs.Prelude.{Option, Some, None}
 use Rattle.iso2709_frame.specs.Frames.{first_piece}
 use Rattle.marc_fields.specs.Spelling.{Spells}
-use Rattle.marc_fields.specs.declared.marc_record.Record.{Record}
+use Rattle.marc_parts.specs.declared.marc_record.Record.{Record}
 use Rattle.marc_fields.specs.declared.rules.Failure.{Failure}
 use Rattle.union_keys.specs.Placed.{Placed, placed_piece, placed_from}
 use Rattle.union_keys.specs.Readings.{Read, Takes, TakesAll, refused_line}

@@ -1,9 +1,9 @@
 -- What a record of a library's file is, and where it stands.
 use Rattle.std.specs.Prelude.{ℕ, List, [], Option, None, if◌then◌else◌}
-use Rattle.marc_fields.specs.declared.marc_record.Record.{Record}
+use Rattle.marc_parts.specs.declared.marc_record.Record.{Record}
 use Rattle.marc_parts.specs.Parts.{control_number}
 use Rattle.marc_parts.specs.Loads.{is_deleted}
-use Rattle.catalogue_editions.specs.Records.{edition}
+use Rattle.record_editions.specs.Records.{edition}
 use Rattle.catalogue_editions.specs.declared.edition.Edition.{Edition}
 use Rattle.union_keys.specs.declared.standing.Standing.{Standing}
 

@@ -4,11 +4,11 @@ ghost use Rattle.marc_rules.specs.Accepted.{IsAccepted};
 ghost use Rattle.union_keys.specs.Standings.{edition_by, standing_of};
 
 use catalogue_editions::edition::Edition;
-use catalogue_editions::laws::accepted_can_be_loaded;
-use catalogue_editions::records::{control_of, edition_of};
 use field_merge::preference::Preference;
-use marc_fields::marc_record::Record;
 use marc_parts::loads::is_deleted;
+use marc_parts::marc_record::Record;
+use record_editions::laws::accepted_can_be_loaded;
+use record_editions::records::{control_of, edition_of};
 use std::alloc::Global;
 use union_base::copied::Copied;
 use union_base::library_code::LibraryCode;

@@ -19,7 +19,7 @@ use Rattle.marc_leader.specs.declared.entry.Entry.{Entry}
 use Rattle.marc_fields.specs.Rules.{text_of}
 use Rattle.marc_fields.specs.Spelling.{spelling, Spells, AreEntriesOf}
 use Rattle.marc_fields.proofs.NoFailure.{text-spelled}
-use Rattle.marc_fields.specs.declared.marc_record.Record.{Record}
+use Rattle.marc_parts.specs.declared.marc_record.Record.{Record}
 use Rattle.marc_fields.proofs.RecordLaws.{spelling-IsSpelled}
 use Rattle.marc_parts.specs.Loads.{has_number_shape, is_utf8_field}
 use Rattle.marc_parts.specs.Trimmed.{trim_start, before_trimmed, trim_end, trimmed}

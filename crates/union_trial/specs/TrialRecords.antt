@@ -7,7 +7,7 @@ use Rattle.marc_leader.specs.Numeral.{numeral}
 use Rattle.union_base.specs.Bodies.{Data}
 use Rattle.union_base.specs.declared.field.Field.{Field}
 use Rattle.marc_fields.specs.Spelling.{spelling}
-use Rattle.marc_fields.specs.declared.marc_record.Record.{Record}
+use Rattle.marc_parts.specs.declared.marc_record.Record.{Record}
 use Rattle.catalogue_export.specs.Exported.{field_of, control_field, subfield}
 use Rattle.library_batches.specs.Streams.{Frame}
 use Rattle.union_trial.specs.declared.draws.Draws.{Draws}

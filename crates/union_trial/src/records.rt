@@ -9,8 +9,8 @@ ghost use Rattle.union_trial.specs.TrialRecords.{codes_of_status, number_field, 
 use crate::draws::Draws;
 use crate::numerals::eight_digits;
 use crate::texts::{author, fixed_text, isbn_text, title};
-use marc_fields::marc_record::Record;
 use marc_leader::codes::LeaderCodes;
+use marc_parts::marc_record::Record;
 use std::alloc::Global;
 use union_base::body::Body;
 use union_base::bytes::Bytes;

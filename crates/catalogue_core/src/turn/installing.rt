@@ -8,7 +8,7 @@ ghost use Rattle.swoosh_resolver.specs.Tables.{values_of};
 ghost use Rattle.std.specs.Option.{option_map};
 ghost use Rattle.work_clusters.specs.Room.{HasRoomForPairs};
 ghost use Rattle.work_clusters.specs.Works.{changed};
-ghost use Rattle.catalogue_editions.specs.EditionKeys.{work_pairs};
+ghost use Rattle.record_editions.specs.EditionKeys.{work_pairs};
 ghost use Rattle.catalogue_core.specs.ClosedKeys.{closed_pairs};
 ghost use Rattle.catalogue_core.specs.Grouping.{HasRoomFor, kept_works, list_in, regrouped};
 ghost use Rattle.catalogue_core.specs.Histories.{after_batch, current};

@@ -1,5 +1,5 @@
 use Rattle.std.proofs.Common.{◌≡◌, map}
-use Rattle.catalogue_editions.specs.EditionKeys.{work_pairs}
+use Rattle.record_editions.specs.EditionKeys.{work_pairs}
 use Rattle.catalogue_core.proofs.grouping.pairs.Given as goal
 
 abbrev pub invariant-loop-edition : goal.invariant-loop-edition

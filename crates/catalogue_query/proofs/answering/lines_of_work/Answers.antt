@@ -1,7 +1,7 @@
 use Rattle.std.proofs.Common.{◌≡◌, map, ap, ◌∙◌}
 use Rattle.std.proofs.lemmas.Result.{IfOk-weaker}
 use Rattle.work_clusters.specs.Works.{ids_under, works_of}
-use Rattle.catalogue_editions.specs.EditionKeys.{work_pairs}
+use Rattle.record_editions.specs.EditionKeys.{work_pairs}
 use Rattle.catalogue_core.specs.Histories.{current}
 use Rattle.catalogue_query.specs.Lines.{edition_line}
 use Rattle.catalogue_query.proofs.WorkLaws.{told-work}

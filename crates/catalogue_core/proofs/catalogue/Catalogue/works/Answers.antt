@@ -1,6 +1,6 @@
 use Rattle.std.proofs.Common.{◌≡◌, List, ap, subst, ◌∙◌}
 use Rattle.work_clusters.specs.Works.{works_of}
-use Rattle.catalogue_editions.specs.EditionKeys.{work_pairs}
+use Rattle.record_editions.specs.EditionKeys.{work_pairs}
 use Rattle.catalogue_editions.specs.declared.edition.Edition.{Edition}
 use Rattle.catalogue_core.specs.Grouping.{kept_works, list_in}
 use Rattle.catalogue_core.specs.Histories.{AreEditionsOf}

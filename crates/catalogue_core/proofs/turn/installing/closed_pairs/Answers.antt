@@ -5,7 +5,7 @@ use Rattle.std.proofs.lemmas.List.{append-nil, get_or_default}
 use Rattle.union_base.specs.declared.record_id.RecordId.{RecordId}
 use Rattle.swoosh_resolver.specs.Tables.{block_at}
 use Rattle.swoosh_resolver.proofs.Places.{block-from_value, none-from_value}
-use Rattle.catalogue_editions.specs.EditionKeys.{work_key_by}
+use Rattle.record_editions.specs.EditionKeys.{work_key_by}
 use Rattle.catalogue_core.specs.Homes.{Block}
 use Rattle.catalogue_editions.specs.Ids.{least}
 use Rattle.catalogue_editions.specs.declared.edition.Edition.{Edition}

@@ -1,6 +1,6 @@
 use Rattle.std.proofs.Common.{◌≡◌, take}
 use Rattle.swoosh_resolver.specs.Tables.{values_of}
-use Rattle.catalogue_editions.specs.EditionKeys.{work_pairs}
+use Rattle.record_editions.specs.EditionKeys.{work_pairs}
 use Rattle.catalogue_core.proofs.turn.installing.opened_pairs.Given as goal
 
 abbrev pub invariant-loop-placed : goal.invariant-loop-placed

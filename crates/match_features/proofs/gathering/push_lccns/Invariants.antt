@@ -1,8 +1,0 @@
-use Rattle.std.proofs.Common.{◌≡◌, ◌++◌}
-use Rattle.std.specs.List.{flat_map}
-use Rattle.match_features.specs.Gathering.{lccn_in}
-use Rattle.match_features.proofs.gathering.push_lccns.Given as goal
-
--- what was gathered, and what the subfields that are left give
-abbrev pub invariant-loop-subfield : goal.invariant-loop-subfield
-invariant-loop-subfield l = l.control.items ++ flat_map lccn_in l.subfield-iterator ≡ l.initial.control.items ++ flat_map lccn_in l.fn.subfields

@@ -1,0 +1,5 @@
+pub mod OwnLaws
+mod RecordsLaws
+mod EditionTexts
+pub mod KeyTexts
+mod LeastNames

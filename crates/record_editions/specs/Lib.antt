@@ -1,0 +1,4 @@
+pub mod RecordLaws
+pub mod Records
+pub mod Ops
+pub mod EditionKeys

@@ -1,0 +1,2 @@
+mod Loadable
+mod Made
