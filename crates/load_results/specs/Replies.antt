@@ -1,7 +1,7 @@
 -- What was asked beside a load and after it.
 use Rattle.std.specs.Prelude.{◌≡◌, ℕ, List, length}
 use Rattle.authority_names.specs.Leads.{Table}
-use Rattle.catalogue_core.specs.declared.history_entry.HistoryEntry.{HistoryEntry}
+use Rattle.catalogue_editions.specs.declared.history_entry.HistoryEntry.{HistoryEntry}
 use Rattle.catalogue_query.specs.declared.answer.Answer.{Answer}
 use Rattle.catalogue_query.specs.declared.query.Query.{Query}
 use Rattle.load_sessions.specs.Askers.{Replied}
