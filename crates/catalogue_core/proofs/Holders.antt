@@ -14,10 +14,10 @@ use Rattle.field_merge.specs.KeptLaws.{id_total}
 use Rattle.catalogue_editions.specs.JoinLaws.{edition_join_laws}
 use Rattle.catalogue_editions.specs.Matching.{match}
 use Rattle.catalogue_editions.specs.MatchLaws.{edition_match_laws}
-use Rattle.catalogue_core.specs.Histories.{bases, AreEditionsOf}
+use Rattle.turn_plans.specs.Histories.{bases, AreEditionsOf}
 use Rattle.catalogue_core.specs.Walks.{holder_of}
 use Rattle.catalogue_editions.specs.declared.edition.Edition.{Edition}
-use Rattle.catalogue_core.specs.declared.history_entry.HistoryEntry.{HistoryEntry}
+use Rattle.catalogue_editions.specs.declared.history_entry.HistoryEntry.{HistoryEntry}
 use Rattle.catalogue_editions.proofs.Apart.{match-from_contributor}
 
 module _ {A : Type 0} (p : A → Bool) where

@@ -26,31 +26,34 @@ use Rattle.work_clusters.specs.Works.{AreAfter, changed}
 use Rattle.work_clusters.proofs.MemberLaws.{changed-members, works_of-permutation}
 use Rattle.record_editions.specs.EditionKeys.{work_key_by, work_pairs}
 use Rattle.authority_names.specs.Leads.{Table}
-use Rattle.catalogue_core.specs.ClosedKeys.{closed_pairs}
-use Rattle.catalogue_core.specs.Grouping.{WorkList, KeptWorks}
-use Rattle.catalogue_core.specs.Histories.{MapOf, at_id, is_current, after_batch, bases, current}
-use Rattle.catalogue_core.specs.Homes.{Block, has_contributor, place_of, places_in, admitted, others, moved, housed_all, AreStillHoused}
+use Rattle.edition_blocks.specs.ClosedKeys.{closed_pairs}
+use Rattle.edition_blocks.specs.Grouping.{WorkList, KeptWorks}
+use Rattle.turn_plans.specs.Histories.{MapOf, at_id, is_current, after_batch, bases, current}
+use Rattle.turn_plans.specs.Homes.{Block, has_contributor, places_in}
+use Rattle.record_homes.specs.Moves.{place_of, admitted, others, moved}
+use Rattle.catalogue_core.specs.Housing.{housed_all, AreStillHoused}
 use Rattle.catalogue_editions.specs.Ids.{least}
 use Rattle.catalogue_editions.specs.Joining.{join}
 use Rattle.catalogue_editions.specs.JoinLaws.{edition_join_laws}
-use Rattle.catalogue_core.specs.Keeping.{batches, loaded_at, map_values, StandFor}
+use Rattle.turn_plans.specs.Keeping.{batches, loaded_at, map_values, StandFor}
 use Rattle.catalogue_core.specs.Kept.{IsKept}
 use Rattle.catalogue_editions.specs.Matching.{match}
 use Rattle.catalogue_editions.specs.MatchLaws.{edition_match_laws}
-use Rattle.catalogue_core.specs.Plans.{IsPlanned}
+use Rattle.turn_plans.specs.Plans.{IsPlanned}
 use Rattle.catalogue_editions.specs.declared.batch.Batch.{Batch}
 use Rattle.catalogue_editions.specs.declared.edition.Edition.{Edition}
-use Rattle.catalogue_core.specs.declared.history_entry.HistoryEntry.{HistoryEntry}
+use Rattle.catalogue_editions.specs.declared.history_entry.HistoryEntry.{HistoryEntry}
 use Rattle.record_homes.specs.declared.home.Home.{Home}
 use Rattle.record_homes.specs.declared.place.Place.{Place}
 use Rattle.catalogue_editions.proofs.Apart.{match-from_contributor, match-from_least}
 use Rattle.edition_blocks.proofs.BlockLaws.{block-stands, value-in, in-value, number-from_match, in-view, kept-in_view, fresh-in_view}
-use Rattle.catalogue_core.proofs.HomeLaws.{some-from_test, ordered-admitted, ordered-moved, settled_at, home-settled, ordered-housed_all, place-housed_all, block-housed_all, some-mapped}
-use Rattle.catalogue_core.proofs.Looking.{member-from_any, any-from_member, bears-resolution, bears-current}
+use Rattle.record_homes.proofs.HomeLaws.{some-from_test, ordered-admitted, ordered-moved, settled_at, home-settled, some-mapped}
+use Rattle.catalogue_core.proofs.HousedLaws.{ordered-housed_all, place-housed_all, block-housed_all}
+use Rattle.turn_plans.proofs.Contributors.{member-from_any, any-from_member, bears-resolution, bears-current}
 use Rattle.record_homes.proofs.MapLaws.{same, same-maps}
-use Rattle.catalogue_core.proofs.Placing.{lookup-values}
-use Rattle.edition_blocks.proofs.MappedLaws.{mapped-from_member, member-from_mapped}
-use Rattle.catalogue_core.proofs.TurnLaws.{ordered-current}
+use Rattle.turn_plans.proofs.Placing.{lookup-values}
+use Rattle.catalogue_editions.proofs.MappedLaws.{mapped-from_member, member-from_mapped}
+use Rattle.turn_plans.proofs.TurnLaws.{ordered-current}
 
 -- ---- works
 

@@ -1,22 +1,12 @@
-mod HomeLaws
-mod Placing
-mod Growing
+mod HousedLaws
 pub mod Looking
-mod Housing
 mod StayLaws
-mod PlanLaws
-mod TurnLaws
 mod InstallLaws
 mod NamedLaws
-mod ByKey
 mod Strangers
 pub mod SameEditions
 pub mod Holders
 pub mod WalkLaws
-pub mod PartsLaws
-pub mod LeavingLaws
-pub mod TouchLaws
-mod TouchedLaws
 mod ToldLaws
 mod Images
 mod Unranked

@@ -26,29 +26,30 @@ use Rattle.work_clusters.proofs.MemberLaws.{works_of-permutation}
 use Rattle.work_clusters.specs.Works.{works_of}
 use Rattle.record_editions.specs.EditionKeys.{work_key_by, work_pairs}
 use Rattle.authority_names.specs.Leads.{Table}
-use Rattle.catalogue_core.specs.Grouping.{WorkList, KeptWorks}
-use Rattle.catalogue_core.specs.Histories.{MapOf, at_id, is_current, bases, current, AreEditionsOf}
-use Rattle.catalogue_core.specs.Homes.{Block, has_contributor, places_in, named, named_in}
+use Rattle.edition_blocks.specs.Grouping.{WorkList, KeptWorks}
+use Rattle.turn_plans.specs.Histories.{MapOf, at_id, is_current, bases, current, AreEditionsOf}
+use Rattle.turn_plans.specs.Homes.{Block, has_contributor, places_in}
+use Rattle.catalogue_core.specs.Housing.{named, named_in}
 use Rattle.catalogue_editions.specs.Ids.{least, edition_cmp}
 use Rattle.catalogue_editions.specs.JoinLaws.{edition_join_laws}
-use Rattle.catalogue_core.specs.Keeping.{batches, loaded_at}
+use Rattle.turn_plans.specs.Keeping.{batches, loaded_at}
 use Rattle.catalogue_core.specs.Kept.{IsKept}
 use Rattle.catalogue_editions.specs.Matching.{match}
 use Rattle.catalogue_editions.specs.MatchLaws.{edition_match_laws}
 use Rattle.catalogue_core.specs.Walks.{holder_of}
 use Rattle.catalogue_editions.specs.declared.edition.Edition.{Edition}
-use Rattle.catalogue_core.specs.declared.history_entry.HistoryEntry.{HistoryEntry}
+use Rattle.catalogue_editions.specs.declared.history_entry.HistoryEntry.{HistoryEntry}
 use Rattle.record_homes.specs.declared.home.Home.{Home}
 use Rattle.catalogue_editions.proofs.Apart.{least-stands, match-from_contributor}
-use Rattle.catalogue_core.proofs.Housing.{same-some}
+use Rattle.turn_plans.proofs.Housing.{same-some}
 use Rattle.edition_blocks.proofs.BlockLaws.{block-stands, value-in, in-value}
-use Rattle.edition_blocks.proofs.MappedLaws.{mapped-from_member, member-from_mapped}
+use Rattle.catalogue_editions.proofs.MappedLaws.{mapped-from_member, member-from_mapped}
 use Rattle.catalogue_core.proofs.InstallLaws.{keys-values}
 use Rattle.catalogue_core.proofs.Looking.{holder-current, length-kept}
-use Rattle.catalogue_core.proofs.HomeLaws.{some-mapped}
+use Rattle.record_homes.proofs.HomeLaws.{some-mapped}
 use Rattle.record_homes.proofs.MapLaws.{same, one-id, same-itself}
-use Rattle.catalogue_core.proofs.PlanLaws.{base-found}
-use Rattle.catalogue_core.proofs.TurnLaws.{ordered-current, found-home}
+use Rattle.turn_plans.proofs.PlanLaws.{base-found}
+use Rattle.turn_plans.proofs.TurnLaws.{ordered-current, found-home}
 
 -- the pair of an id
 entry-of_id : {X : Type 0} (all : MapOf X) (id : RecordId) (x : X) → at_id all id ≡ Some x → Contains all (id, x)

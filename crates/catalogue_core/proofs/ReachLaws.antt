@@ -18,12 +18,12 @@ use Rattle.catalogue_editions.specs.declared.batch.Batch.{Batch}
 use Rattle.catalogue_editions.specs.declared.edition.Edition.{Edition}
 use Rattle.catalogue_editions.specs.declared.op.Op.{Op}
 use Rattle.catalogue_editions.specs.declared.op.Op.TheVariants.{Load, Withdraw}
-use Rattle.catalogue_core.specs.Histories.{MapOf, id_of, is_current, after_op, current}
-use Rattle.catalogue_core.specs.Plans.{AreSingle}
-use Rattle.catalogue_core.specs.PreparedReaches.{without_named, without_all, IsReachOfLeaving, IsReachOfComing, IsReachOfParts}
-use Rattle.catalogue_core.specs.Reaches.{IsReachOfInsertion, IsReachOfWithdrawal, IsReachOfOp, IsReachOf}
-use Rattle.catalogue_core.specs.declared.history_entry.HistoryEntry.{HistoryEntry}
-use Rattle.catalogue_core.proofs.Looking.{bears, member-from_any, bears-resolution, bears-current, single-remove, single-op, single-turns}
+use Rattle.turn_plans.specs.Histories.{MapOf, id_of, is_current, after_op, current}
+use Rattle.turn_plans.specs.Plans.{AreSingle}
+use Rattle.turn_plans.specs.PreparedReaches.{without_named, without_all, IsReachOfLeaving, IsReachOfComing, IsReachOfParts}
+use Rattle.turn_plans.specs.Reaches.{IsReachOfInsertion, IsReachOfWithdrawal, IsReachOfOp, IsReachOf}
+use Rattle.catalogue_editions.specs.declared.history_entry.HistoryEntry.{HistoryEntry}
+use Rattle.turn_plans.proofs.Contributors.{bears, member-from_any, bears-resolution, bears-current, single-remove, single-op, single-turns}
 
 -- each list of editions has a resolution
 module _ (resolution_of : (list : List Edition) → (resolution : List Edition) × IsResolution match join list resolution) where

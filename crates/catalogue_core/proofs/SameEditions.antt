@@ -1,8 +1,8 @@
 -- The editions of a history are one list.
 use Rattle.std.proofs.Common.{◌≡◌, List}
-use Rattle.catalogue_core.specs.Histories.{bases, AreEditionsOf}
+use Rattle.turn_plans.specs.Histories.{bases, AreEditionsOf}
 use Rattle.catalogue_editions.specs.declared.edition.Edition.{Edition}
-use Rattle.catalogue_core.specs.declared.history_entry.HistoryEntry.{HistoryEntry}
+use Rattle.catalogue_editions.specs.declared.history_entry.HistoryEntry.{HistoryEntry}
 use Rattle.catalogue_editions.proofs.Apart.{one-ordered}
 
 -- two lists that are the editions of one history are equal

@@ -15,12 +15,12 @@ use Rattle.catalogue_editions.specs.Joining.{join}
 use Rattle.catalogue_editions.specs.JoinLaws.{edition_join_laws}
 use Rattle.catalogue_editions.specs.Matching.{match, share}
 use Rattle.catalogue_editions.specs.MatchLaws.{edition_match_laws, edition_key_laws}
-use Rattle.catalogue_core.specs.Reaches.{IsReachOfInsertion, IsReachOfWithdrawal}
+use Rattle.turn_plans.specs.Reaches.{IsReachOfInsertion, IsReachOfWithdrawal}
 use Rattle.catalogue_editions.specs.declared.edition.Edition.{Edition}
 use Rattle.catalogue_editions.proofs.Apart.{match-from_contributor}
 use Rattle.catalogue_core.proofs.Holders.{none-left}
-use Rattle.catalogue_core.proofs.Housing.{false-from_never}
-use Rattle.catalogue_core.proofs.PlanLaws.{bears-own}
+use Rattle.turn_plans.proofs.Housing.{false-from_never}
+use Rattle.turn_plans.proofs.PlanLaws.{bears-own}
 
 clash : (b : Bool) → b ≡ true → b ≡ false → ⊥
 clash b p q = let both : true ≡ false = sym p ∙ q in cc

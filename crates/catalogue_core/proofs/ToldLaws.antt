@@ -14,13 +14,13 @@ use Rattle.catalogue_editions.specs.Resolutions.{IsOrderedResolution}
 use Rattle.catalogue_editions.specs.declared.edition.Edition.{Edition}
 use Rattle.edition_blocks.specs.Deltas.{IsDelta}
 use Rattle.edition_blocks.proofs.DeltaLaws.{delta-permutation}
-use Rattle.catalogue_core.specs.Grouping.{KeptWorks}
-use Rattle.catalogue_core.specs.Histories.{MapOf, after_batch, bases, current, AreEditionsOf}
-use Rattle.catalogue_core.specs.Homes.{Block}
-use Rattle.catalogue_core.specs.Keeping.{batches}
+use Rattle.edition_blocks.specs.Grouping.{KeptWorks}
+use Rattle.turn_plans.specs.Histories.{MapOf, after_batch, bases, current, AreEditionsOf}
+use Rattle.turn_plans.specs.Homes.{Block}
+use Rattle.turn_plans.specs.Keeping.{batches}
 use Rattle.catalogue_core.specs.Kept.{IsKept}
-use Rattle.catalogue_core.specs.Plans.{IsPlanned}
-use Rattle.catalogue_core.specs.declared.history_entry.HistoryEntry.{HistoryEntry}
+use Rattle.turn_plans.specs.Plans.{IsPlanned}
+use Rattle.catalogue_editions.specs.declared.history_entry.HistoryEntry.{HistoryEntry}
 use Rattle.record_homes.specs.declared.home.Home.{Home}
 use Rattle.record_homes.specs.declared.place.Place.{Place}
 

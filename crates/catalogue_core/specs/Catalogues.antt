@@ -3,8 +3,8 @@ use Rattle.std.specs.Prelude.{refl, List, []}
 use Rattle.std.specs.Coded.{Coded, code_by, coded×, coded_list, coded_option, coded_ℕ}
 use Rattle.std.specs.FinMap.{code, empty}
 use Rattle.authority_names.specs.Leads.{Table}
-use Rattle.catalogue_core.specs.contracts.history_entry.HistoryEntry.{the_row}
-use Rattle.catalogue_core.specs.declared.history_entry.HistoryEntry.{HistoryEntry}
+use Rattle.catalogue_editions.specs.contracts.history_entry.HistoryEntry.{the_row}
+use Rattle.catalogue_editions.specs.declared.history_entry.HistoryEntry.{HistoryEntry}
 
 -- what contracts see of a catalogue
 pub record CatalogueValue : Type 0 where

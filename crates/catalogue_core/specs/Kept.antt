@@ -5,13 +5,13 @@ use Rattle.merge_laws.specs.Resolution.{IsResolution}
 use Rattle.swoosh_resolver.specs.Tables.{blocks_in, values_of}
 use Rattle.work_clusters.specs.Works.{works_of}
 use Rattle.record_editions.specs.EditionKeys.{work_pairs}
-use Rattle.catalogue_core.specs.Grouping.{KeptWorks}
-use Rattle.catalogue_core.specs.Histories.{MapOf, bases, current as current_of}
-use Rattle.catalogue_core.specs.Homes.{Block, AreHoused, places_in}
+use Rattle.edition_blocks.specs.Grouping.{KeptWorks}
+use Rattle.turn_plans.specs.Histories.{MapOf, bases, current as current_of}
+use Rattle.turn_plans.specs.Homes.{Block, AreHoused, places_in}
 use Rattle.catalogue_editions.specs.Joining.{join}
-use Rattle.catalogue_core.specs.Keeping.{batches, StandFor}
+use Rattle.turn_plans.specs.Keeping.{batches, StandFor}
 use Rattle.catalogue_editions.specs.Matching.{match}
-use Rattle.catalogue_core.specs.declared.history_entry.HistoryEntry.{HistoryEntry}
+use Rattle.catalogue_editions.specs.declared.history_entry.HistoryEntry.{HistoryEntry}
 use Rattle.record_homes.specs.declared.home.Home.{Home}
 
 -- under the id of each current record is the place in the history at which it was loaded, and the number of its block; the

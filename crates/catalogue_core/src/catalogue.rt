@@ -1,13 +1,13 @@
 //! The union catalogue as an object that changes.
 //!
 //! A catalogue is its history, the batches that were applied, in order, and its table of names, which no call changes.
-//! Everything else that it answers is a function of the two (`specs/Histories.antt`): which records are current, and the
-//! editions that they come to, which are at every moment the resolution, from scratch, of the current records; and the works of
-//! those editions.
+//! Everything else that it answers is a function of the two (`specs/Histories.antt` of turn_plans): which records are current, and
+//! the editions that they come to, which are at every moment the resolution, from scratch, of the current records; and the works
+//! of those editions.
 //!
 //! Beside the history it keeps the editions in blocks under numbers, with an index of their keys, and under the id of each
 //! current record its home: where in the history it was loaded, and the number of its block. A turn counts at most the reach of
-//! its batch (`specs/Reaches.antt`), whatever the size of the catalogue.
+//! its batch (`specs/Reaches.antt` there), whatever the size of the catalogue.
 ghost use Rattle.std.specs.Prelude.{◌≡◌, ◌≤◌, ◌+◌, ◌<◌, ◌^◌, ◌++◌, ◌∷◌, [], ℕ, List, length, map, filter, not, is_none, IfOk, IsTrue, OnOk, OnErr, Some, slice_get};
 ghost use Rattle.std.specs.Option.{option_copied};
 ghost use Rattle.std.specs.Str.{is_utf8};
@@ -16,31 +16,27 @@ ghost use Rattle.catalogue_editions.specs.declared.edition.Edition.{Edition as E
 ghost use Rattle.work_clusters.specs.Works.{works_of};
 ghost use Rattle.record_editions.specs.EditionKeys.{work_key_by, work_pairs};
 ghost use Rattle.catalogue_core.specs.Catalogues.{by_names, empty_catalogue};
-ghost use Rattle.catalogue_core.specs.Grouping.{works_in};
+ghost use Rattle.edition_blocks.specs.Grouping.{works_in};
 ghost use Rattle.edition_blocks.specs.Deltas.{IsDelta};
-ghost use Rattle.catalogue_core.specs.Histories.{current, bases, at_id, is_current, outcomes, AreEditionsOf};
+ghost use Rattle.turn_plans.specs.Histories.{current, bases, at_id, is_current, outcomes, AreEditionsOf};
 ghost use Rattle.catalogue_editions.specs.IndexKeys.{has_key};
 ghost use Rattle.catalogue_editions.specs.Net.{net};
-ghost use Rattle.catalogue_core.specs.PreparedReaches.{IsReachOfParts};
-ghost use Rattle.catalogue_core.specs.Reaches.{IsReachOf};
+ghost use Rattle.turn_plans.specs.PreparedReaches.{IsReachOfParts};
+ghost use Rattle.turn_plans.specs.Reaches.{IsReachOf};
 ghost use Rattle.catalogue_editions.specs.Resolutions.{IsOrderedResolution};
 ghost use Rattle.catalogue_core.specs.Walks.{holder_of};
 
-use crate::grouping::{Grouping, NamedWorks, grouped};
-use crate::history_entry::HistoryEntry;
-use crate::keeping::loaded_at;
-use crate::turn::context::Context;
-use crate::turn::installing::install;
-use crate::turn::one_by_one::planned;
-use crate::turn::prepared::planned_parts;
-use crate::walk::by_key;
-use crate::walk::in_order::in_order;
+use crate::installing::install;
 use authority_names::name_table::NameTable;
 use catalogue_editions::batch::Batch;
 use catalogue_editions::edition::Edition;
+use catalogue_editions::history_entry::HistoryEntry;
 use catalogue_editions::outcome::Outcome;
 use catalogue_editions::prepared::Prepared;
+use edition_blocks::by_key;
 use edition_blocks::delta::Delta;
+use edition_blocks::grouping::{Grouping, NamedWorks, grouped};
+use edition_blocks::in_order::in_order;
 use edition_blocks::telling::delta_of;
 use key_hashing::hashing::Hashing;
 use match_features::keys::FeatureKey;
@@ -51,6 +47,10 @@ use std::alloc::Global;
 use std::marker::Model;
 use std::sync::ledger::Ledger;
 use swoosh_resolver::blocks::Blocks;
+use turn_plans::context::Context;
+use turn_plans::keeping::loaded_at;
+use turn_plans::one_by_one::planned;
+use turn_plans::prepared::planned_parts;
 use union_base::bytes::Bytes;
 use union_base::memory::Memory;
 use union_base::record_id::RecordId;
@@ -82,7 +82,7 @@ impl Model for Catalogue {
 
     ghost coded = { catalogue_code };
 
-    ghost use Rattle.catalogue_core.specs.Grouping.{kept_works};
+    ghost use Rattle.edition_blocks.specs.Grouping.{kept_works};
     ghost use Rattle.catalogue_core.specs.Kept.{IsKept};
 
     ghost view = { λ c. record { history = c.history.items; names = c.works.names } };

@@ -5,10 +5,10 @@ ghost use Rattle.marc_parts.specs.declared.marc_record.Record.{Record};
 ghost use Rattle.catalogue_editions.specs.declared.edition.Edition.{Edition};
 ghost use Rattle.catalogue_editions.specs.Resolutions.{IsOrderedResolution};
 ghost use Rattle.catalogue_editions.specs.Matching.{share};
-ghost use Rattle.catalogue_core.specs.declared.history_entry.HistoryEntry.{HistoryEntry};
-ghost use Rattle.catalogue_core.specs.Histories.{AreEditionsOf};
+ghost use Rattle.catalogue_editions.specs.declared.history_entry.HistoryEntry.{HistoryEntry};
+ghost use Rattle.turn_plans.specs.Histories.{AreEditionsOf};
 ghost use Rattle.catalogue_core.specs.Preferring.{editions_by, unranked};
-ghost use Rattle.catalogue_core.specs.Reaches.{IsReachOfInsertion, IsReachOfWithdrawal};
+ghost use Rattle.turn_plans.specs.Reaches.{IsReachOfInsertion, IsReachOfWithdrawal};
 
 pub use catalogue_editions::laws::{
     common_contributor_matches, ordered_resolution_is_unique, sorted_resolution_is_ordered,

@@ -3,10 +3,10 @@
 ghost use Rattle.std.specs.Prelude.{ℕ, List};
 ghost use Rattle.catalogue_editions.specs.declared.batch.Batch.{Batch};
 ghost use Rattle.catalogue_editions.specs.declared.edition.Edition.{Edition as EditionModel};
-ghost use Rattle.catalogue_core.specs.Histories.{current};
-ghost use Rattle.catalogue_core.specs.PreparedReaches.{IsReachOfParts};
-ghost use Rattle.catalogue_core.specs.Reaches.{IsReachOf};
-ghost use Rattle.catalogue_core.specs.declared.history_entry.HistoryEntry.{HistoryEntry};
+ghost use Rattle.turn_plans.specs.Histories.{current};
+ghost use Rattle.turn_plans.specs.PreparedReaches.{IsReachOfParts};
+ghost use Rattle.turn_plans.specs.Reaches.{IsReachOf};
+ghost use Rattle.catalogue_editions.specs.declared.history_entry.HistoryEntry.{HistoryEntry};
 
 use catalogue_editions::edition::Edition;
 use merge_laws::laws::resolution_exists;

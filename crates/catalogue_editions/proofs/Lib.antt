@@ -1,4 +1,5 @@
 pub mod Apart
+pub mod MappedLaws
 mod NetLaws
 pub mod JoinedLaws
 mod BorrowedUnions

@@ -6,7 +6,7 @@
 //! merge of their contents. It keeps the contents of its records as they are. What they merge to is made for whoever asks, as a
 //! [`shared_content::SharedContent`], or borrowed from where it lies, as a [`shown::Shown`]. An [`op::Op`] loads the edition of a
 //! record, or withdraws a record; the operations of one turn are a [`batch::Batch`], and a [`prepared::Prepared`] batch has its
-//! records resolved among themselves.
+//! records resolved among themselves. A [`history_entry::HistoryEntry`] is a batch as a turn of a catalogue's history.
 //!
 //! Guarantee: editions keep the laws of `Join` and of matching, so what a list of records resolves to does not depend on their
 //! order; and a batch is of one library, with as many operations as a turn may have.
@@ -18,6 +18,7 @@
 pub mod batch;
 mod contents;
 pub mod edition;
+pub mod history_entry;
 pub mod ids;
 pub mod joining;
 pub mod laws;

@@ -54,7 +54,7 @@ impl Model for PlainCatalogue {
     ghost use Rattle.work_clusters.specs.Works.{works_of};
     ghost use Rattle.catalogue_core.specs.EditionKeys.{work_pairs};
     ghost use Rattle.catalogue_core.specs.Histories.{current, AreEditionsOf};
-    ghost use Rattle.catalogue_core.specs.declared.history_entry.HistoryEntry.{HistoryEntry};
+    ghost use Rattle.catalogue_editions.specs.declared.history_entry.HistoryEntry.{HistoryEntry};
 
     ghost Value = { List HistoryEntry };
 

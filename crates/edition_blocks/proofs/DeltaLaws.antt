@@ -26,7 +26,7 @@ use Rattle.catalogue_editions.proofs.Apart.{ordered-from_sorted}
 use Rattle.edition_blocks.specs.Deltas.{AreOnlyIn, IsDelta}
 use Rattle.edition_blocks.proofs.BlockLaws.{Block, block-stands, value-in, in-value, number-from_match, in-view, kept-in_view, fresh-in_view}
 use Rattle.edition_blocks.proofs.LookingLaws.{value_at}
-use Rattle.edition_blocks.proofs.MappedLaws.{mapped-from_member, member-from_mapped}
+use Rattle.catalogue_editions.proofs.MappedLaws.{mapped-from_member, member-from_mapped}
 
 -- ---- lists in order
 

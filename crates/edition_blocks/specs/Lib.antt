@@ -1,1 +1,3 @@
 pub mod Deltas
+pub mod Grouping
+pub mod ClosedKeys

@@ -1,2 +1,5 @@
 pub mod MapLaws
 pub mod TableLaws
+pub mod TouchedLaws
+pub mod HomeLaws
+pub mod StayLaws

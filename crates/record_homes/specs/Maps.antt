@@ -1,5 +1,5 @@
 -- Finite maps from record ids.
-use Rattle.std.specs.Prelude.{if◌then◌else◌, List, [], ◌∷◌, Option}
+use Rattle.std.specs.Prelude.{Bool, if◌then◌else◌, List, [], ◌∷◌, Option, is_some}
 use Rattle.std.specs.BTreeMap.{is_at, insert_entry}
 use Rattle.std.specs.Map.{lookup}
 use Rattle.union_base.specs.declared.record_id.RecordId.{RecordId}
@@ -15,6 +15,10 @@ MapOf X = List (RecordId × X)
 -- the value under the id
 abbrev pub at_id : {X : Type 0} → MapOf X → RecordId → Option X
 at_id all id = lookup (is_at (id_cmp id)) all
+
+-- whether the id has a value
+abbrev pub has_value : {X : Type 0} → MapOf X → RecordId → Bool
+has_value all id = is_some (at_id all id)
 
 -- the map with what change makes of the value under the id
 abbrev pub change_at : {X : Type 0} → RecordId → (X → X) → MapOf X → MapOf X

@@ -7,7 +7,7 @@ use mathlib.Core.List.{IsPrefix}
 use prog.Atomic.{either}
 use Rattle.logbook.specs.Pages.{Cell, Book, cell, keeps, no_nib, step, Moves, Goes}
 use Rattle.snapshot_desk.specs.Counting.{IsCounted, Adds, numbers_of}
-use Rattle.catalogue_core.specs.declared.history_entry.HistoryEntry.{HistoryEntry}
+use Rattle.catalogue_editions.specs.declared.history_entry.HistoryEntry.{HistoryEntry}
 use Rattle.snapshot_desk.proofs.Prefixes.{prefix_whole}
 
 abbrev pub shown : List HistoryEntry → List HistoryEntry

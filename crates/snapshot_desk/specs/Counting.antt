@@ -1,7 +1,7 @@
 -- The rule of the log of published entries, and what the steps on its word tell.
 use Rattle.std.specs.Prelude.{◌≡◌, ℕ, ◌==◌, true, List, [], ◌∷◌, ◌++◌, length, MatchBool}
 use Rattle.logbook.specs.Pages.{Cell, Step, View, Book, Named}
-use Rattle.catalogue_core.specs.declared.history_entry.HistoryEntry.{HistoryEntry}
+use Rattle.catalogue_editions.specs.declared.history_entry.HistoryEntry.{HistoryEntry}
 
 -- the first word counts the entries. A log has two words, of which this one leaves the second at 0
 abbrev pub IsCounted : List Cell → List HistoryEntry → Type 0

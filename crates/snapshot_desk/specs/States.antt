@@ -1,7 +1,7 @@
 -- What contracts see of a publisher, of its viewer, and of a note of what was published.
 use Rattle.std.specs.Prelude.{List}
 use Rattle.logbook.specs.Pages.{Book}
-use Rattle.catalogue_core.specs.declared.history_entry.HistoryEntry.{HistoryEntry}
+use Rattle.catalogue_editions.specs.declared.history_entry.HistoryEntry.{HistoryEntry}
 
 -- a publisher: which one it is, the entries that it has published, and those that are still pending
 pub record Publishing : Type 0 where

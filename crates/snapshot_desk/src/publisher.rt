@@ -2,7 +2,7 @@
 ghost use Rattle.std.specs.Prelude.{◌≡◌, ◌<◌, ◌^◌, ◌-◌, ◌++◌, ◌∷◌, [], List, length, IfOk, OnOk, OnErr};
 ghost use mathlib.Core.List.{IsPrefix};
 ghost use Rattle.snapshot_desk.specs.Counting.{head_of};
-ghost use Rattle.catalogue_core.specs.declared.history_entry.HistoryEntry.{HistoryEntry as Entry};
+ghost use Rattle.catalogue_editions.specs.declared.history_entry.HistoryEntry.{HistoryEntry as Entry};
 
 use crate::board::{Board, Posted, post};
 use crate::log::{Add, Head, Law, Look, Nothing, Reached};

@@ -10,7 +10,7 @@ use Rattle.union_base.specs.declared.record_id.RecordId.{RecordId}
 use Rattle.catalogue_editions.specs.Resolutions.{IsOrderedResolution}
 use Rattle.catalogue_editions.specs.declared.edition.Edition.{Edition}
 use Rattle.catalogue_core.specs.Histories.{MapOf, at_id, after_batch, current}
-use Rattle.catalogue_core.specs.declared.history_entry.HistoryEntry.{HistoryEntry}
+use Rattle.catalogue_editions.specs.declared.history_entry.HistoryEntry.{HistoryEntry}
 use Rattle.catalogue_core.proofs.SameEditions.{same_editions_of}
 use Rattle.library_batches.specs.Batches.{AreBatches}
 use Rattle.library_batches.proofs.SameLaws.{one-batches}

@@ -2,7 +2,7 @@
 use Rattle.std.specs.Prelude.{◌≡◌, ℕ, ◌==◌, nat_lt, IsTrue, List, length, map, filter, slice_get, Some}
 use Rattle.std.specs.List.{list_all}
 use Rattle.catalogue_editions.specs.declared.batch.Batch.{Batch}
-use Rattle.catalogue_core.specs.declared.history_entry.HistoryEntry.{HistoryEntry}
+use Rattle.catalogue_editions.specs.declared.history_entry.HistoryEntry.{HistoryEntry}
 
 -- the batches that were applied under that number, in their order
 abbrev pub batches_under : ℕ → List HistoryEntry → List Batch

@@ -4,7 +4,7 @@ use Rattle.std.specs.List.{list_any}
 use Rattle.authority_names.specs.Leads.{Table}
 use Rattle.catalogue_core.specs.Histories.{AreEditionsOf}
 use Rattle.catalogue_editions.specs.declared.edition.Edition.{Edition}
-use Rattle.catalogue_core.specs.declared.history_entry.HistoryEntry.{HistoryEntry}
+use Rattle.catalogue_editions.specs.declared.history_entry.HistoryEntry.{HistoryEntry}
 use Rattle.union_files.specs.Deliveries.{Delivery, Stream, delivered, batches_of, reports_of, has_refused}
 use Rattle.union_files.specs.Interleavings.{IsInterleaving}
 use Rattle.union_files.specs.declared.loaded.Loaded.{Loaded}

@@ -6,7 +6,7 @@ use Rattle.std.specs.List.{AllByRecursion, flat_map, list_any}
 use Rattle.std.proofs.lemmas.List.{map-append}
 use Rattle.std.proofs.lemmas.List.Elements.{filter-append}
 use Rattle.std.proofs.lemmas.Bool.Decides.{nat_tests}
-use Rattle.catalogue_core.specs.declared.history_entry.HistoryEntry.{HistoryEntry}
+use Rattle.catalogue_editions.specs.declared.history_entry.HistoryEntry.{HistoryEntry}
 use Rattle.catalogue_editions.specs.declared.batch.Batch.{Batch}
 use Rattle.catalogue_lock.specs.History.{changes_of}
 use Rattle.catalogue_lock.specs.Rule.{EndedOk}

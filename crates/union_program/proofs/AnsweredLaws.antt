@@ -1,7 +1,7 @@
 -- What is told of a file of questions by the replies to those that are asked beside a load and after it.
 use Rattle.std.proofs.Common.{◌≡◌, ℕ, ◌++◌, List, length, subst}
 use Rattle.authority_names.specs.Leads.{Table}
-use Rattle.catalogue_core.specs.declared.history_entry.HistoryEntry.{HistoryEntry}
+use Rattle.catalogue_editions.specs.declared.history_entry.HistoryEntry.{HistoryEntry}
 use Rattle.catalogue_query.specs.declared.answer.Answer.{Answer}
 use Rattle.catalogue_query.specs.declared.query.Query.{Query}
 use Rattle.catalogue_query.specs.Replies.{AreReplies}

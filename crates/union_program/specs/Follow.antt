@@ -1,6 +1,6 @@
 -- What a run of `follow` does.
 use Rattle.std.specs.Prelude.{ℕ, List, [], None}
-use Rattle.catalogue_core.specs.declared.history_entry.HistoryEntry.{HistoryEntry}
+use Rattle.catalogue_editions.specs.declared.history_entry.HistoryEntry.{HistoryEntry}
 use Rattle.catalogue_editions.specs.declared.batch.Batch.{Batch}
 use Rattle.union_files.specs.Interleavings.{IsInterleaving}
 use Rattle.union_follow.specs.Following.{IsInOrder}

@@ -11,7 +11,7 @@ use Rattle.catalogue_editions.specs.declared.batch.Batch.{Batch}
 use Rattle.catalogue_editions.specs.declared.op.Op.{Op}
 use Rattle.catalogue_core.specs.Batches.{is_batch, is_own_op}
 use Rattle.catalogue_editions.specs.declared.edition.Edition.{Edition}
-use Rattle.catalogue_core.specs.declared.history_entry.HistoryEntry.{HistoryEntry}
+use Rattle.catalogue_editions.specs.declared.history_entry.HistoryEntry.{HistoryEntry}
 use Rattle.library_batches.specs.Outcomes.{found_in}
 use Rattle.union_script.specs.Texts.{turns_of}
 

@@ -1,7 +1,7 @@
 -- What is told of the turns of a load, one turn more.
 use Rattle.std.proofs.Common.{ℕ, Bool, List, [], ◌∷◌, ◌++◌, refl, sym, ap, subst, ◌∙◌, append_assoc, append-nil}
 use Rattle.catalogue_editions.specs.declared.batch.Batch.{Batch}
-use Rattle.catalogue_core.specs.declared.history_entry.HistoryEntry.{HistoryEntry}
+use Rattle.catalogue_editions.specs.declared.history_entry.HistoryEntry.{HistoryEntry}
 use Rattle.union_script.specs.Notices.{TellsTurn, TellsTurns, with_turn}
 use Rattle.union_script.specs.Texts.{turns_of}
 

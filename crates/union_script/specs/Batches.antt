@@ -2,7 +2,7 @@
 use Rattle.std.specs.Prelude.{◌≡◌, ℕ, Bool, List, [], ◌++◌, length}
 use Rattle.catalogue_core.specs.Histories.{current}
 use Rattle.catalogue_editions.specs.declared.batch.Batch.{Batch}
-use Rattle.catalogue_core.specs.declared.history_entry.HistoryEntry.{HistoryEntry}
+use Rattle.catalogue_editions.specs.declared.history_entry.HistoryEntry.{HistoryEntry}
 use Rattle.library_batches.specs.Batches.{AreBatches}
 use Rattle.library_batches.specs.Outcomes.{AreCounted, found_in}
 use Rattle.library_batches.specs.Reading.{Batching}

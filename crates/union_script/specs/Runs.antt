@@ -2,7 +2,7 @@
 use Rattle.std.specs.Prelude.{◌≡◌, ◌≢◌, ℕ, ◌⊎◌, false, List, [], Some, None, IfSome, IsTrue}
 use Rattle.std.specs.declared.option.Option.{Option}
 use Rattle.std.specs.Io.KnownBytes.{Appends, Keeps}
-use Rattle.catalogue_core.specs.declared.history_entry.HistoryEntry.{HistoryEntry}
+use Rattle.catalogue_editions.specs.declared.history_entry.HistoryEntry.{HistoryEntry}
 use Rattle.union_words.specs.Flows.{ShelfFlow, IsCalm, FailsAt, NoneFails, Outflow, HasFailedAt}
 use Rattle.union_words.specs.ScriptLines.{ScriptLine}
 use Rattle.union_words.specs.Statuses.{is_done, is_input_fault, end_by}

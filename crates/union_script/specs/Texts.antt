@@ -12,7 +12,7 @@ use Rattle.iso2709_frame.specs.Frames.{frames}
 use Rattle.catalogue_core.specs.Histories.{current, AreEditionsOf}
 use Rattle.catalogue_editions.specs.declared.batch.Batch.{Batch}
 use Rattle.catalogue_editions.specs.declared.edition.Edition.{Edition}
-use Rattle.catalogue_core.specs.declared.history_entry.HistoryEntry.{HistoryEntry}
+use Rattle.catalogue_editions.specs.declared.history_entry.HistoryEntry.{HistoryEntry}
 use Rattle.catalogue_export.specs.Editions.{export_text}
 use Rattle.catalogue_export.specs.WorkLists.{works_text_of}
 use Rattle.library_batches.specs.Streams.{Frame}

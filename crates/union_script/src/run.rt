@@ -1,7 +1,7 @@
 //! The run of a script.
 ghost use Rattle.std.specs.Prelude.{◌≡◌, ◌<◌, List, [], IfOk};
 ghost use Rattle.catalogue_core.specs.Catalogues.{empty_catalogue};
-ghost use Rattle.catalogue_core.specs.declared.history_entry.HistoryEntry.{HistoryEntry};
+ghost use Rattle.catalogue_editions.specs.declared.history_entry.HistoryEntry.{HistoryEntry};
 ghost use Rattle.union_words.specs.Statuses.{end_by};
 ghost use Rattle.union_script.specs.Lines.{LinesRun};
 ghost use Rattle.union_script.specs.Runs.{IsScript};

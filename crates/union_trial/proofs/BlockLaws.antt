@@ -10,7 +10,7 @@ use Rattle.marc_fields.specs.Spelling.{spelling}
 use Rattle.catalogue_core.specs.Batches.{is_own_op, is_batch}
 use Rattle.catalogue_core.specs.Ops.{op as op_of}
 use Rattle.catalogue_editions.specs.declared.batch.Batch.{Batch}
-use Rattle.catalogue_core.specs.declared.history_entry.HistoryEntry.{HistoryEntry}
+use Rattle.catalogue_editions.specs.declared.history_entry.HistoryEntry.{HistoryEntry}
 use Rattle.catalogue_editions.specs.declared.op.Op.{Op}
 use Rattle.library_batches.specs.Batches.{IsOpOf, IsBatchOf, AreBatches}
 use Rattle.library_batches.specs.Streams.{Frame, is_accepted, accepted}

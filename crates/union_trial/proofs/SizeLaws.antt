@@ -4,7 +4,7 @@ use Rattle.std.specs.Prelude.{Some, slice_get, Result, Ok, Err, IfOk}
 use Rattle.authority_names.specs.Leads.{Table}
 use Rattle.catalogue_core.specs.EditionKeys.{work_key_by}
 use Rattle.catalogue_core.specs.Histories.{AreEditionsOf}
-use Rattle.catalogue_core.specs.declared.history_entry.HistoryEntry.{HistoryEntry}
+use Rattle.catalogue_editions.specs.declared.history_entry.HistoryEntry.{HistoryEntry}
 use Rattle.catalogue_editions.specs.declared.edition.Edition.{Edition}
 use Rattle.catalogue_core.proofs.WalkLaws.{told-more}
 use Rattle.catalogue_export.specs.Editions.{edition_text, export_text}

@@ -5,7 +5,7 @@ use Rattle.work_clusters.specs.Works.{works_of}
 use Rattle.catalogue_core.specs.EditionKeys.{work_pairs}
 use Rattle.catalogue_core.specs.Histories.{bases, AreEditionsOf}
 use Rattle.catalogue_editions.specs.declared.edition.Edition.{Edition}
-use Rattle.catalogue_core.specs.declared.history_entry.HistoryEntry.{HistoryEntry}
+use Rattle.catalogue_editions.specs.declared.history_entry.HistoryEntry.{HistoryEntry}
 use Rattle.catalogue_export.specs.Editions.{export_text}
 use Rattle.union_trial.specs.declared.measures.Measures.{Measures}
 

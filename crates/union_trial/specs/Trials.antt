@@ -7,7 +7,7 @@ use Rattle.library_batches.specs.Reports.{counted}
 use Rattle.union_words.specs.Flows.{Outflow, HasFailedAt}
 use Rattle.union_words.specs.declared.status.Status.{Status}
 use Rattle.union_words.specs.declared.status.Status.TheVariants.{Done, DoneWithRefusals, Usage, OpenFault, ReadFault, WriteFault, TooLong, Memory}
-use Rattle.catalogue_core.specs.declared.history_entry.HistoryEntry.{HistoryEntry}
+use Rattle.catalogue_editions.specs.declared.history_entry.HistoryEntry.{HistoryEntry}
 use Rattle.union_trial.specs.Measured.{AreMeasured}
 use Rattle.union_trial.specs.Streams.{AreLoaded}
 use Rattle.union_trial.specs.declared.measures.Measures.{Measures}

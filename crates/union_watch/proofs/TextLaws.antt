@@ -6,7 +6,7 @@ use Rattle.std.specs.List.{AllByRecursion, list_all, flat_map}
 use Rattle.std.proofs.lemmas.List.{append_cancel_left}
 use Rattle.union_base.specs.Both.{both_true}
 use Rattle.union_base.specs.LibraryCodes.{may_stand, is_library_code}
-use Rattle.catalogue_core.specs.declared.history_entry.HistoryEntry.{HistoryEntry}
+use Rattle.catalogue_editions.specs.declared.history_entry.HistoryEntry.{HistoryEntry}
 use Rattle.catalogue_query.specs.declared.query.QueryRefusal.TheVariants.{Unknown, Word as BadRest, Memory as QueryMemory}
 use Rattle.library_batches.specs.Reports.{counted}
 use Rattle.union_watch.specs.Told.{Told, Reply, Refused, reply_line, told_text_of}

@@ -8,7 +8,7 @@ use Rattle.std.proofs.lemmas.Grind.{flat_map-append}
 use Rattle.union_watch.specs.declared.ask_line.AskLine.{AskLine as LineInPlace}
 use Rattle.authority_names.specs.Leads.{Table}
 use Rattle.catalogue_editions.specs.declared.batch.Batch.{Batch}
-use Rattle.catalogue_core.specs.declared.history_entry.HistoryEntry.{HistoryEntry}
+use Rattle.catalogue_editions.specs.declared.history_entry.HistoryEntry.{HistoryEntry}
 use Rattle.catalogue_export.specs.Writing.{IsWrittenTo, HasMoved}
 use Rattle.catalogue_export.proofs.WritingLaws.{moved-more}
 use Rattle.catalogue_query.specs.Queries.{query_of}

@@ -10,7 +10,7 @@ use Rattle.std.specs.Option.{option_map}
 use Rattle.union_base.specs.Both.{both_true}
 use Rattle.library_batches.specs.Streams.{Frame}
 use Rattle.catalogue_editions.specs.declared.batch.Batch.{Batch}
-use Rattle.catalogue_core.specs.declared.history_entry.HistoryEntry.{HistoryEntry}
+use Rattle.catalogue_editions.specs.declared.history_entry.HistoryEntry.{HistoryEntry}
 use Rattle.library_batches.specs.Batches.{IsBatchOf}
 use Rattle.union_words.specs.Alike.{is_text}
 use Rattle.union_files.specs.Deliveries.{Stream, AreDistinct, batches_of}

@@ -2,7 +2,7 @@
 use Rattle.std.specs.Prelude.{◌≡◌, ℕ, IsTrue, List, map}
 use Rattle.std.specs.List.{AllByRecursion}
 use Rattle.union_base.specs.LibraryCodes.{is_library_code}
-use Rattle.catalogue_core.specs.declared.history_entry.HistoryEntry.{HistoryEntry}
+use Rattle.catalogue_editions.specs.declared.history_entry.HistoryEntry.{HistoryEntry}
 use Rattle.union_files.specs.Deliveries.{Stream, AreDistinct, batches_of}
 use Rattle.union_files.specs.Interleavings.{IsInterleaving}
 use Rattle.union_watch.specs.Told.{Told}

@@ -2,7 +2,7 @@
 use Rattle.std.specs.Prelude.{ℕ, ◌+◌, ◌==◌, cond, List, [], ◌∷◌, ◌++◌, length, drop, map, codes, slice_index_or}
 use Rattle.std.specs.List.{flat_map, position_or_len}
 use Rattle.catalogue_editions.specs.declared.batch.Batch.{Batch}
-use Rattle.catalogue_core.specs.declared.history_entry.HistoryEntry.{HistoryEntry}
+use Rattle.catalogue_editions.specs.declared.history_entry.HistoryEntry.{HistoryEntry}
 pub use Rattle.catalogue_query.specs.LineTexts.{six_digits}
 use Rattle.library_batches.specs.Reports.{counted}
 use Rattle.union_words.specs.Alike.{is_text}

@@ -1,6 +1,6 @@
 -- The text of `watch`.
 use Rattle.std.specs.Prelude.{ℕ, List, ◌++◌}
-use Rattle.catalogue_core.specs.declared.history_entry.HistoryEntry.{HistoryEntry}
+use Rattle.catalogue_editions.specs.declared.history_entry.HistoryEntry.{HistoryEntry}
 use Rattle.union_watch.specs.Told.{Told, told_text_of}
 use Rattle.union_watch.specs.TurnLines.{turns_text}
 

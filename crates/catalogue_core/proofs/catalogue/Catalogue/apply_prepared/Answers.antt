@@ -1,6 +1,6 @@
 use Rattle.std.proofs.Common.{ap}
 use Rattle.catalogue_core.specs.Catalogues.{CatalogueValue}
-use Rattle.catalogue_core.proofs.PartsLaws.{one-reach}
+use Rattle.turn_plans.proofs.PartsLaws.{one-reach}
 use Rattle.catalogue_core.proofs.catalogue.Catalogue.apply_prepared.Goals as goal
 
 pub returns-in_err-plan-clause-reach : goal.returns-in_err-plan-clause-reach

@@ -1,5 +1,5 @@
 use Rattle.std.proofs.Common.{ap}
-use Rattle.catalogue_core.specs.Grouping.{kept_works}
+use Rattle.edition_blocks.specs.Grouping.{kept_works}
 use Rattle.catalogue_core.specs.Catalogues.{CatalogueValue}
 use Rattle.catalogue_core.proofs.ToldLaws.{kept-apart, delta-told_of}
 use Rattle.catalogue_core.proofs.catalogue.Catalogue.apply_told.Goals as goal

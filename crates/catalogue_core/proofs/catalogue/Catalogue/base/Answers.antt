@@ -1,9 +1,9 @@
 use Rattle.std.proofs.Common.{◌≡◌, sym, ap, ◌∙◌}
 use Rattle.std.specs.Prelude.{Some, None}
 use Rattle.std.specs.Option.{option_map, option_and_then}
-use Rattle.catalogue_core.specs.Grouping.{kept_works}
-use Rattle.catalogue_core.specs.Histories.{at_id, current}
-use Rattle.catalogue_core.specs.Keeping.{batches, loaded_at}
+use Rattle.edition_blocks.specs.Grouping.{kept_works}
+use Rattle.turn_plans.specs.Histories.{at_id, current}
+use Rattle.turn_plans.specs.Keeping.{batches, loaded_at}
 use Rattle.record_homes.specs.declared.home.Home.{Home}
 use Rattle.catalogue_core.specs.Catalogues.{CatalogueValue}
 use Rattle.catalogue_core.proofs.NamedLaws.{base-is}

@@ -3,11 +3,11 @@ use Rattle.std.specs.Prelude.{IfOk}
 use Rattle.catalogue_editions.specs.declared.edition.Edition.{Edition}
 use Rattle.catalogue_editions.proofs.Apart.{ordered-from_sorted}
 use Rattle.swoosh_resolver.specs.Tables.{blocks_in, values_of}
-use Rattle.catalogue_core.specs.Grouping.{kept_works}
-use Rattle.catalogue_core.specs.Histories.{AreEditionsOf, bases}
-use Rattle.catalogue_core.specs.Homes.{named_in}
+use Rattle.edition_blocks.specs.Grouping.{kept_works}
+use Rattle.turn_plans.specs.Histories.{AreEditionsOf, bases}
+use Rattle.catalogue_core.specs.Housing.{named_in}
 use Rattle.catalogue_core.specs.Catalogues.{CatalogueValue}
-use Rattle.catalogue_core.proofs.ByKey.{both-ok}
+use Rattle.edition_blocks.proofs.ByKey.{both-ok}
 use Rattle.catalogue_core.proofs.NamedLaws.{named-editions}
 use Rattle.catalogue_core.proofs.SameEditions.{same_editions_of}
 use Rattle.catalogue_core.proofs.catalogue.Catalogue.editions.Goals as goal

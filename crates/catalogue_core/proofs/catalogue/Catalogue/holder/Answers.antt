@@ -1,9 +1,10 @@
 use Rattle.std.proofs.Common.{◌≡◌, List, sym, ap, subst, ◌∙◌}
 use Rattle.std.specs.Prelude.{Option, Some, None, is_none, is_some, not}
 use Rattle.std.specs.Option.{option_map, option_copied}
-use Rattle.catalogue_core.specs.Grouping.{kept_works}
-use Rattle.catalogue_core.specs.Histories.{at_id, is_current, current, AreEditionsOf}
-use Rattle.catalogue_core.specs.Homes.{Block, named_in}
+use Rattle.edition_blocks.specs.Grouping.{kept_works}
+use Rattle.turn_plans.specs.Histories.{at_id, is_current, current, AreEditionsOf}
+use Rattle.turn_plans.specs.Homes.{Block}
+use Rattle.catalogue_core.specs.Housing.{named_in}
 use Rattle.catalogue_core.specs.Walks.{holder_of}
 use Rattle.catalogue_editions.specs.declared.edition.Edition.{Edition}
 use Rattle.catalogue_core.specs.Catalogues.{CatalogueValue}

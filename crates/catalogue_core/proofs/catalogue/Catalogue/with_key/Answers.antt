@@ -1,8 +1,8 @@
 use Rattle.std.proofs.Common.{◌≡◌, Bor, List, map, filter, subst}
 use Rattle.std.proofs.lemmas.Result.{IfOk-weaker}
-use Rattle.catalogue_core.specs.Grouping.{kept_works}
-use Rattle.catalogue_core.specs.Histories.{bases, AreEditionsOf}
-use Rattle.catalogue_core.specs.Homes.{named_in}
+use Rattle.edition_blocks.specs.Grouping.{kept_works}
+use Rattle.turn_plans.specs.Histories.{bases, AreEditionsOf}
+use Rattle.catalogue_core.specs.Housing.{named_in}
 use Rattle.catalogue_editions.specs.IndexKeys.{has_key}
 use Rattle.catalogue_editions.specs.declared.edition.Edition.{Edition}
 use Rattle.catalogue_core.specs.Catalogues.{CatalogueValue}

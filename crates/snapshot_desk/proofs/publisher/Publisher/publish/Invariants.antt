@@ -1,5 +1,5 @@
 use Rattle.std.proofs.Common.{◌≡◌, ◌++◌, List, length}
-use Rattle.catalogue_core.specs.declared.history_entry.HistoryEntry.{HistoryEntry as Entry}
+use Rattle.catalogue_editions.specs.declared.history_entry.HistoryEntry.{HistoryEntry as Entry}
 use Rattle.snapshot_desk.proofs.publisher.Publisher.publish.Given as goal
 
 -- some of what was pending is published, and the rest is pending

@@ -1,6 +1,0 @@
-use Rattle.std.proofs.Common.{◌≡◌, ◌++◌}
-use Rattle.catalogue_core.proofs.turn.ascending_ids.AscendingIds.of_tree.Given as goal
-
--- the ids so far are in the list
-abbrev pub invariant-loop-entry : goal.invariant-loop-entry
-invariant-loop-entry l = l.entries.items ++ l.entry-iterator ≡ l.fn.tree.entries

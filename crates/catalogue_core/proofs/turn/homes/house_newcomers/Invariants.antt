@@ -1,9 +1,0 @@
-use Rattle.std.proofs.Common.{◌+◌, length}
-use Rattle.catalogue_core.proofs.StayLaws.{Houses}
-use Rattle.catalogue_core.proofs.turn.homes.house_newcomers.Given as goal
-
-abbrev pub invariant-loop-id : goal.invariant-loop-id
-invariant-loop-id l = Houses l.number l.initial.homes.entries l.fn.ids l.homes.entries l.left l.right
-
-abbrev pub decreases-loop-id : goal.decreases-loop-id
-decreases-loop-id l = length l.left + length l.right

@@ -1,6 +1,0 @@
-use Rattle.std.proofs.Common.{◌≡◌, take}
-use Rattle.catalogue_core.specs.ClosedKeys.{closed_pairs}
-use Rattle.catalogue_core.proofs.turn.installing.closed_pairs.Given as goal
-
-abbrev pub invariant-loop-number : goal.invariant-loop-number
-invariant-loop-number l = l.pairs.items ≡ closed_pairs l.names l.blocks.blocks (take l.number-index l.closed)

@@ -1,0 +1,31 @@
+//! The editions that have an index key, as the index of the blocks finds them.
+//!
+//! What a look-up costs goes with the number of editions that it finds, and not with how many there are.
+ghost use Rattle.std.specs.Prelude.{◌≡◌, List, map, filter, IfOk};
+ghost use Rattle.std.specs.List.Sorted.{IsPermutation};
+ghost use Rattle.swoosh_resolver.specs.Tables.{blocks_in, values_of};
+ghost use Rattle.catalogue_editions.specs.declared.edition.Edition.{Edition as EditionModel};
+ghost use Rattle.catalogue_editions.specs.IndexKeys.{has_key};
+ghost use Rattle.catalogue_editions.specs.Resolutions.{IsOrderedResolution};
+
+use catalogue_editions::edition::Edition;
+use crate::looking::{by_least, under_numbers};
+use match_features::keys::FeatureKey;
+use std::alloc::Global;
+use swoosh_resolver::blocks::Blocks;
+use union_base::memory::Memory;
+
+/// The editions among the blocks that have the key, in order of their least contributors, where the blocks are the resolution
+/// of some list. Returns `Memory` if allocation fails.
+pub fn with_key<'a>(
+    alloc: Global,
+    blocks: &'a Blocks<Edition>,
+    key: &FeatureKey,
+) -> Result<Vec<&'a Edition>, Memory>
+    ensures { IfOk result (λ found. (list all : List EditionModel) → IsOrderedResolution list all
+        → IsPermutation (values_of (blocks_in blocks.now.blocks)) all
+        → map (λ e. e.now) found.items ≡ filter (has_key key.now) all) }
+{
+    let found = under_numbers(alloc, blocks, blocks.with_key(key))?;
+    by_least(alloc, found)
+}

@@ -1,0 +1,23 @@
+//! The editions in order.
+//!
+//! Blocks are kept in no order, so they are sorted for whoever asks.
+ghost use Rattle.std.specs.Prelude.{map, IfOk};
+ghost use Rattle.std.specs.List.Sorted.{IsPermutation, IsSorted};
+ghost use Rattle.swoosh_resolver.specs.Tables.{blocks_in, values_of};
+ghost use Rattle.catalogue_editions.specs.Ids.{edition_cmp};
+
+use catalogue_editions::edition::Edition;
+use crate::looking::by_least;
+use std::alloc::Global;
+use swoosh_resolver::blocks::Blocks;
+use union_base::memory::Memory;
+
+/// The editions among the blocks, in order of their least contributors. Returns `Memory` if allocation fails.
+pub fn in_order(alloc: Global, blocks: &Blocks<Edition>) -> Result<Vec<&Edition>, Memory>
+    ensures same { IfOk result (λ found. IsPermutation (values_of (blocks_in blocks.now.blocks))
+        (map (λ e. e.now) found.items)) }
+    ensures ascending { IfOk result (λ found. IsSorted edition_cmp (map (λ e. e.now) found.items)) }
+{
+    let editions = blocks.values(alloc)?;
+    by_least(alloc, editions)
+}

@@ -1,0 +1,9 @@
+pub mod Placing
+pub mod Growing
+pub mod Contributors
+pub mod Housing
+pub mod PlanLaws
+pub mod TurnLaws
+pub mod PartsLaws
+pub mod LeavingLaws
+pub mod TouchLaws
