@@ -16,7 +16,6 @@
 #![tactic(auto)]
 
 pub mod blocks;
-pub mod both;
 pub mod change;
 mod insert;
 mod install;
