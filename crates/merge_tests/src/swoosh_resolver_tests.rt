@@ -1,19 +1,16 @@
-//! Small sets of numbers, inserted and taken apart, and two lists of them resolved together.
+//! Small sets of numbers, inserted and taken apart.
 ghost use Rattle.std.specs.Prelude.{◌≡◌, ◌<◌};
 
-use crate::counted_sets::CountedSet;
 use crate::small_sets::SmallSet;
 use key_hashing::hashing::Hashing;
 use merge_laws::laws::resolution_is_apart;
 use merge_laws::steps::Steps;
 use merge_laws::swoosh::resolve_plain;
 use std::alloc::Global;
-use std::cell::Cell;
 use std::marker::Brand;
 use std::sync::ledger::{Blank, Ledger};
 use std::test::Fail;
 use swoosh_resolver::blocks::Blocks;
-use swoosh_resolver::both::resolve_both;
 use swoosh_resolver::change::Place;
 use union_base::memory::Memory;
 
@@ -329,67 +326,6 @@ fn block_grows_twice_in_a_change(rt: HostRuntime) -> Result<(), Fail> {
         let (stand, found) = grown(rt.alloc(), &[32, 6], together, keys)?;
         assert_eq!(rt; stand.as_slice(), want);
         assert_eq!(rt; found.as_slice(), numbers);
-    }
-    Ok(())
-}
-
-/// The sets of the masks, with the count.
-fn counted<'a>(
-    alloc: Global,
-    masks: &[u64],
-    tests: &'a Cell<u64>,
-) -> Result<Vec<CountedSet<'a>>, Memory> {
-    let mut sets = Vec::new(alloc);
-    for set in sets_of(alloc, masks)? {
-        sets.push(CountedSet { set, tests })?;
-    }
-    Ok(sets)
-}
-
-/// The masks that two lists resolve to together, each resolved by itself before, in ascending order, and how many tests that takes.
-fn both_by<L: Ledger>(
-    alloc: Global,
-    one: &[u64],
-    other: &[u64],
-    blank: Blank,
-) -> Result<(Vec<u64>, u64), Memory>
-    requires name { blank.name ≡ L.name }
-    requires parts { blank.parts ≡ L.parts }
-    requires some { 0 < L.parts }
-{
-    let mut steps: Steps<L> = Steps::open(blank);
-    let tests = Cell::new(0);
-    resolution_is_apart::<CountedSet>();
-    let one = resolve_plain(counted(alloc, one, &tests)?, &mut steps)?;
-    let other = resolve_plain(counted(alloc, other, &tests)?, &mut steps)?;
-    tests.set(0);
-    let mut masks = Vec::new(alloc);
-    for value in resolve_both(Hashing::fixed(), one, other, &mut steps)? {
-        masks.push(value.set.mask())?;
-    }
-    masks.sort()?;
-    Ok((masks, tests.get()))
-}
-
-/// The same, in a ledger of their own.
-fn both(alloc: Global, one: &[u64], other: &[u64]) -> Result<(Vec<u64>, u64), Memory> {
-    both_by::<Brand>(alloc, one, other, Blank::new(1))
-}
-
-#[test]
-fn two_lists_by_one_key(rt: HostRuntime) -> Result<(), Fail> {
-    // All sets share a key. Where none match, the tests are the pairs of one set of each list.
-    let cases: [(&[u64], &[u64], &[u64], u64); 4] = [
-        (&[1, 2, 4], &[8, 16], &[1, 2, 4, 8, 16], 6),
-        (&[], &[1, 2, 4], &[1, 2, 4], 0),
-        (&[1, 2, 4], &[], &[1, 2, 4], 0),
-        // {1, 2} is tested against {2} and {1}, and what they merge to against no other; then {3} against {1, 2}.
-        (&[2, 4], &[8, 6], &[6, 8], 3),
-    ];
-    for (one, other, want, tests) in cases {
-        let (found, made) = both(rt.alloc(), one, other)?;
-        assert_eq!(rt; found.as_slice(), want);
-        assert_eq!(rt; made, tests);
     }
     Ok(())
 }

@@ -7,7 +7,7 @@ use Rattle.merge_laws.specs.Resolution.{JoinLaws, MatchLaws, KeyLaws, IsResoluti
 use Rattle.merge_laws.proofs.Places.{Contains-head, AllPairs-append}
 use Rattle.merge_laws.proofs.Resolutions.{IsResolution-append, apart-from_resolution}
 use Rattle.merge_laws.proofs.Tags.{member-from_tag}
-use Rattle.swoosh_resolver.proofs.Pairing.{resolved_itself}
+use Rattle.swoosh_halves.proofs.Pairing.{resolved_itself}
 use Rattle.swoosh_halves.specs.Groups.{ShareNoKey, AreCutApart, together}
 use Rattle.swoosh_halves.proofs.Grouping.{group_from_together}
 

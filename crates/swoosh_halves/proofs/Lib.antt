@@ -1,3 +1,4 @@
 mod Linking
 mod Grouping
 mod Joining
+mod Pairing

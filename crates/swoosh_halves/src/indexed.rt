@@ -9,6 +9,7 @@
 ghost use Rattle.std.specs.Prelude.{◌≡◌, ◌<◌, ◌++◌, IfOk};
 ghost use Rattle.merge_laws.specs.Resolution.{AreApart, IsResolution};
 
+use crate::both::resolve_both;
 use key_hashing::hashing::Hashing;
 use merge_laws::laws::{resolution_goes_on, resolution_is_apart};
 use merge_laws::resolvable::Resolvable;
@@ -16,7 +17,6 @@ use merge_laws::steps::Steps;
 use merge_laws::swoosh::resolve;
 use std::marker::Brand;
 use std::sync::ledger::{Blank, Ledger};
-use swoosh_resolver::both::resolve_both;
 use union_base::memory::Memory;
 
 /// How many values are few enough to be tested against one another.

@@ -10,6 +10,7 @@
 //! never copied. The definitions are in specs/Resolution.antt of merge_laws, and in specs/Groups.antt.
 #![tactic(auto)]
 
+pub mod both;
 mod groups;
 pub mod halves;
 mod indexed;

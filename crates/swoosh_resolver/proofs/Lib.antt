@@ -13,7 +13,6 @@ mod Moving
 pub mod Places
 mod Numbering
 mod Opening
-pub mod Pairing
 mod Placing
 mod Putting
 mod Seats

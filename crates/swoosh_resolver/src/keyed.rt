@@ -73,7 +73,7 @@ impl<R: Resolvable> Model for Fresh<R> {
 /// A value, and the keys under which an index has it, each once. Where it stands on a block, the keys are those that it has beside
 /// the block's.
 #[derive(Drop)]
-pub(crate) struct Keyed<R: Resolvable> {
+pub struct Keyed<R: Resolvable> {
     pub(crate) value: R,
     pub(crate) keys: Vec<R::Key>,
     pub(crate) standing: Option<Standing<R>>,
@@ -125,7 +125,7 @@ impl<R: Resolvable> Keyed<R> {
 /// A value that looks for what it matches, and keys that it seeks. It may have a closed block in it that matches nothing of what it
 /// looks among: then the keys lead to all that it matches and this block does not.
 #[derive(Drop)]
-pub(crate) struct Seeker<R: Resolvable> {
+pub struct Seeker<R: Resolvable> {
     pub(crate) value: R,
     pub(crate) sought: Vec<R::Key>,
     pub(crate) standing: Option<Standing<R>>,
@@ -146,7 +146,7 @@ impl<R: Resolvable> Model for Seeker<R> {
 
 impl<R: Resolvable> Seeker<R> {
     /// The value with all keys that it seeks. Returns `Memory` if allocation fails.
-    pub(crate) fn of(alloc: Global, value: R) -> Result<Seeker<R>, Memory>
+    pub fn of(alloc: Global, value: R) -> Result<Seeker<R>, Memory>
         ensures value { IfOk result (λ s. s.value ≡ value) }
         ensures base { IfOk result (λ s. s.base ≡ None) }
     {
@@ -208,7 +208,7 @@ impl<R: Resolvable> Seeker<R> {
 
     /// The value with the keys under which an index has it, beside those of the block where it stands on one. Returns `Memory` if
     /// allocation fails.
-    pub(crate) fn keyed(self, alloc: Global) -> Result<Keyed<R>, Memory>
+    pub fn keyed(self, alloc: Global) -> Result<Keyed<R>, Memory>
         ensures value { IfOk result (λ k. k.value ≡ self.value) }
         ensures base { IfOk result (λ k. (k.base ≡ None) ⊎ (k.base ≡ self.base)) }
     {

@@ -5,6 +5,7 @@ ghost use Rattle.feature_index.specs.Postings.{KeepsRows, numbers_of};
 ghost use Rattle.swoosh_resolver.specs.Tables.{AreFree, AreListedAt, ArePlaced, Base, Entry, HasOwn, IsOnBase, IsPlaced, block_at};
 ghost use Rattle.swoosh_resolver.specs.Looks.{IsFound, IsLook, StandsOn};
 ghost use Rattle.swoosh_resolver.specs.Insertions.{passes, MergesMatch, TakesMatch};
+ghost use Rattle.swoosh_resolver.specs.Splits.{Opens};
 
 use crate::keyed::{Fresh, Keyed, Seeker};
 use crate::posting::{candidates, make_room_for, post, push_if, repost, unpost, with_places};
@@ -86,7 +87,7 @@ fn unlist<R: Resolvable>(postings: &mut Postings<R::Key>, values: &[Fresh<R>], p
 
 impl<R: Resolvable> Opened<R> {
     /// No values, whose index hashes keys by these numbers. Takes no memory.
-    pub(crate) fn empty(alloc: Global, hashing: Hashing) -> Opened<R>
+    pub fn empty(alloc: Global, hashing: Hashing) -> Opened<R>
         ensures { result.items ≡ [] }
     {
         Opened {
@@ -124,7 +125,7 @@ impl<R: Resolvable> Opened<R> {
     }
 
     /// The values, in their order. Takes no memory.
-    pub(crate) fn into_values(self) -> Vec<Fresh<R>>
+    pub fn into_values(self) -> Vec<Fresh<R>>
         ensures { result.items ≡ self.items }
     {
         let Opened {
@@ -146,7 +147,7 @@ impl<R: Resolvable> Opened<R> {
     }
 
     /// The values, and the given one last. Its keys are moved into the index. Returns `Memory` if allocation fails.
-    pub(crate) fn with_last(self, alloc: Global, keyed: Keyed<R>) -> Result<Opened<R>, Memory>
+    pub fn with_last(self, alloc: Global, keyed: Keyed<R>) -> Result<Opened<R>, Memory>
         ensures { IfOk result (λ o. (e : Entry R ℕ) × (o.items ≡ self.items ++ e ∷ [])
             × (e.value ≡ keyed.value) × (e.base ≡ keyed.base)) }
     {
@@ -276,7 +277,7 @@ impl<R: Resolvable> Opened<R> {
 
     /// What the value merges to with one of the values that it matches, which is then taken out. None where it matches none. Only
     /// those are tested that have a key which it seeks. Returns `Memory` if allocation fails.
-    pub(crate) fn merge_match<L: Ledger>(
+    pub fn merge_match<L: Ledger>(
         &mut self,
         alloc: Global,
         value: &Seeker<R>,
@@ -307,4 +308,19 @@ fn stands_on<R: Resolvable>(fresh: &Fresh<R>, numbers: &[u64]) -> bool
         Some(standing) => numbers.contains(&standing.number),
         None => false,
     }
+}
+
+/// The opened values, and the given ones after them, in their order. Returns `Memory` if allocation fails.
+pub fn open_values<R: Resolvable>(
+    alloc: Global,
+    opened: Opened<R>,
+    values: Vec<R>,
+) -> Result<Opened<R>, Memory>
+    ensures { IfOk result (λ new. Opens opened.items values.items new.items) }
+{
+    let mut opened = opened;
+    for value in values {
+        opened = opened.with_last(alloc, Keyed::of(alloc, value)?)?;
+    }
+    Ok(opened)
 }

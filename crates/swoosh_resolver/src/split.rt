@@ -3,30 +3,14 @@ ghost use Rattle.std.specs.Prelude.{◌≡◌, ◌∷◌, ◌++◌, IsSome, IfOk
 ghost use Rattle.std.specs.List.Sorted.{IsPermutation};
 ghost use Rattle.merge_laws.specs.Resolution.{AreApart};
 ghost use Rattle.swoosh_resolver.specs.Changes.{Fits, view_of};
-ghost use Rattle.swoosh_resolver.specs.Splits.{Splits, member_at, others_of, opened_after, closed_after, Opens};
+ghost use Rattle.swoosh_resolver.specs.Splits.{Splits, member_at, others_of, opened_after, closed_after};
 
 use crate::blocks::Blocks;
 use crate::change::{Change, Place};
-use crate::keyed::Keyed;
-use crate::opened::Opened;
+use crate::opened::open_values;
 use merge_laws::resolvable::Resolvable;
 use std::alloc::Global;
 use union_base::memory::Memory;
-
-/// The opened values, and the given ones after them, in their order. Returns `Memory` if allocation fails.
-pub(crate) fn open_values<R: Resolvable>(
-    alloc: Global,
-    opened: Opened<R>,
-    values: Vec<R>,
-) -> Result<Opened<R>, Memory>
-    ensures { IfOk result (λ new. Opens opened.items values.items new.items) }
-{
-    let mut opened = opened;
-    for value in values {
-        opened = opened.with_last(alloc, Keyed::of(alloc, value)?)?;
-    }
-    Ok(opened)
-}
 
 impl<R: Resolvable> Blocks<R> {
     /// The member of the view at the place. None exactly where none stands there. Takes no memory.

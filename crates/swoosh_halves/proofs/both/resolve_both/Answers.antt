@@ -8,8 +8,8 @@ use Rattle.merge_laws.specs.Resolution.{IsResolution}
 use Rattle.merge_laws.proofs.Places.{All-from_members, Contains-head}
 use Rattle.merge_laws.proofs.Resolutions.{IsResolution-push, apart-from_resolution}
 use Rattle.swoosh_resolver.specs.Tables.{values_of}
-use Rattle.swoosh_resolver.proofs.Pairing.{paid_near, resolved_itself, spent_more, spent_within, unmatched_before}
-use Rattle.swoosh_resolver.proofs.both.resolve_both.Goals as goal
+use Rattle.swoosh_halves.proofs.Pairing.{paid_near, resolved_itself, spent_more, spent_within, unmatched_before}
+use Rattle.swoosh_halves.proofs.both.resolve_both.Goals as goal
 
 pub loop-value-init : goal.loop-value-init
 loop-value-init g c =

@@ -11,14 +11,13 @@ ghost use Rattle.merge_laws.specs.Reach.{near};
 ghost use Rattle.swoosh_resolver.specs.Tables.{AreFree, values_of};
 ghost use Rattle.swoosh_resolver.specs.Insertions.{MergesMatch};
 
-use crate::keyed::{Fresh, Seeker};
-use crate::opened::Opened;
-use crate::split::open_values;
 use key_hashing::hashing::Hashing;
 use merge_laws::resolvable::Resolvable;
 use merge_laws::steps::Steps;
 use std::alloc::Global;
 use std::sync::ledger::Ledger;
+use swoosh_resolver::keyed::{Fresh, Seeker};
+use swoosh_resolver::opened::{Opened, open_values};
 use union_base::memory::Memory;
 
 /// The values alone, in their order. Returns `Memory` if allocation fails.

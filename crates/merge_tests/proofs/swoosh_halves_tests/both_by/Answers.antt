@@ -1,5 +1,5 @@
 -- no two values of a resolution match
-use Rattle.merge_tests.proofs.swoosh_resolver_tests.both_by.Goals as goal
+use Rattle.merge_tests.proofs.swoosh_halves_tests.both_by.Goals as goal
 
 pub resolve_both-requires-clause-one : goal.resolve_both-requires-clause-one
 resolve_both-requires-clause-one g c = c.resolution_is_apart.ensures _ c.in_ok-one.one.items c.in_ok-one.ensures.resolved

@@ -4,7 +4,7 @@ use Rattle.std.specs.Prelude.{Contains, sum_by}
 use Rattle.merge_laws.specs.Reach.{near}
 use Rattle.merge_laws.specs.Resolution.{IsResolution}
 use Rattle.swoosh_resolver.specs.Tables.{AreFree, values_of}
-use Rattle.swoosh_resolver.proofs.both.resolve_both.Given as goal
+use Rattle.swoosh_halves.proofs.both.resolve_both.Given as goal
 
 abbrev pub invariant-loop-value : goal.invariant-loop-value
 invariant-loop-value g l = record {

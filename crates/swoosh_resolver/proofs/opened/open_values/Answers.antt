@@ -2,7 +2,7 @@ use Rattle.std.proofs.Common.{◌≡◌, ◌++◌, ◌∷◌, [], append_assoc, 
 use Rattle.std.proofs.lemmas.List.{nil_from_length}
 use Rattle.swoosh_resolver.specs.Splits.{Opens}
 use Rattle.swoosh_resolver.proofs.Adding.{opens_none, opens_more}
-use Rattle.swoosh_resolver.proofs.split.open_values.Goals as goal
+use Rattle.swoosh_resolver.proofs.opened.open_values.Goals as goal
 
 pub loop-value-init : goal.loop-value-init
 loop-value-init g c = record {

@@ -3,7 +3,7 @@ use Rattle.std.proofs.Common.{◌≡◌, None, [], ◌∷◌, ◌++◌, length}
 use Rattle.std.specs.Prelude.{Contains}
 use Rattle.merge_laws.proofs.Resolving.{IsResolving}
 use Rattle.swoosh_resolver.specs.Tables.{AreFree, values_of}
-use Rattle.swoosh_resolver.proofs.both.Both.with_merge.Given as goal
+use Rattle.swoosh_halves.proofs.both.Both.with_merge.Given as goal
 
 abbrev pub invariant-loop-value : goal.invariant-loop-value
 invariant-loop-value g l = record {

@@ -5,9 +5,9 @@ use Rattle.std.proofs.lemmas.Option.{IfSome_then}
 use Rattle.std.proofs.lemmas.Result.{IfOk-weaker}
 use Rattle.swoosh_resolver.specs.Tables.{Entry}
 use Rattle.swoosh_resolver.specs.Insertions.{MergesMatch}
-use Rattle.swoosh_resolver.proofs.Pairing.{All-both, among_before, merges_first, merges_second}
+use Rattle.swoosh_halves.proofs.Pairing.{All-both, among_before, merges_first, merges_second}
 use Rattle.swoosh_resolver.proofs.Places.{IfNone_then, OnOk-from_either}
-use Rattle.swoosh_resolver.proofs.both.Both.merge_next.Goals as goal
+use Rattle.swoosh_halves.proofs.both.Both.merge_next.Goals as goal
 
 pub merge_match-requires-clause-free : goal.merge_match-requires-clause-free
 merge_match-requires-clause-free g c e there =

@@ -1,5 +1,5 @@
 use Rattle.std.proofs.Common.{append-nil}
-use Rattle.swoosh_resolver.proofs.both.Both.of.Goals as goal
+use Rattle.swoosh_halves.proofs.both.Both.of.Goals as goal
 
 pub returns-clause-met : goal.returns-clause-met
 returns-clause-met g c =

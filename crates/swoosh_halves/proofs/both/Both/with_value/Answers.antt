@@ -6,8 +6,8 @@ use Rattle.std.proofs.lemmas.Result.{IfOk-weaker}
 use Rattle.merge_laws.specs.Resolution.{IsResolution}
 use Rattle.swoosh_resolver.specs.Tables.{Entry, values_of}
 use Rattle.swoosh_resolver.specs.Insertions.{MergesMatch}
-use Rattle.swoosh_resolver.proofs.Pairing.{All-both, apart_before, base-none, free_before, free_second, last_of_second, merges_first, never_merges, resolved_kept, resolved_merged}
-use Rattle.swoosh_resolver.proofs.both.Both.with_value.Goals as goal
+use Rattle.swoosh_halves.proofs.Pairing.{All-both, apart_before, base-none, free_before, free_second, last_of_second, merges_first, never_merges, resolved_kept, resolved_merged}
+use Rattle.swoosh_halves.proofs.both.Both.with_value.Goals as goal
 
 pub with_merge-requires-clause-apart : goal.with_merge-requires-clause-apart
 with_merge-requires-clause-apart g c =

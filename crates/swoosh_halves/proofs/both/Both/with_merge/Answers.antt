@@ -3,8 +3,8 @@ use Rattle.std.proofs.lemmas.List.Sorted.{IsPermutation-map, length_permutation}
 use Rattle.merge_laws.proofs.Resolutions.{IsResolution-permutation}
 use Rattle.merge_laws.proofs.Resolving.{IsResolving, resolving_inserted, resolving_joined, resolving_kept, IsResolution-from_resolving}
 use Rattle.swoosh_resolver.specs.Tables.{Entry, values_of}
-use Rattle.swoosh_resolver.proofs.Pairing.{base-none, free_before, free_first, last_of_first}
-use Rattle.swoosh_resolver.proofs.both.Both.with_merge.Goals as goal
+use Rattle.swoosh_halves.proofs.Pairing.{base-none, free_before, free_first, last_of_first}
+use Rattle.swoosh_halves.proofs.both.Both.with_merge.Goals as goal
 
 pub loop-value-init : goal.loop-value-init
 loop-value-init g c = record {
