@@ -5,6 +5,9 @@
 //! `bench/follow.sh` runs it.
 use crate::measuring::{Measures, measured};
 use std::alloc::Global;
+use std::sync::Wait;
+use std::thread::Threads;
+use std::time::Clock;
 use std::{env, io};
 use union_base::bytes::Bytes;
 use union_base::memory::Memory;
@@ -12,18 +15,18 @@ use union_io::file_shelf::FileShelf;
 use union_words::libraries::Libraries;
 
 /// Loads the files that the words after the first name.
-pub fn measure(rt: &HostRuntime) -> io::Result<()> {
-    let alloc = rt.alloc();
-    let words = words(rt, alloc)?;
+pub fn measure<R: Threads + Wait + Sync + Clock>(rt: &R, host: &HostRuntime) -> io::Result<()> {
+    let alloc = host.alloc();
+    let words = words(host, alloc)?;
     let [first, files @ ..] = words.as_slice() else {
-        println!(rt; "usage: bench_desks follow alone|beside LIB=PATH ..")?;
+        println!(host; "usage: bench_desks follow alone|beside LIB=PATH ..")?;
         return Ok(());
     };
     let Some(libraries) = Libraries::read(files) else {
-        println!(rt; "usage: bench_desks follow alone|beside LIB=PATH ..")?;
+        println!(host; "usage: bench_desks follow alone|beside LIB=PATH ..")?;
         return Ok(());
     };
-    let mut shelf = FileShelf::new(alloc, rt.clone()?);
+    let mut shelf = FileShelf::new(alloc, host.clone()?);
     let is_beside = first.bytes() == b"beside".as_slice();
     match measured(rt, alloc, &libraries, is_beside, &mut shelf) {
         Ok(
@@ -33,15 +36,15 @@ pub fn measure(rt: &HostRuntime) -> io::Result<()> {
                 answers,
                 slowest,
             },
-        ) => println!(rt; "load {load} turns {turns} answers {answers} slowest {slowest}"),
-        Err(Memory) => println!(rt; "not loaded"),
+        ) => println!(host; "load {load} turns {turns} answers {answers} slowest {slowest}"),
+        Err(Memory) => println!(host; "not loaded"),
     }
 }
 
 /// The words after the first.
-fn words(rt: &HostRuntime, alloc: Global) -> io::Result<Vec<Bytes>> {
+fn words(host: &HostRuntime, alloc: Global) -> io::Result<Vec<Bytes>> {
     let mut words = Vec::new(alloc);
-    for word in env::args(rt)?.skip(2) {
+    for word in env::args(host)?.skip(2) {
         if let Ok(word) = Bytes::of(alloc, word.as_str().as_bytes()) {
             words.push(word)?;
         }

@@ -15,20 +15,18 @@ mod numbers;
 mod threads;
 
 fn main(rt: HostRuntime) -> io::Result<()> {
-    match env::args(&rt)?.nth(1) {
-        Some(word) => measure(&rt, word.as_str()),
-        None => {
-            desk::measure(&rt)?;
-            follow::measure(&rt)
-        }
-    }
-}
-
-/// Measures what the first word names.
-fn measure(rt: &HostRuntime, what: &str) -> io::Result<()> {
+    let word = env::args(&rt)?.nth(1);
+    let what = match &word {
+        Some(word) => word.as_str(),
+        None => "",
+    };
     match what {
-        "desk" => desk::measure(rt),
-        "follow" => follow::measure(rt),
+        "desk" => desk::measure(&rt, &rt),
+        "follow" => follow::measure(&rt, &rt),
+        "" => {
+            desk::measure(&rt, &rt)?;
+            follow::measure(&rt, &rt)
+        }
         _ => eprintln!(rt; "usage: bench_desks desk|follow [WORD..]"),
     }
 }
