@@ -18,9 +18,15 @@ use union_base::memory::Memory;
 use union_base::record_id::RecordId;
 
 /// Ids in ascending order, each with the place of its record or none.
-#[derive(Drop)]
 pub struct AscendingIds {
     entries: Vec<(RecordId, Option<Place>)>,
+}
+
+/// A drop of its own, as that of `Bytes`.
+impl Drop for AscendingIds {
+    fn drop(self) {
+        let AscendingIds { entries: _ } = self;
+    }
 }
 
 impl Model for AscendingIds {
@@ -73,8 +79,9 @@ impl AscendingIds {
     pub fn into_tree(self, alloc: Global) -> Result<BTreeMap<RecordId, Option<Place>>, Memory>
         ensures { IfOk result (λ tree. tree.entries ≡ self.entries) }
     {
+        let AscendingIds { entries } = self;
         let mut tree = BTreeMap::new(alloc);
-        for (id, place) in self.entries {
+        for (id, place) in entries {
             tree.insert(id, place)?;
         }
         Ok(tree)

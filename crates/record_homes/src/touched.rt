@@ -17,9 +17,15 @@ use union_base::memory::Memory;
 use union_base::record_id::RecordId;
 
 /// The ids that a turn touched, each with the place at which the record was loaded that is current by now, or none.
-#[derive(Drop)]
 pub struct Touched {
     held: Held,
+}
+
+/// A drop of its own, as that of `Bytes`.
+impl Drop for Touched {
+    fn drop(self) {
+        let Touched { held: _ } = self;
+    }
 }
 
 #[derive(Drop)]
@@ -100,7 +106,8 @@ impl Touched {
     pub fn into_list(self, alloc: Global) -> Result<AscendingIds, Memory>
         ensures { IfOk result (λ ids. ids.entries ≡ self.entries) }
     {
-        match self.held {
+        let Touched { held } = self;
+        match held {
             Held::List(ids) => Ok(ids),
             Held::Tree(tree) => AscendingIds::of_tree(alloc, tree),
         }
