@@ -31,14 +31,21 @@ impl Join for Features {
     }
 
     fn copied(&self, alloc: Global) -> Result<Features, Memory> {
+        let control = self.control.copied(alloc)?;
+        let types = self.types.copied(alloc)?;
+        let isbns = self.isbns.copied(alloc)?;
+        let issns = self.issns.copied(alloc)?;
+        let titles = self.titles.copied(alloc)?;
+        let dates = self.dates.copied(alloc)?;
+        let names = self.names.copied(alloc)?;
         Ok(Features {
-            control: self.control.copied(alloc)?,
-            types: self.types.copied(alloc)?,
-            isbns: self.isbns.copied(alloc)?,
-            issns: self.issns.copied(alloc)?,
-            titles: self.titles.copied(alloc)?,
-            dates: self.dates.copied(alloc)?,
-            names: self.names.copied(alloc)?,
+            control,
+            types,
+            isbns,
+            issns,
+            titles,
+            dates,
+            names,
         })
     }
 
