@@ -220,10 +220,6 @@ numbers-given {R} {K} blocks closed vacated opened numbers fits left given = rec
   ];
 }
 
--- a base's number is below those of new blocks, and is not vacated
-pub stood-below : {R K : Type 0} {match : R → R → Bool} (blocks : List (Option (Entry R K))) (closed vacated : List ℕ) (opened : List (Entry R K)) → Fits match blocks closed opened → AreVacated closed opened vacated
-    → (n : ℕ) → IsStoodOn opened n → (n < length blocks) × (Contains vacated n → ⊥)
-stood-below blocks closed vacated opened fits left n (e, b, c, is, same) = (
-  within-from_some blocks n (fits.named n (subst (Contains closed) same (fits.based e b c is).closes)),
-  λ there. left.free n there (e, b, c, is, same),
-)
+-- a base's number is below those of new blocks
+pub stood-below : {R K : Type 0} {match : R → R → Bool} (blocks : List (Option (Entry R K))) (closed : List ℕ) (opened : List (Entry R K)) → Fits match blocks closed opened → (n : ℕ) → IsStoodOn opened n → n < length blocks
+stood-below blocks closed opened fits n (e, b, c, is, same) = within-from_some blocks n (fits.named n (subst (Contains closed) same (fits.based e b c is).closes))

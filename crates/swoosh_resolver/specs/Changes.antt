@@ -1,9 +1,9 @@
 -- Changes of blocks that are planned: their view, the room that they want, and what they make of the blocks.
-use Rattle.std.specs.Prelude.{◌≡◌, ◌≢◌, ℕ, ◌+◌, ◌-◌, ◌<◌, ◌≤◌, ◌++◌, ◌⊎◌, ◌∷◌, nat_lt, if◌then◌else◌, false, Bool, List, [], Option, None, Some, IsSome, All, drop, take, length, slice_set, slice_index, slice_index_or, count_by, Contains, AllPairs}
+use Rattle.std.specs.Prelude.{◌≡◌, ◌≢◌, ℕ, ◌+◌, ◌-◌, ◌<◌, ◌≤◌, ◌++◌, ◌⊎◌, ◌∷◌, nat_lt, if◌then◌else◌, false, Bool, List, [], Option, None, Some, IsSome, All, drop, take, length, map, slice_set, slice_index, slice_index_or, count_by, Contains, AllPairs}
 use Rattle.std.specs.List.{fold, flat_map}
 use Rattle.feature_index.specs.Postings.{Posting, spare_of}
 use Rattle.merge_laws.specs.Resolution.{AreApart}
-use Rattle.swoosh_resolver.specs.Tables.{Base, Entry, Table, ArePlaced, Has, block_at, blocks_in, keys_at, places_at, value_at, values_of}
+use Rattle.swoosh_resolver.specs.Tables.{Base, Entry, Table, ArePlaced, Has, HasOwn, IsOnBase, block_at, blocks_in, keys_at, places_at, standings_of, value_at, values_of}
 
 -- the blocks but those under the numbers
 abbrev pub without : {X : Type 0} → List (Option X) → List ℕ → List (Option X)
@@ -93,6 +93,13 @@ added blocks (e ∷ es) (n ∷ ns) = drop (length (places_at blocks n)) e.keys �
 -- the keys at the places, one list of places after another
 abbrev pub keys_in : {K : Type 0} → List (K × Posting) → List (List ℕ) → List K
 keys_in postings lists = flat_map (λ places. keys_at postings places) lists
+
+-- the opened values are moved into an index: they have the places of their own keys in it, with room for a number more under each
+pub record AreMoved {R K : Type 0} (eq : K → K → Bool) (has_key : R → K → Type 0) (merge : R → R → R) (opened : List (Entry R ℕ)) (postings : List (K × Posting)) (moved : List (Entry R ℕ)) : Type 0 where
+  pub values : standings_of moved ≡ standings_of opened
+  pub placed : ArePlaced (HasOwn has_key) postings moved
+  pub based : (e : Entry R ℕ) → Contains moved e → IsOnBase has_key merge e.value e.base
+  pub spares : (k : K) → count_by (eq k) (keys_in postings (map (λ e. e.keys) moved)) ≤ spare_of eq postings k
 
 -- room for the opened values under their numbers, without taking memory: each has the places of its keys in the index, first of
 -- all those of the block that stands under its number once the vacated ones are taken out, and there is room under each other key

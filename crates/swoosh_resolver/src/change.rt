@@ -1,13 +1,31 @@
 //! Changes of blocks, on their way.
-use crate::keyed::Placed;
+ghost use Rattle.std.specs.Prelude.{IfOk};
+ghost use Rattle.swoosh_resolver.specs.Insertions.{OpensLast};
+
+use crate::keyed::{Placed, Seeker};
 use crate::opened::Opened;
 use merge_laws::resolvable::Resolvable;
+use std::alloc::Global;
+use union_base::memory::Memory;
 
 /// A change of blocks that is planned and not installed: the numbers of the blocks that it closes, and the values that it opens.
 #[derive(Drop)]
 pub struct Change<R: Resolvable> {
     pub closed: Vec<u64>,
     pub opened: Opened<R>,
+}
+
+impl<R: Resolvable> Change<R> {
+    /// The change that opens the value last. Returns `Memory` if allocation fails.
+    pub(crate) fn with_last(self, alloc: Global, value: Seeker<R>) -> Result<Change<R>, Memory>
+        ensures { IfOk result (λ new. OpensLast self.closed.items self.opened.items value.value
+            value.base new.closed.items new.opened.items) }
+    {
+        let keyed = value.keyed(alloc)?;
+        let Change { closed, opened } = self;
+        let opened = opened.with_last(alloc, keyed)?;
+        Ok(Change { closed, opened })
+    }
 }
 
 /// A change for which blocks have room: the numbers of the blocks that it closes, the values that it opens, with their places in

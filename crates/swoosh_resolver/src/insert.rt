@@ -323,9 +323,6 @@ impl<R: Resolvable> Blocks<R> {
         while let Some(merged) = self.merge_next(alloc, &mut change, &value, steps)? {
             value = merged;
         }
-        let keyed = value.keyed(alloc)?;
-        let Change { closed, opened } = change;
-        let opened = opened.with_last(alloc, keyed)?;
-        Ok(Change { closed, opened })
+        change.with_last(alloc, value)
     }
 }

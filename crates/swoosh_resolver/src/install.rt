@@ -1,18 +1,18 @@
 //! Changes take effect.
 ghost use Rattle.std.specs.Prelude.{◌≡◌, ◌≢◌, ◌+◌, ◌<◌, ◌≤◌, ◌++◌, ◌⊎◌, ℕ, Some, None, IsSome, IfOk};
-ghost use Rattle.std.specs.Prelude.{OnOk, AllPairs, Contains, drop, take, length, map, slice_index, slice_index_or, slice_set, vec_capacity};
+ghost use Rattle.std.specs.Prelude.{OnOk, List, AllPairs, Contains, drop, take, length, map, slice_index, slice_index_or, slice_set, vec_capacity};
 ghost use Rattle.std.specs.Prelude.{count_by};
 ghost use Rattle.std.specs.List.Sorted.{IsPermutation};
 ghost use Rattle.feature_index.specs.Postings.{KeepsRows, numbers_of, posting_of, spare_of};
 ghost use Rattle.swoosh_resolver.specs.Tables.{Entry, ArePlaced, ArePosted, Has, HasOwn, IsOnBase, IsPlaced, at_rows};
 ghost use Rattle.swoosh_resolver.specs.Tables.{block_at, blocks_in, keys_at, places_at, standings_of, values_of};
-ghost use Rattle.swoosh_resolver.specs.Changes.{AreNumbers, AreOpened, AreSeated, Fits, HasRoom};
+ghost use Rattle.swoosh_resolver.specs.Changes.{AreMoved, AreNumbers, AreOpened, AreSeated, Fits, HasRoom};
 ghost use Rattle.swoosh_resolver.specs.Changes.{added, base_places, keys_in, view_of, whole_at, without};
 
 use crate::blocks::Blocks;
 use crate::change::{Change, Ready};
 use crate::keyed::{Fresh, Placed, Standing};
-use crate::numbers::{numbers_for, vacated};
+use crate::numbers::seats;
 use crate::opened::Opened;
 use crate::posting::{make_room_for, post, rows_of, unpost};
 use feature_index::postings::Postings;
@@ -303,6 +303,27 @@ fn whole_all<R: Resolvable>(
     Ok(whole)
 }
 
+/// The opened values with all places of their keys: first those of the block on which a value stands, and then those of its own keys,
+/// which are moved into the postings, where room is made for one number more under each of them. The numbers stay, and each row
+/// stays at its place. Returns `Memory` if allocation fails; then some rows may have been added.
+fn placed_in<R: Resolvable>(
+    alloc: Global,
+    blocks: &[Option<Placed<R>>],
+    postings: &mut Postings<R::Key>,
+    opened: Opened<R>,
+) -> Result<Vec<Placed<R>>, Memory>
+    ensures moved { IfOk result (λ whole. (moved : List (Entry R ℕ))
+        × AreMoved R.Key.eq R.is_posted R.join opened.items postings.new moved
+        × (whole.items ≡ map (whole_at blocks.now) moved)) }
+    ensures numbers { (k : R.Key) → numbers_of R.Key.eq postings.new k
+        ≡ numbers_of R.Key.eq postings.old k }
+    ensures rows { KeepsRows postings.old postings.new }
+{
+    let fresh = moved(alloc, postings, opened)?;
+    make_room_for_all(alloc, postings, fresh.as_slice())?;
+    whole_all(alloc, blocks, fresh)
+}
+
 impl<R: Resolvable> Blocks<R> {
     /// Makes room for the change, and moves its keys into the index: of a value that stands on a block, those that the block has not.
     /// Answers what `install` takes, with the numbers that it gives to the opened values, in their order: a value that stands on a
@@ -328,11 +349,8 @@ impl<R: Resolvable> Blocks<R> {
         let Change { closed, opened } = change;
         self.blocks.reserve(opened.len())?;
         let first = self.blocks.len();
-        let vacated = vacated(alloc, closed.as_slice(), opened.as_slice())?;
-        let numbers = numbers_for(alloc, vacated.as_slice(), first, opened.as_slice())?;
-        let fresh = moved(alloc, &mut self.postings, opened)?;
-        make_room_for_all(alloc, &mut self.postings, fresh.as_slice())?;
-        let opened = whole_all(alloc, self.blocks.as_slice(), fresh)?;
+        let (numbers, vacated) = seats(alloc, closed.as_slice(), first, opened.as_slice())?;
+        let opened = placed_in(alloc, self.blocks.as_slice(), &mut self.postings, opened)?;
         Ok(Ready {
             closed,
             opened,

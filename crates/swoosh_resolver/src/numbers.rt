@@ -51,7 +51,7 @@ fn is_among(numbers: &[u64], number: u64) -> bool
 }
 
 /// The closed numbers on which no opened value stands, in their order. Returns `Memory` if allocation fails.
-pub(crate) fn vacated<R: Resolvable>(
+fn vacated<R: Resolvable>(
     alloc: Global,
     closed: &[u64],
     opened: &[Fresh<R>],
@@ -107,7 +107,7 @@ fn next_place<R: Resolvable>(fresh: &Fresh<R>, place: usize) -> usize
 
 /// The numbers of the opened values, in their order: those of the blocks on which they stand, and for the others the vacated numbers
 /// and then new ones. Returns `Memory` if allocation fails.
-pub(crate) fn numbers_for<R: Resolvable>(
+fn numbers_for<R: Resolvable>(
     alloc: Global,
     vacated: &[u64],
     first: usize,
@@ -128,4 +128,25 @@ pub(crate) fn numbers_for<R: Resolvable>(
         place = next_place(fresh, place);
     }
     Ok(numbers)
+}
+
+/// The numbers of the opened values, in their order, and the closed numbers on which none of them stands. Returns `Memory` if
+/// allocation fails.
+pub(crate) fn seats<R: Resolvable>(
+    alloc: Global,
+    closed: &[u64],
+    first: usize,
+    opened: &[Fresh<R>],
+) -> Result<(Vec<u64>, Vec<u64>), Memory>
+    requires small { first + length opened.now < 2 ^ 64 }
+    requires distinct { AllPairs (λ m n. m ≢ n) closed.now }
+    requires old { (n : ℕ) → Contains closed.now n → n < first }
+    requires stood { (n : ℕ) → IsStoodOn opened.now n → n < first }
+    requires alone { AllPairs StandApart opened.now }
+    ensures vacated { IfOk result (λ s. AreVacated closed.now opened.now s.1.items) }
+    ensures given { IfOk result (λ s. AreGiven s.1.items first opened.now s.0.items) }
+{
+    let vacated = vacated(alloc, closed, opened)?;
+    let numbers = numbers_for(alloc, vacated.as_slice(), first, opened)?;
+    Ok((numbers, vacated))
 }

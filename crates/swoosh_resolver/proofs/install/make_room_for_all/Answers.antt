@@ -1,4 +1,4 @@
-use Rattle.std.proofs.Common.{◌≡◌, ℕ, ◌+◌, ◌≤◌, ◌∷◌, ◌++◌, [], List, map, take, sym, ◌∙◌, ap, arith}
+use Rattle.std.proofs.Common.{◌≡◌, ℕ, ◌+◌, ◌≤◌, ◌∷◌, ◌++◌, [], List, map, take, refl, sym, ◌∙◌, ap, arith}
 use Rattle.std.specs.Prelude.{count_by}
 use Rattle.std.proofs.lemmas.List.{map-append, take_more, take_all}
 use Rattle.feature_index.specs.Postings.{spare_of}
@@ -43,3 +43,18 @@ returns-clause-room g c k =
     let all : take c.loop-fresh.fresh-index c.args.opened.now ≡ c.args.opened.now = take_all c.loop-fresh.fresh-index c.args.opened.now (omega arith) in
     let room = rw all at (c.loop-fresh.invariant.room k) in
     omega arith
+
+pub loop-fresh-init : goal.loop-fresh-init
+loop-fresh-init g c = record { numbers = λ k. refl; room = λ k. omega arith; rows = λ place k at. at }
+
+pub returns-in_err-make_room_for-clause-numbers : goal.returns-in_err-make_room_for-clause-numbers
+returns-in_err-make_room_for-clause-numbers g c k = c.make_room_for.ensures.numbers k ∙ c.loop-fresh.invariant.numbers k
+
+pub returns-in_err-make_room_for-clause-rows : goal.returns-in_err-make_room_for-clause-rows
+returns-in_err-make_room_for-clause-rows g c place k at = c.make_room_for.ensures.rows place k (c.loop-fresh.invariant.rows place k at)
+
+pub returns-clause-numbers : goal.returns-clause-numbers
+returns-clause-numbers g c = c.loop-fresh.invariant.numbers
+
+pub returns-clause-rows : goal.returns-clause-rows
+returns-clause-rows g c = c.loop-fresh.invariant.rows

@@ -1,9 +1,9 @@
-use Rattle.std.proofs.Common.{◌≡◌, ◌≢◌, ℕ, ◌+◌, ◌<◌, ◌≤◌, ◌++◌, ◌∷◌, [], Option, Some, drop, get_or, length, length-append, refl, append_assoc, sym, take, ◌∙◌, ap, subst, arith}
+use Rattle.std.proofs.Common.{◌≡◌, ◌≢◌, ℕ, ◌+◌, ◌<◌, ◌≤◌, ◌++◌, ◌∷◌, [], Option, Some, drop, get_or, length, length-append, refl, append_assoc, append-nil, sym, take, ◌∙◌, ap, subst, arith}
 use Rattle.std.specs.Prelude.{Contains, IsSome, count_by, option_map, unwrap_or, vec_capacity}
-use Rattle.std.proofs.lemmas.List.{get_or_at, get_or_default, take_more}
+use Rattle.std.proofs.lemmas.List.{get_or_at, get_or_default, nil_from_length, take_all, take_more}
 use Rattle.feature_index.specs.Postings.{key_at, spare_of}
 use Rattle.swoosh_resolver.specs.Tables.{Entry, block_at, keys_at, places_at}
-use Rattle.swoosh_resolver.specs.Changes.{added}
+use Rattle.swoosh_resolver.specs.Changes.{AreOpened, added}
 use Rattle.swoosh_resolver.proofs.Installing.{added-at, block-among, drop-among, length-added, next-stands, opened_more, opened_none}
 use Rattle.swoosh_resolver.proofs.Opening.{count-keys, count-split}
 use Rattle.swoosh_resolver.proofs.Placing.{keys_at-stay, placed-stays}
@@ -192,3 +192,21 @@ loop-placed-preserved g c =
       rows = λ place k at'. c.put.ensures.rows place k (c.loop-placed.invariant.rows place k at');
       capacity = let before = c.loop-placed.invariant.capacity in let more = c.put.ensures.capacity in omega arith;
     }
+
+pub put-requires-clause-posted : goal.put-requires-clause-posted
+put-requires-clause-posted g c = c.loop-placed.invariant.posted
+
+pub returns-clause-opened : goal.returns-clause-opened
+returns-clause-opened g c =
+    let done = c.loop-placed.yielded in
+    let numbers = c.args.numbers.now in
+    let nothing : c.loop-placed.placed-iterator.rest.items ≡ [] = nil_from_length _ (sym c.loop-placed.placed-iterator.rest.ok.0 ∙ c.in-None.ensures.steps.0) in
+    let all : done ≡ c.args.opened.items = sym (append-nil done) ∙ ap (λ xs. done ++ xs) (sym nothing) ∙ c.loop-placed.invariant.rest in
+    let whole : take (length done) numbers ≡ numbers = (let len = ap length all in let each = c.requires.each in take_all (length done) numbers (omega arith)) in
+    subst (λ es. AreOpened c.args.blocks.now.items numbers es c.loop-placed.blocks.items) all (rw whole at c.loop-placed.invariant.opened)
+
+pub returns-clause-posted : goal.returns-clause-posted
+returns-clause-posted g c = c.loop-placed.invariant.posted
+
+pub returns-clause-rows : goal.returns-clause-rows
+returns-clause-rows g c = c.loop-placed.invariant.rows

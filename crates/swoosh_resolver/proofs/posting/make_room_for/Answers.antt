@@ -43,3 +43,15 @@ pub returns-clause-room : goal.returns-clause-room
 returns-clause-room g c k =
     let all : take c.loop-place.place-index c.args.places.now ≡ c.args.places.now = take_all c.loop-place.place-index c.args.places.now (omega arith) in
     rw all at (c.loop-place.invariant.room k)
+
+pub returns-in_err-make_room_at-clause-numbers : goal.returns-in_err-make_room_at-clause-numbers
+returns-in_err-make_room_at-clause-numbers g c k = c.make_room_at.ensures.numbers k ∙ c.loop-place.invariant.numbers k
+
+pub returns-in_err-make_room_at-clause-rows : goal.returns-in_err-make_room_at-clause-rows
+returns-in_err-make_room_at-clause-rows g c place k at = c.make_room_at.ensures.rows place k (c.loop-place.invariant.rows place k at)
+
+pub returns-clause-numbers : goal.returns-clause-numbers
+returns-clause-numbers g c = c.loop-place.invariant.numbers
+
+pub returns-clause-rows : goal.returns-clause-rows
+returns-clause-rows g c = c.loop-place.invariant.rows

@@ -1,4 +1,4 @@
-use Rattle.std.proofs.Common.{◌≡◌, ◌∷◌, ◌++◌, [], Some, map, sym, ◌∙◌, ap}
+use Rattle.std.proofs.Common.{◌≡◌, ◌∷◌, ◌++◌, [], Some, map, refl, sym, ◌∙◌, ap}
 use Rattle.std.proofs.lemmas.List.{map-append}
 use Rattle.feature_index.specs.Postings.{key_at}
 use Rattle.swoosh_resolver.proofs.Placing.{keys-stay}
@@ -20,3 +20,24 @@ loop-key-preserved g c =
       postings = λ j. c.row_of.ensures.postings j ∙ c.loop-key.invariant.postings j;
       rows = λ p j at'. c.row_of.ensures.rows p j (c.loop-key.invariant.rows p j at');
     }
+
+pub loop-key-init : goal.loop-key-init
+loop-key-init g c = record { places = rw c.in_ok-places.ensures.items refl; postings = λ k. refl; rows = λ place k at. at }
+
+pub returns-in_err-row_of-clause-postings : goal.returns-in_err-row_of-clause-postings
+returns-in_err-row_of-clause-postings g c k = c.row_of.ensures.postings k ∙ c.loop-key.invariant.postings k
+
+pub returns-in_err-row_of-clause-rows : goal.returns-in_err-row_of-clause-rows
+returns-in_err-row_of-clause-rows g c place k at = c.row_of.ensures.rows place k (c.loop-key.invariant.rows place k at)
+
+pub returns-in_err-push-clause-postings : goal.returns-in_err-push-clause-postings
+returns-in_err-push-clause-postings g c k = c.row_of.ensures.postings k ∙ c.loop-key.invariant.postings k
+
+pub returns-in_err-push-clause-rows : goal.returns-in_err-push-clause-rows
+returns-in_err-push-clause-rows g c place k at = c.row_of.ensures.rows place k (c.loop-key.invariant.rows place k at)
+
+pub returns-clause-postings : goal.returns-clause-postings
+returns-clause-postings g c = c.loop-key.invariant.postings
+
+pub returns-clause-rows : goal.returns-clause-rows
+returns-clause-rows g c = c.loop-key.invariant.rows

@@ -1,10 +1,11 @@
-use Rattle.std.proofs.Common.{[], ◌∷◌, ◌++◌, refl, sym, ◌∙◌, subst, arith}
+use Rattle.std.proofs.Common.{[], ◌∷◌, ◌++◌, sym, ◌∙◌, ap, subst, arith}
+use Rattle.std.proofs.lemmas.Result.{IfOk-weaker}
 use Rattle.std.proofs.lemmas.List.Sorted.{length_permutation}
 use Rattle.merge_laws.specs.Resolution.{IsDominated}
 use Rattle.merge_laws.proofs.Resolutions.{IsDominated-right}
 use Rattle.merge_laws.proofs.Inserting.{inserting_none, inserting_joined, inserting_bound}
 use Rattle.merge_laws.proofs.Resolving.{IsResolving, resolving_kept, IsResolution-from_resolving}
-use Rattle.swoosh_resolver.specs.Changes.{CanStand, view_of}
+use Rattle.swoosh_resolver.specs.Changes.{view_of}
 use Rattle.swoosh_resolver.proofs.Standing.{can-either, can-none}
 use Rattle.swoosh_resolver.proofs.Unmerged.{unmerged_none, unmerged-then}
 use Rattle.swoosh_resolver.proofs.Views.{view-push, fits-push}
@@ -45,16 +46,15 @@ loop-value-preserved g c =
 pub returns-clause-inserts : goal.returns-clause-inserts
 returns-clause-inserts g c =
     let none = rw c.in_default.is at c.in_ok-merged.ensures.none in
-    let (last, items, value, base) = c.in_ok-opened.ensures in
-    let is = value ∙ c.in_ok-keyed.ensures.value in
-    rw (items, none.0, none.1)
-    (record {
-      by = last;
+    IfOk-weaker c.with_last.result _ _
+    (λ new o. rw (o.stays, none.0) (record {
+      by = o.by;
       before = c.loop-value.change.opened.items;
-      last = refl;
-      dominates = rw is c.loop-value.invariant.inserting.above;
-      others = rw is c.loop-value.invariant.others;
-    })
+      last = o.last ∙ ap (λ es. es ++ o.by ∷ []) none.1;
+      dominates = rw o.is c.loop-value.invariant.inserting.above;
+      others = rw o.is c.loop-value.invariant.others;
+    }))
+    c.with_last.ensures
 
 pub returns-clause-fits : goal.returns-clause-fits
 returns-clause-fits g c =
@@ -62,14 +62,15 @@ returns-clause-fits g c =
     let change = c.loop-value.change in
     let list = view_of blocks c.args.change.closed.items c.args.change.opened.items ++ c.args.value ∷ [] in
     let view = view_of blocks change.closed.items change.opened.items in
-    let (last, items, value, base) = c.in_ok-opened.ensures in
-    let is = value ∙ c.in_ok-keyed.ensures.value in
     let none = rw c.in_default.is at c.in_ok-merged.ensures.none in
-    let kept : IsResolving g.R.Resolvable.meets g.R.Join.join list [] (view ++ last.value ∷ []) =
-    rw is (resolving_kept g.met.R.Join.join_laws g.met.R.Resolvable.match_laws list [] view c.loop-value.value.value c.loop-value.invariant.inserting.resolving none.2) in
-    rw (items, none.0, none.1) (fits-push blocks change.closed.items change.opened.items c.loop-value.invariant.fits last
-    (subst (CanStand g.R.Resolvable.meets blocks change.closed.items change.opened.items) (sym base)
-    (can-either g.R.Resolvable.meets blocks change.closed.items change.opened.items c.in_ok-keyed.ensures.base c.loop-value.invariant.stands)) kept.apart)
+    let kept : IsResolving g.R.Resolvable.meets g.R.Join.join list [] (view ++ c.loop-value.value.value ∷ []) =
+    resolving_kept g.met.R.Join.join_laws g.met.R.Resolvable.match_laws list [] view c.loop-value.value.value c.loop-value.invariant.inserting.resolving none.2 in
+    IfOk-weaker c.with_last.result _ _
+    (λ new o. rw (o.last, o.stays, none.0, none.1)
+    (fits-push blocks change.closed.items change.opened.items c.loop-value.invariant.fits o.by
+    (can-either g.R.Resolvable.meets blocks change.closed.items change.opened.items o.stands c.loop-value.invariant.stands)
+    (rw o.is kept.apart)))
+    c.with_last.ensures
 
 pub returns-clause-resolved : goal.returns-clause-resolved
 returns-clause-resolved g c =
@@ -77,28 +78,16 @@ returns-clause-resolved g c =
     let change = c.loop-value.change in
     let list = view_of blocks c.args.change.closed.items c.args.change.opened.items ++ c.args.value ∷ [] in
     let view = view_of blocks change.closed.items change.opened.items in
-    let (last, items, value, base) = c.in_ok-opened.ensures in
-    let is = value ∙ c.in_ok-keyed.ensures.value in
     let none = rw c.in_default.is at c.in_ok-merged.ensures.none in
-    let kept : IsResolving g.R.Resolvable.meets g.R.Join.join list [] (view ++ last.value ∷ []) =
-    rw is (resolving_kept g.met.R.Join.join_laws g.met.R.Resolvable.match_laws list [] view c.loop-value.value.value c.loop-value.invariant.inserting.resolving none.2) in
-    rw (items, none.0, none.1, view-push blocks change.closed.items change.opened.items last)
-    (IsResolution-from_resolving g.met.R.Join.join_laws g.met.R.Resolvable.match_laws list (view ++ last.value ∷ []) kept)
+    let kept : IsResolving g.R.Resolvable.meets g.R.Join.join list [] (view ++ c.loop-value.value.value ∷ []) =
+    resolving_kept g.met.R.Join.join_laws g.met.R.Resolvable.match_laws list [] view c.loop-value.value.value c.loop-value.invariant.inserting.resolving none.2 in
+    IfOk-weaker c.with_last.result _ _
+    (λ new o. rw (o.last, o.stays, none.0, none.1, view-push blocks change.closed.items change.opened.items o.by, o.is)
+    (IsResolution-from_resolving g.met.R.Join.join_laws g.met.R.Resolvable.match_laws list (view ++ c.loop-value.value.value ∷ []) kept))
+    c.with_last.ensures
 
 pub returns-in_err-merged-clause-cost : goal.returns-in_err-merged-clause-cost
 returns-in_err-merged-clause-cost g c all x r cx d =
-    let view = view_of c.args.self.now.blocks c.loop-value.change.closed.items c.loop-value.change.opened.items in
-    inserting_bound g.met.R.Join.join_laws g.met.R.Resolvable.match_laws g.met.R.Resolvable.key_laws (view_of c.args.self.now.blocks c.args.change.closed.items c.args.change.opened.items) c.args.value
-    c.args.steps.now c.loop-value.steps c.loop-value.value.value view c.merge_next.new.steps c.loop-value.invariant.inserting c.merge_next.ensures.cost all x r cx d
-
-pub returns-in_err-keyed-clause-cost : goal.returns-in_err-keyed-clause-cost
-returns-in_err-keyed-clause-cost g c all x r cx d =
-    let view = view_of c.args.self.now.blocks c.loop-value.change.closed.items c.loop-value.change.opened.items in
-    inserting_bound g.met.R.Join.join_laws g.met.R.Resolvable.match_laws g.met.R.Resolvable.key_laws (view_of c.args.self.now.blocks c.args.change.closed.items c.args.change.opened.items) c.args.value
-    c.args.steps.now c.loop-value.steps c.loop-value.value.value view c.merge_next.new.steps c.loop-value.invariant.inserting c.merge_next.ensures.cost all x r cx d
-
-pub returns-in_err-opened-clause-cost : goal.returns-in_err-opened-clause-cost
-returns-in_err-opened-clause-cost g c all x r cx d =
     let view = view_of c.args.self.now.blocks c.loop-value.change.closed.items c.loop-value.change.opened.items in
     inserting_bound g.met.R.Join.join_laws g.met.R.Resolvable.match_laws g.met.R.Resolvable.key_laws (view_of c.args.self.now.blocks c.args.change.closed.items c.args.change.opened.items) c.args.value
     c.args.steps.now c.loop-value.steps c.loop-value.value.value view c.merge_next.new.steps c.loop-value.invariant.inserting c.merge_next.ensures.cost all x r cx d

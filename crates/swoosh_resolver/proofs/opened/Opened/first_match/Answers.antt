@@ -3,7 +3,7 @@ use Rattle.std.specs.Prelude.{Contains, map}
 use Rattle.swoosh_resolver.specs.Tables.{AreSought, Entry, block_at}
 use Rattle.swoosh_resolver.specs.Looks.{IsFound, IsLook}
 use Rattle.swoosh_resolver.proofs.Looking.{paid-next, paid-all, none-next, none-matches}
-use Rattle.swoosh_resolver.proofs.Listing.{blocks-listed, there-from_listed}
+use Rattle.swoosh_resolver.proofs.Listing.{blocks-listed, passing-listed, there-from_listed}
 use Rattle.swoosh_resolver.proofs.opened.Opened.first_match.Goals as goal
 
 pub returns-then-matches_at-clause-cost : goal.returns-then-matches_at-clause-cost
@@ -113,3 +113,11 @@ returns-clause-cost g c =
     let near = λ (e : Entry g.row.R.Denot ℕ). g.R.Resolvable.shares e.value value in
     let i = c.loop-place.place-index in
     rw blocks-listed at (paid-all (map Some items) [] places look near shares c.args.steps.now c.loop-place.steps i c.loop-place.invariant.cost)
+
+pub returns-then-matches_at-clause-within : goal.returns-then-matches_at-clause-within
+returns-then-matches_at-clause-within g c =
+    (passing-listed (λ (e : Entry g.row.R.Denot ℕ). g.R.Resolvable.meets c.args.value.now.value e.value) c.args.self.now.items _ (sym c.matches_at.ensures.answer ∙ c.if-matches_at.true)).0
+
+pub returns-then-matches_at-clause-found : goal.returns-then-matches_at-clause-found
+returns-then-matches_at-clause-found g c d =
+    (passing-listed (λ (e : Entry g.row.R.Denot ℕ). g.R.Resolvable.meets c.args.value.now.value e.value) c.args.self.now.items _ (sym c.matches_at.ensures.answer ∙ c.if-matches_at.true)).1 d
