@@ -19,7 +19,7 @@ import dask.dataframe as dd
 import pandas as pd
 from distributed import wait
 
-from union_ends import Delivery, Ended, advice, changed, run_program, stamps_of
+from union_ends import FAULT, Delivery, Ended, advice, changed, run_program, stamps_of
 
 TERMINATOR = b"\x1d"
 BREAKS = b"\r\n"
@@ -138,6 +138,8 @@ def read_block(plan, library, number, start, end):
         with lines:
             rows = rows_of(lines, dict(places))
         refused = re.findall(rb"^\S+ refused (\d+) (\S+) (\d+)$", told, re.M)
+        if len(rows) + len(refused) != len(places):
+            raise Ended(FAULT, f"union-keys told of {len(rows) + len(refused)} of {len(places)} records; {advice(FAULT)}")
         kept = f"{plan['scratch']}/refused/{library}-{number:08}"
         with open(f"{kept}.{os.getpid()}", "wb") as file:
             file.write(f"{len(places)} {len(refused)}\n".encode())

@@ -173,8 +173,8 @@ def readable(library, path, scratch):
     return copy
 
 
-def refuse_missing_programs(words):
-    for path in (words.union, words.keys):
+def refuse_missing(*programs):
+    for path in programs:
         if not os.access(path, os.X_OK) or os.path.isdir(path):
             raise Ended(FAULT, f"there is no program {path}; {build_it(path)}")
 
@@ -226,7 +226,7 @@ def plan_of(words, scratch):
     size = sum(size for size, _ in stamps.values())
     parts = words.parts or max(words.workers, size >> 28)
     allow_open_files(parts)
-    refuse_missing_programs(words)
+    refuse_missing(words.union, words.keys)
     names_notes, names_refused = rehearse(words, options, paths, scratch)
     return {
         "paths": paths,
@@ -338,7 +338,7 @@ def take_outputs(is_progress):
 
 
 def version_of(words):
-    refuse_missing_programs(words)
+    refuse_missing(words.union)
     return "union-cluster" + subprocess.run([words.union, "--version"], capture_output=True, text=True, check=False).stdout.removeprefix("union")
 
 
