@@ -28,8 +28,8 @@ PIECE = 1 << 20
 MOST_LIBRARIES = 64
 LONGEST_FILE = 1 << 40
 SIGNALS = (signal.SIGINT, signal.SIGTERM, signal.SIGHUP)
-# How many seconds a cluster has until a first worker joins, and the engine to end.
-JOIN, CLOSE = 60, 10
+# How many seconds the engine has to end.
+CLOSE = 10
 
 
 class Interrupted(BaseException):
@@ -87,6 +87,7 @@ def words_of(arguments):
     parser.add_argument("--block-bytes", type=int, default=0, help=argparse.SUPPRESS)
     parser.add_argument("--part-memory", type=int, default=0, help=argparse.SUPPRESS)
     parser.add_argument("--victim", default="", help=argparse.SUPPRESS)
+    parser.add_argument("--join", type=int, default=60, help=argparse.SUPPRESS)
     parser.add_argument("--scratch", metavar="FOLDER", help="a folder that all workers see, for files that are gone at the end")
     parser.add_argument("--prefer", metavar="LIB,..", help="as of union export")
     parser.add_argument("--names", metavar="PATH", help="as of union export")
@@ -260,9 +261,9 @@ class Engine:
         if words.scheduler:
             try:
                 self.client = Client(words.scheduler)
-                self.client.wait_for_workers(1, timeout=JOIN)
+                self.client.wait_for_workers(1, timeout=words.join)
             except Exception as error:
-                missing = f"no worker has joined within {JOIN} s" if self.client else "no scheduler answers"
+                missing = f"no worker has joined within {words.join} s" if self.client else "no scheduler answers"
                 raise Ended(FAULT, f"{missing} at {words.scheduler} ({error}); start it, or name another by --scheduler") from None
             here = os.path.dirname(os.path.realpath(__file__))
             for name in ("union_ends.py", "union_cluster.py"):
