@@ -1,18 +1,15 @@
 """The union catalogue of deliveries that no one machine holds, by Dask's distributed scheduler.
 
 The way of the data, the law that makes it right and what it needs stand in docs/CLUSTER.md. Each worker runs the two programs
-`union-keys` and `union`; the engine shuffles, restarts and keeps the load. All of `run` is in the order of the page.
+`union-keys` and `union`; the engine shuffles, restarts and keeps the load. All of `run` is in the order of the page. The words are read,
+and the engine is started, by union_driver.py.
 """
 
-import argparse
 import hashlib
 import heapq
-import logging
+import json
 import os
 import re
-import resource
-import shutil
-import subprocess
 import sys
 import tempfile
 import time
@@ -20,12 +17,13 @@ import time
 import dask
 import dask.dataframe as dd
 import pandas as pd
-from distributed import Client, LocalCluster, wait
+from distributed import wait
+
+from union_ends import FAULT, Delivery, Ended, advice, changed, run_program, stamps_of
 
 TERMINATOR = b"\x1d"
 BREAKS = b"\r\n"
 PIECE = 1 << 16
-MOST_LIBRARIES = 64
 REPORT = ("added", "replaced", "removed", "absent")
 
 # A row of the table: one accepted record, that is one load or one withdrawal. `keys` has the keys of the group, on one row of it.
@@ -50,15 +48,6 @@ ENDS = pd.DataFrame(
         "why": pd.Series([], dtype="object"),
     }
 )
-
-
-class Ended(Exception):
-    """The run ends with this status, and a line that says why."""
-
-    def __init__(self, status, line):
-        super().__init__(line)
-        self.status = status
-        self.line = line
 
 
 # ---- a delivery in blocks
@@ -106,19 +95,13 @@ def piece_in(file):
 def run_keys(plan, words, scratch):
     """What union-keys writes on both outputs. It takes what memory a worker has."""
     with open(f"{scratch}/lines", "wb") as out, open(f"{scratch}/notes", "wb") as notes:
-        ended = subprocess.run([plan["keys"], *words], stdout=out, stderr=notes, preexec_fn=within(plan["memory"]), check=False)
+        status = run_program([plan["keys"], *words], out, notes, plan["memory"])
     with open(f"{scratch}/notes", "rb") as notes:
         told = notes.read()
-    if ended.returncode not in (0, 1):
-        raise Ended(ended.returncode if ended.returncode > 0 else 7, f"union-keys ended with {ended.returncode}: {told[-300:].decode(errors='replace')}")
+    if status not in (0, 1):
+        says = told.decode(errors="replace").strip().rpartition("\n")[2]
+        raise Ended(status, f"union-keys ended with {status} on a worker ({says or 'it said nothing'}); {advice(status)}")
     return open(f"{scratch}/lines", "rb"), told
-
-
-def within(memory):
-    """Lets a program have so many bytes of addresses."""
-    if not memory:
-        return None
-    return lambda: resource.setrlimit(resource.RLIMIT_AS, (memory, memory))
 
 
 def read_line(line):
@@ -145,7 +128,7 @@ def read_block(plan, library, number, start, end):
     with tempfile.TemporaryDirectory(dir=plan["scratch"]) as scratch:
         places = []
         block = f"{scratch}/block"
-        with open(plan["paths"][library], "rb") as file, open(block, "wb") as copy:
+        with Delivery(library, plan["paths"][library]) as file, open(block, "wb") as copy:
             to = 0
             for at, frame in frames_from(file, start, end):
                 copy.write(frame)
@@ -155,6 +138,8 @@ def read_block(plan, library, number, start, end):
         with lines:
             rows = rows_of(lines, dict(places))
         refused = re.findall(rb"^\S+ refused (\d+) (\S+) (\d+)$", told, re.M)
+        if len(rows) + len(refused) != len(places):
+            raise Ended(FAULT, f"union-keys told of {len(rows) + len(refused)} of {len(places)} records; {advice(FAULT)}")
         kept = f"{plan['scratch']}/refused/{library}-{number:08}"
         with open(f"{kept}.{os.getpid()}", "wb") as file:
             file.write(f"{len(places)} {len(refused)}\n".encode())
@@ -279,10 +264,9 @@ def write_files(plan, rows, scratch):
     place = rows["id"].str.split(".", n=1).str[0]
     for library, path in plan["paths"].items():
         mine = rows[place == library].sort_values("at")
-        with open(f"{scratch}/{library}.mrc", "wb") as copy, open(path, "rb") as file:
+        with open(f"{scratch}/{library}.mrc", "wb") as copy, Delivery(library, path) as file:
             for at, size in zip(mine["at"], mine["size"]):
-                file.seek(at)
-                copy.write(file.read(size))
+                copy.write(file.read_all(at, size))
         words.append(f"{library}={scratch}/{library}.mrc")
     return words
 
@@ -302,32 +286,50 @@ def export_parts(plan, rows):
     for part, mine in rows.groupby("part", sort=True):
         with tempfile.TemporaryDirectory(dir=plan["scratch"]) as scratch:
             words = write_files(plan, mine, scratch)
-            command = [plan["union"], "export", *plan["options"], *words]
             with open(f"{scratch}/out", "wb") as out, open(f"{scratch}/notes", "wb") as notes:
-                ended = subprocess.run(command, stdout=out, stderr=notes, preexec_fn=within(plan["part_memory"]), check=False)
+                status = run_program([plan["union"], "export", *plan["options"], *words], out, notes, plan["part_memory"])
             why = ""
-            if ended.returncode in (0, 1):
+            if status in (0, 1):
+                refuse_none(f"{scratch}/notes")
                 for name in ("out", "notes"):
                     os.replace(f"{scratch}/{name}", f"{plan['scratch']}/parts/{part:08}.{name}")
             else:
                 sizes = mine.groupby("group")["size"].sum()
                 why = f"part {part}: {len(mine)} records, {mine['size'].sum()} bytes; the largest group, of {sizes.idxmax()}, has {sizes.max()} bytes"
-            ends.append((part, ended.returncode if ended.returncode >= 0 else 7, mine["size"].sum(), why))
+            ends.append((part, status, mine["size"].sum(), why))
     return pd.DataFrame(ends, columns=list(ENDS.columns)).astype(ENDS.dtypes.to_dict())
 
 
-def exported(path):
+def refuse_none(path):
+    """All records of a part were accepted when their delivery was read first: if one is refused now, the file is another one."""
+    with open(path, "rb") as file:
+        for words in map(bytes.split, file):
+            if words[1:2] == [b"refused"] and words[0] != b"names":
+                raise changed(words[0].decode())
+
+
+def exported(path, is_json):
     """The records of an export, each with its id."""
     with open(path, "rb") as file:
-        while True:
-            head = file.read(24)
-            if not head:
-                return
-            frame = head + file.read(int(head[:5]) - 24)
-            base = int(frame[12:17])
-            entry = next(frame[i : i + 12] for i in range(24, base - 1, 12) if frame[i : i + 3] == b"001")
-            start = base + int(entry[7:12])
-            yield order_of(frame[start : start + int(entry[3:7]) - 1]), frame
+        yield from lines_of(file) if is_json else frames_of(file)
+
+
+def frames_of(file):
+    while True:
+        head = file.read(24)
+        if not head:
+            return
+        frame = head + file.read(int(head[:5]) - 24)
+        base = int(frame[12:17])
+        entry = next(frame[i : i + 12] for i in range(24, base - 1, 12) if frame[i : i + 3] == b"001")
+        start = base + int(entry[7:12])
+        yield order_of(frame[start : start + int(entry[3:7]) - 1]), frame
+
+
+def lines_of(file):
+    for line in file:
+        name = next(field["001"] for field in json.loads(line)["fields"] if "001" in field)
+        yield order_of(name.encode()), line
 
 
 def order_of(name):
@@ -371,7 +373,7 @@ def tables(plan, progress):
     """The rows of all deliveries, each in a group that shares no key with another group."""
     blocks = []
     for library, path in plan["paths"].items():
-        size = os.path.getsize(path)
+        size = plan["stamps"][library][0]
         for number, start in enumerate(range(0, max(size, 1), plan["block"])):
             blocks.append(dask.delayed(read_block, pure=False)(plan, library, number, start, min(start + plan["block"], size)))
     rows = dd.from_delayed(blocks, meta=TABLE, verify_meta=False)
@@ -400,12 +402,14 @@ def tables(plan, progress):
 def write_merged(plan, parts, out):
     """The exports of the parts, merged by id: one record of each is in memory."""
     paths = [f"{plan['scratch']}/parts/{part:08}.out" for part in parts]
-    for _, frame in heapq.merge(*(exported(path) for path in paths), key=lambda pair: pair[0]):
+    for _, frame in heapq.merge(*(exported(path, plan["json"]) for path in paths), key=lambda pair: pair[0]):
         out.write(frame)
 
 
 def write_notes(plan, parts, notes):
-    """The reports added up, and the lines on what was left out, merged by id. Answers whether a record was refused."""
+    """What was told of names, the reports added up, and the lines on what was left out, merged by id. Answers whether a record was
+    refused."""
+    notes.write(plan["names_notes"])
     counts = {library: dict.fromkeys(REPORT, 0) for library in plan["paths"]}
     left = []
     for part in parts:
@@ -417,7 +421,7 @@ def write_notes(plan, parts, notes):
                     for name in REPORT:
                         counts[words[0].decode()][name] += int(words[words.index(name.encode()) + 1])
         left.append(left_lines(path))
-    some = False
+    some = plan["names_refused"]
     for library in plan["paths"]:
         frames, refused = write_refused(plan, library, notes)
         some = some or refused > 0
@@ -460,103 +464,17 @@ def run(plan, out, notes, progress=False):
     rows = rows.shuffle("part", npartitions=parts)
     ends = rows.map_partitions(lambda r, p=plan: export_parts(p, r), meta=ENDS).compute()
     told(progress, f"exported {len(ends)} parts, the greatest of {ends['bytes'].max()} bytes")
-    failed = ends[~ends["status"].isin([0, 1])].sort_values("part")
+    failed = ends[~ends["status"].isin([0, 1])].sort_values("bytes", ascending=False)
     if len(failed):
-        raise Ended(int(failed["status"].max()), "\n".join(f"union-cluster: {why}: union export ended with {status}" for status, why in zip(failed["status"], failed["why"])))
+        status = int(failed["status"].iloc[0])
+        more = f"; {len(failed) - 1} more parts failed" if len(failed) > 1 else ""
+        raise Ended(status, f"{failed['why'].iloc[0]}: union export ended with {status}{more}; {advice(status)}")
+    for library, stamp in stamps_of(plan["paths"]).items():
+        if stamp != plan["stamps"][library]:
+            raise changed(library)
     done = sorted(ends["part"])
     write_merged(plan, done, out)
-    out.flush()
+    out.close()
     some = write_notes(plan, done, notes)
-    notes.flush()
+    notes.close()
     return 1 if some else 0
-
-
-def program(name, crate):
-    """The program's path: beside this file, where a package has put both, or else where the repository builds it."""
-    here = os.path.dirname(os.path.realpath(__file__))
-    beside = os.path.join(here, name)
-    return beside if os.path.exists(beside) else f"{here}/../crates/{crate}/out/{crate}"
-
-
-def words_of(arguments):
-    parser = argparse.ArgumentParser(prog="union-cluster", description="union export on a cluster of workers: see docs/CLUSTER.md")
-    parser.add_argument("--scheduler", help="the address of a Dask scheduler; without it, workers are started on this machine")
-    parser.add_argument("--workers", type=int, default=os.cpu_count(), help="how many workers are started on this machine")
-    parser.add_argument("--memory", type=int, default=0, help="how many megabytes a program of a worker may have")
-    parser.add_argument("--parts", type=int, default=0, help="in how many parts the catalogue is made")
-    parser.add_argument("--block", type=int, default=16, help="how many megabytes of a delivery are read at once")
-    parser.add_argument("--block-bytes", type=int, default=0, help=argparse.SUPPRESS)
-    parser.add_argument("--part-memory", type=int, default=0, help=argparse.SUPPRESS)
-    parser.add_argument("--victim", default="", help=argparse.SUPPRESS)
-    parser.add_argument("--scratch", help="a folder that all workers see, for files that are gone at the end")
-    parser.add_argument("--prefer", help="as of union export")
-    parser.add_argument("--union", default=program("union", "union_main"), help="the program union")
-    parser.add_argument("--keys", default=program("union-keys", "union_keys_main"), help="the program union-keys")
-    parser.add_argument("--progress", action="store_true", help="tell the progress on standard error")
-    parser.add_argument("libraries", nargs="+", metavar="LIB=PATH")
-    return parser.parse_args(arguments)
-
-
-def plan_of(words, scratch):
-    """What the workers are told. A share of the rows is of some 64 MB of deliveries, and a part of some 256 MB, of which union takes
-    five to six times as much memory."""
-    paths = {}
-    for word in words.libraries:
-        library, equals, path = word.partition("=")
-        if not re.fullmatch("[A-Z0-9]{1,16}", library) or not path or library in paths:
-            raise Ended(2, "union: bad command line")
-        paths[library] = os.path.abspath(path)
-    if len(paths) > MOST_LIBRARIES:
-        raise Ended(2, "union: bad command line")
-    for library, path in paths.items():
-        try:
-            open(path, "rb").close()
-        except OSError:
-            raise Ended(3, f"union: cannot open {library}") from None
-    size = sum(os.path.getsize(path) for path in paths.values())
-    return {
-        "paths": paths,
-        "scratch": scratch,
-        "union": os.path.abspath(words.union),
-        "keys": os.path.abspath(words.keys),
-        "options": [f"--prefer={words.prefer}"] if words.prefer else [],
-        "memory": words.memory << 20,
-        "part_memory": (words.part_memory or words.memory) << 20,
-        "victim": words.victim,
-        "block": words.block_bytes or words.block << 20,
-        "shards": max(words.workers, size >> 26),
-        "parts": words.parts or max(words.workers, size >> 28),
-    }
-
-
-def main(arguments):
-    words = words_of(arguments)
-    scratch = tempfile.mkdtemp(prefix="union-cluster-", dir=words.scratch)
-    cluster = client = None
-    try:
-        plan = plan_of(words, scratch)
-        if words.scheduler:
-            client = Client(words.scheduler)
-            client.upload_file(os.path.abspath(__file__))
-        else:
-            cluster = LocalCluster(
-                n_workers=words.workers,
-                threads_per_worker=1,
-                processes=True,
-                dashboard_address=":0" if words.progress else None,
-                local_directory=scratch,
-                silence_logs=logging.CRITICAL,
-            )
-            client = Client(cluster)
-        told(words.progress, f"the engine's page is {client.dashboard_link}")
-        with dask.config.set({"dataframe.shuffle.method": "tasks", "dataframe.shuffle.algorithm": "tasks"}):
-            return run(plan, sys.stdout.buffer, sys.stderr.buffer, words.progress)
-    except Ended as end:
-        sys.stderr.write(end.line + "\n")
-        return end.status
-    finally:
-        if client:
-            client.close()
-        if cluster:
-            cluster.close()
-        shutil.rmtree(scratch, ignore_errors=True)
