@@ -1,3 +1,4 @@
 mod AnsweredLaws
 mod FollowLaws
+mod JobLaws
 mod JsonLaws

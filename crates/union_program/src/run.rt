@@ -2,7 +2,8 @@
 //!
 //! It does all that the program does, over whatever shelf of files and outputs it is handed. Each answer other than
 //! `Done` and `DoneWithRefusals` has its cause in a clause, and those two have the whole result.
-ghost use Rattle.std.specs.Prelude.{◌≡◌, ◌≢◌, ◌↔◌, ◌⊎◌, ℕ, List, IsTrue, Some, None, false};
+ghost use Rattle.std.specs.Prelude.{◌≡◌, ◌≢◌, ◌↔◌, ◌⊎◌, ℕ, List, IsTrue, Some, None, false, true};
+ghost use Rattle.std.specs.Option.{option_map_or};
 ghost use Rattle.std.specs.Io.KnownBytes.{Keeps};
 ghost use Rattle.union_io.specs.Counts.{SameElsewhere};
 ghost use Rattle.union_words.specs.Meanings.{libraries_meaning, loading_meaning};
@@ -15,7 +16,12 @@ ghost use Rattle.union_script.specs.Runs.{IsScript};
 ghost use Rattle.union_trial.specs.Trials.{IsTrial};
 ghost use Rattle.union_watch.specs.WatchRuns.{watch_of, IsWatchRun};
 ghost use Rattle.union_program.specs.Follow.{IsFollowRun};
+<<<<<<< HEAD
 ghost use Rattle.union_watch.specs.Runs.{exported_as, listed, showing_of, IsCheck, IsUnionRun, IsTold};
+=======
+ghost use Rattle.union_program.specs.Jobs.{HasDone};
+ghost use Rattle.union_commands.specs.Runs.{exported_as, listed, showing_of, IsCheck, IsUnionRun, IsTold};
+>>>>>>> chain/chain
 ghost use Rattle.union_json.specs.Runs.{IsToJsonRun, IsFromJsonRun};
 
 use crate::answering::{follow_and_answer, load_and_answer, load_by_names};
@@ -272,6 +278,54 @@ fn run_follow<R: Threads + Wait + Sync, F: Shelf, O: Sink, N: Sink, G>(
     }
 }
 
+/// Does what the words ask for, and ends at once where they are in no form.
+fn run_words<R: Threads + Wait + Sync, F: Shelf, O: Sink, N: Sink, G: Gate>(
+    host: &Host<'_, R, G>,
+    words: &[Bytes],
+    shelf: &mut F,
+    out: &mut O,
+    notes: &mut N,
+) -> Status
+    ensures has { HasDone HELP.now VERSION.now (shelf.new ≡ shelf.old)
+        (shelf_flow F.files F.faults shelf.old shelf.new)
+        (outflow O.written O.faults out.old out.new)
+        (outflow N.written N.faults notes.old notes.new)
+        result (Words.job_of words.now) }
+    ensures noted { IsTrue (is_early result)
+        → IsNoted (outflow N.written N.faults notes.old notes.new)
+        (early_text result) }
+    ensures quiet { option_map_or Words.has_report (Words.job_of words.now) true ≡ false
+        → is_early result ≡ false → Keeps (N.written notes.old) (N.written notes.new) }
+{
+    match Job::read(words) {
+        None => end(notes, Status::Usage),
+        Some(Job::Check(file)) => {
+            let status = run_check(host.alloc, &file, shelf, out);
+            end(notes, status)
+        }
+        Some(Job::ToJson(file)) => run_to_json(host.alloc, &file, shelf, out, notes),
+        Some(Job::FromJson(file)) => run_from_json(host.alloc, &file, shelf, out, notes),
+        Some(Job::Export(form, loading)) => {
+            run_union(host, Shown::Export(form), &loading, shelf, out, notes)
+        }
+        Some(Job::Works(loading)) => run_union(host, Shown::Works, &loading, shelf, out, notes),
+        Some(Job::Watch(asks, loading)) => run_watch(host, asks, &loading, shelf, out, notes),
+        Some(Job::Follow(asks, libraries)) => {
+            run_follow(host, asks, &libraries, shelf, out, notes)
+        }
+        Some(Job::Script(path)) => {
+            let status = run_script(host, path, shelf, out);
+            end(notes, status)
+        }
+        Some(Job::Trial(trial)) => {
+            let status = run_trial(host, &trial, out);
+            end(notes, status)
+        }
+        Some(Job::Help) => tell(out, help_text()),
+        Some(Job::Version) => tell(out, version_text()),
+    }
+}
+
 /// Does what the words after the program's name say.
 ///
 /// | Words | `out` | `notes` |
@@ -380,31 +434,5 @@ pub fn union_run<R: Threads + Wait + Sync, F: Shelf, O: Sink, N: Sink, G: Gate>(
         → Words.job_of words.now ≡ Some (Words.FromJson file)
         → SameElsewhere (F.faults shelf.old) (F.faults shelf.new) file.path }
 {
-    match Job::read(words) {
-        None => end(notes, Status::Usage),
-        Some(Job::Check(file)) => {
-            let status = run_check(host.alloc, &file, shelf, out);
-            end(notes, status)
-        }
-        Some(Job::ToJson(file)) => run_to_json(host.alloc, &file, shelf, out, notes),
-        Some(Job::FromJson(file)) => run_from_json(host.alloc, &file, shelf, out, notes),
-        Some(Job::Export(form, loading)) => {
-            run_union(host, Shown::Export(form), &loading, shelf, out, notes)
-        }
-        Some(Job::Works(loading)) => run_union(host, Shown::Works, &loading, shelf, out, notes),
-        Some(Job::Watch(asks, loading)) => run_watch(host, asks, &loading, shelf, out, notes),
-        Some(Job::Follow(asks, libraries)) => {
-            run_follow(host, asks, &libraries, shelf, out, notes)
-        }
-        Some(Job::Script(path)) => {
-            let status = run_script(host, path, shelf, out);
-            end(notes, status)
-        }
-        Some(Job::Trial(trial)) => {
-            let status = run_trial(host, &trial, out);
-            end(notes, status)
-        }
-        Some(Job::Help) => tell(out, help_text()),
-        Some(Job::Version) => tell(out, version_text()),
-    }
+    run_words(host, words, shelf, out, notes)
 }

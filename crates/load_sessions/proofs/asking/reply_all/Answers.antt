@@ -1,7 +1,13 @@
-use Rattle.std.proofs.Common.{◌≡◌, ◌<◌, ◌∷◌, [], length, drop, suc, ◌+◌, sym, ap, subst, ◌∙◌, arith, length-append, drop-cons, add-one}
+use Rattle.std.proofs.Common.{◌≡◌, ◌<◌, ◌∷◌, [], length, drop, suc, ◌+◌, refl, sym, ap, subst, ◌∙◌, arith, length-append, drop-cons, add-one}
 use Rattle.catalogue_lock.specs.Tokens.{view}
+<<<<<<< HEAD
 use Rattle.catalogue_query.specs.Replies.{Replied, tells}
 use Rattle.load_sessions.proofs.AskLaws.{Leads, Leads-more, Leads-ends, IsPrefix-more, IsPrefix-same}
+=======
+use Rattle.load_sessions.specs.Askers.{Replied}
+use Rattle.load_sessions.specs.Entries.{tells}
+use Rattle.load_sessions.proofs.AskLaws.{Leads, Leads-none, Leads-more, Leads-ends, IsPrefix-more, IsPrefix-same}
+>>>>>>> chain/chain
 use Rattle.load_sessions.proofs.asking.reply_all.Goals as goal
 
 pub returns-in_err-reply-clause-replied : goal.returns-in_err-reply-clause-replied
@@ -52,3 +58,44 @@ returns-clause-replied g c =
     let pass = view c.loop-question.pass in
     Leads-ends (view c.args.pass.now).setting (view c.args.pass.now).floor c.args.questions.now c.loop-question.replies.items pass.floor pass.seen pass.seen
     (drop c.loop-question.question-index c.args.questions.now) c.loop-question.invariant.leads (IsPrefix-same pass.seen)
+
+pub loop-question-init : goal.loop-question-init
+loop-question-init g c =
+    let pass = view c.args.pass.now in
+    record {
+      desk = c.requires.desk;
+      same = (refl, refl);
+      knows = record { own = refl; seen = IsPrefix-same pass.seen; floor = omega arith };
+      leads = Leads-none pass.setting pass.floor c.args.questions.now c.args.replies.now.items pass.seen c.requires.none;
+      count = ap length c.requires.none;
+    }
+
+pub returns-in_err-reply-clause-same : goal.returns-in_err-reply-clause-same
+returns-in_err-reply-clause-same g c =
+    let before = c.loop-question.invariant.same in
+    (c.ask.ensures.same.0 ∙ before.0, c.ask.ensures.same.1 ∙ before.1)
+
+pub returns-in_err-reply-clause-knows : goal.returns-in_err-reply-clause-knows
+returns-in_err-reply-clause-knows g c =
+    let before = c.loop-question.invariant.knows in
+    let refused = c.in_err-reply.ensures.memory in
+    record {
+      own = refused.own ∙ before.own;
+      seen = IsPrefix-more (view c.args.pass.now).seen (view c.loop-question.pass).seen (view c.ask.new.pass).seen before.seen refused.seen;
+      floor = omega (arith, before.floor, refused.floor);
+    }
+
+pub returns-in_err-push-clause-same : goal.returns-in_err-push-clause-same
+returns-in_err-push-clause-same g c =
+    let before = c.loop-question.invariant.same in
+    (c.ask.ensures.same.0 ∙ before.0, c.ask.ensures.same.1 ∙ before.1)
+
+pub returns-in_err-push-clause-knows : goal.returns-in_err-push-clause-knows
+returns-in_err-push-clause-knows g c =
+    let before = c.loop-question.invariant.knows in
+    let says = c.in_ok-reply.ensures.ok in
+    record {
+      own = says.own ∙ before.own;
+      seen = IsPrefix-more (view c.args.pass.now).seen (view c.loop-question.pass).seen (view c.ask.new.pass).seen before.seen says.seen;
+      floor = omega (arith, before.floor, says.later, says.floor);
+    }

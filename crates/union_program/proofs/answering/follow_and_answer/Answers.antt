@@ -15,3 +15,6 @@ returns-in-Ok-follow_and_ask-clause-timely g c =
     rw (c.answered.ensures.loaded, c.answered.ensures.beside, c.answered.ensures.late)
     (told-answered empty 2 c.args.text.now watched.loaded.catalogue.history c.in-Ok.asked.questions.beside.items c.in-Ok.asked.questions.late.items
     watched.beside.items watched.late.items c.in-Ok.ensures.beside c.in-Ok.ensures.late c.in-Ok-follow_and_ask.ensures.beside c.in-Ok-follow_and_ask.ensures.late).1
+
+pub returns-in-Ok-follow_and_ask-clause-gathers : goal.returns-in-Ok-follow_and_ask-clause-gathers
+returns-in-Ok-follow_and_ask-clause-gathers g c = rw c.answered.ensures.loaded c.in-Ok-follow_and_ask.ensures.gathers

@@ -14,3 +14,6 @@ returns-in-Ok-load_by_names-clause-timely g c =
     rw (c.answered.ensures.loaded, c.answered.ensures.beside, c.answered.ensures.late)
     (told-answered c.args.names.table c.args.loading.now.workers.number c.args.text.now watched.loaded.catalogue.history c.in-Ok.asked.questions.beside.items c.in-Ok.asked.questions.late.items
     watched.beside.items watched.late.items (rw c.number.ensures.value at c.in-Ok.ensures.beside) (rw c.number.ensures.value at c.in-Ok.ensures.late) c.in-Ok-load_by_names.ensures.beside c.in-Ok-load_by_names.ensures.late).1
+
+pub returns-in-Ok-load_by_names-clause-gathers : goal.returns-in-Ok-load_by_names-clause-gathers
+returns-in-Ok-load_by_names-clause-gathers g c = rw c.answered.ensures.loaded c.in-Ok-load_by_names.ensures.gathers

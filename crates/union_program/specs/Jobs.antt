@@ -1,0 +1,39 @@
+-- What a run does, by the job that its words ask for.
+use Rattle.std.specs.Prelude.{◌≡◌, ◌≢◌, Option, Some, None, List, ℕ}
+use Rattle.std.specs.Io.KnownBytes.{Keeps}
+use Rattle.union_io.specs.Counts.{SameElsewhere}
+use Rattle.union_commands.specs.Runs.{exported_as, listed, IsCheck, IsUnionRun, IsTold}
+use Rattle.union_json.specs.Runs.{IsToJsonRun, IsFromJsonRun}
+use Rattle.union_script.specs.Runs.{IsScript}
+use Rattle.union_trial.specs.Trials.{IsTrial}
+use Rattle.union_watch.specs.Runs.{watch_of, IsWatchRun}
+use Rattle.union_words.specs.Flows.{ShelfFlow, Outflow, file_flow}
+use Rattle.union_words.specs.Words.{Job, Check, ToJson, FromJson, Export, Works, Watch, Follow, Script, Trial, Help, Version}
+use Rattle.union_words.specs.declared.status.Status.{Status}
+use Rattle.union_words.specs.declared.status.Status.TheVariants.{Usage}
+use Rattle.union_program.specs.Follow.{IsFollowRun}
+
+-- by these texts of the program's own, what is told of the shelf and the outputs, and whether the shelf was left alone
+module _ (help version : List ℕ) (unopened : Type 0) (shelf : ShelfFlow) (out notes : Outflow) (status : Status) where
+  -- what the run of a job did; of files no other than its own is at fault
+  abbrev pub Does : Job → Type 0
+  Does (Check file) = IsCheck file.library (file_flow shelf file.path) out status × SameElsewhere shelf.before shelf.after file.path
+  Does (ToJson file) = IsToJsonRun file.library (file_flow shelf file.path) out notes status × SameElsewhere shelf.before shelf.after file.path
+  Does (FromJson file) = IsFromJsonRun file.library (file_flow shelf file.path) out notes status × SameElsewhere shelf.before shelf.after file.path
+  Does (Export form loading) = IsUnionRun (exported_as form) loading shelf out notes status
+  Does (Works loading) = IsUnionRun listed loading shelf out notes status
+  Does (Watch asks loading) = IsWatchRun (watch_of asks loading) shelf out notes status
+  Does (Follow asks libraries) = IsFollowRun asks libraries shelf out notes status
+  Does (Script path) = IsScript path shelf out status
+  Does (Trial seed count workers) = IsTrial seed count out status × unopened
+  Does Help = IsTold help out status × unopened
+  Does Version = IsTold version out status × unopened
+
+  -- what a run did by its words: nothing at all where they are in no form
+  abbrev pub DoesAsked : Option Job → Type 0
+  DoesAsked None = (status ≡ Usage) × (Keeps out.old out.new × unopened)
+  DoesAsked (Some job) = (status ≢ Usage) × Does job
+
+  -- the same as one fact
+  pub record HasDone (asked : Option Job) : Type 0 where
+    pub does : DoesAsked asked
