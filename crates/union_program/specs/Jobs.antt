@@ -2,11 +2,11 @@
 use Rattle.std.specs.Prelude.{◌≡◌, ◌≢◌, Option, Some, None, List, ℕ}
 use Rattle.std.specs.Io.KnownBytes.{Keeps}
 use Rattle.union_io.specs.Counts.{SameElsewhere}
-use Rattle.union_commands.specs.Runs.{exported_as, listed, IsCheck, IsUnionRun, IsTold}
+use Rattle.union_watch.specs.Runs.{exported_as, listed, IsCheck, IsUnionRun, IsTold}
 use Rattle.union_json.specs.Runs.{IsToJsonRun, IsFromJsonRun}
 use Rattle.union_script.specs.Runs.{IsScript}
 use Rattle.union_trial.specs.Trials.{IsTrial}
-use Rattle.union_watch.specs.Runs.{watch_of, IsWatchRun}
+use Rattle.union_watch.specs.WatchRuns.{watch_of, IsWatchRun}
 use Rattle.union_words.specs.Flows.{ShelfFlow, Outflow, file_flow}
 use Rattle.union_words.specs.Words.{Job, Check, ToJson, FromJson, Export, Works, Watch, Follow, Script, Trial, Help, Version}
 use Rattle.union_words.specs.declared.status.Status.{Status}

@@ -16,12 +16,8 @@ ghost use Rattle.union_script.specs.Runs.{IsScript};
 ghost use Rattle.union_trial.specs.Trials.{IsTrial};
 ghost use Rattle.union_watch.specs.WatchRuns.{watch_of, IsWatchRun};
 ghost use Rattle.union_program.specs.Follow.{IsFollowRun};
-<<<<<<< HEAD
-ghost use Rattle.union_watch.specs.Runs.{exported_as, listed, showing_of, IsCheck, IsUnionRun, IsTold};
-=======
 ghost use Rattle.union_program.specs.Jobs.{HasDone};
-ghost use Rattle.union_commands.specs.Runs.{exported_as, listed, showing_of, IsCheck, IsUnionRun, IsTold};
->>>>>>> chain/chain
+ghost use Rattle.union_watch.specs.Runs.{exported_as, listed, showing_of, IsCheck, IsUnionRun, IsTold};
 ghost use Rattle.union_json.specs.Runs.{IsToJsonRun, IsFromJsonRun};
 
 use crate::answering::{follow_and_answer, load_and_answer, load_by_names};

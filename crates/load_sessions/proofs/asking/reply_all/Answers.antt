@@ -1,13 +1,7 @@
 use Rattle.std.proofs.Common.{◌≡◌, ◌<◌, ◌∷◌, [], length, drop, suc, ◌+◌, refl, sym, ap, subst, ◌∙◌, arith, length-append, drop-cons, add-one}
 use Rattle.catalogue_lock.specs.Tokens.{view}
-<<<<<<< HEAD
 use Rattle.catalogue_query.specs.Replies.{Replied, tells}
-use Rattle.load_sessions.proofs.AskLaws.{Leads, Leads-more, Leads-ends, IsPrefix-more, IsPrefix-same}
-=======
-use Rattle.load_sessions.specs.Askers.{Replied}
-use Rattle.load_sessions.specs.Entries.{tells}
 use Rattle.load_sessions.proofs.AskLaws.{Leads, Leads-none, Leads-more, Leads-ends, IsPrefix-more, IsPrefix-same}
->>>>>>> chain/chain
 use Rattle.load_sessions.proofs.asking.reply_all.Goals as goal
 
 pub returns-in_err-reply-clause-replied : goal.returns-in_err-reply-clause-replied
