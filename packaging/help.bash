@@ -5,9 +5,14 @@ help_line() {
   echo "union: $*" >&2
 }
 
-# The program's commands, as its help names them.
+# The commands that a text of help names.
+commands_in() {
+  sed -n 's/^    union \([a-z][a-z]*\) .*/\1/p' | sort -u | tr '\n' ' '
+}
+
+# The program's commands.
 commands_of() {
-  "$1" --help 2>/dev/null | sed -n 's/^    union \([a-z][a-z]*\) .*/\1/p' | sort -u | tr '\n' ' '
+  "$1" --help 2>/dev/null | commands_in
 }
 
 # What is wrong with a word that must be LIB=PATH; nothing where it is one, but for a path that is no UTF-8.
@@ -173,12 +178,11 @@ help_after() {
   esac
 }
 
-# Runs the program; -h is --help. Ctrl-C reaches the program as it would without a shell before it, and so do TERM and HUP.
-run_program() {
-  local program=$1 signal="" child
-  shift
-  if [ $# -eq 1 ] && [ "$1" = -h ]; then set -- --help; fi
-  (trap - INT TERM HUP && exec "$program" "$@") <&0 &
+# Runs a command whose last step is an `exec`, and leaves its status in `status`. Ctrl-C reaches the command as it would without a shell
+# before it, and so do TERM and HUP.
+run_child() {
+  local signal="" child
+  (trap - EXIT INT TERM HUP && "$@") <&0 &
   child=$!
   trap 'signal=INT' INT
   trap 'signal=TERM; kill -TERM "$child" 2>/dev/null' TERM
@@ -191,5 +195,13 @@ run_program() {
   done
   trap - INT TERM HUP
   [ -z "$signal" ] || [ "$status" -lt 128 ] || kill -s "$signal" $$
+}
+
+# Runs the program; -h is --help.
+run_program() {
+  local program=$1
+  shift
+  if [ $# -eq 1 ] && [ "$1" = -h ]; then set -- --help; fi
+  run_child exec "$program" "$@"
   help_after "$status" "$program" "$@"
 }

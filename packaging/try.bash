@@ -1,0 +1,86 @@
+# Runs the program before it is proved, for a first look at small files. It is sourced, by the launcher `union`, after build.bash and
+# help.bash: `try_program PROGRAM WORDS..` leaves the program's status in `status`, and ends with 70 if the try gives no answer.
+#
+# `rt try` compiles the sources with checks of each access, and keeps no file. It runs the program in a folder of its own, so the program is
+# given whole paths, and writes lines of its own after those of the program.
+
+# The bytes that the files of a try may have together.
+most=10000000
+
+# Makes `path` the whole path of a file, or of a copy where it is a pipe or a device, and adds the file's bytes to `total`.
+whole_path() {
+  local size
+  path=$1
+  [[ $path == /* ]] || path=$PWD/$path
+  if [[ -r $path && ! -f $path && ! -d $path ]]; then
+    copies=$((copies + 1))
+    head -c "$((most + 1))" <"$path" >"$scratch/$copies"
+    path=$scratch/$copies
+  fi
+  size=$(find -L "$path" -maxdepth 0 -type f -printf %s 2>/dev/null)
+  total=$((total + ${size:-0}))
+}
+
+# Makes `path` the whole path of a script, or of a copy in which its lines `load` have whole paths.
+whole_script() {
+  local folder script line
+  whole_path "$1"
+  [[ -f $path && -r $path ]] || return
+  script=$path
+  while IFS= read -r line || [ -n "$line" ]; do
+    if [[ ${line%$'\r'} =~ ^load\ [A-Z0-9]+\ (.+)$ ]]; then whole_path "${BASH_REMATCH[1]}"; fi
+  done <"$script"
+  folder=$(sed 's/[\\&|]/\\&/g' <<<"$PWD/")
+  path=$scratch/script
+  LC_ALL=C sed -E "/^load [A-Z0-9]+ \r?\$/! s|^(load [A-Z0-9]+ )([^/])|\1$folder\2|" <"$script" >"$path"
+}
+
+# Makes `handed` of the words, with whole paths. No other word is touched, and none that could be wrong is made right.
+hand_over() {
+  local word
+  handed=()
+  for word; do
+    case ${handed[0]-}:$word in
+      :*) ;;
+      script:?*) whole_script "$word" && word=$path ;;
+      *:--ask=?* | *:--names=?*) whole_path "${word#*=}" && word=${word%%=*}=$path ;;
+      *:--*) ;;
+      *:*=?*) whole_path "${word#*=}" && word=${word%%=*}=$path ;;
+    esac
+    handed+=("$word")
+  done
+}
+
+# The program's commands, of its help in the sources: to ask the program would be another try.
+commands_of() {
+  cat "$top"/crates/*/src/*.rt | commands_in
+}
+
+start_try() {
+  cd "$top/crates/$1" && shift && exec rt try -- "$@"
+}
+
+# The lines that are the toolchain's own, from the last ones on.
+own_lines="interpreter:|checked:|races:|call=|calls=|run=|rt:"
+
+try_program() {
+  local program=$1 path total=0 copies=0 handed scratch
+  shift
+  if [ $# -eq 1 ] && [ "$1" = -h ]; then set -- --help; fi
+  look_for_kit
+  scratch=$(mktemp -d) || die "there is no folder for files that are needed for a moment; TMPDIR names another"
+  trap 'rm -rf "$scratch"' EXIT
+  hand_over "$@"
+  [ "$total" -le "$most" ] ||
+    die "the files have $total bytes, and --try takes $most: it is for a first look; './union --version' builds the program for more"
+  say "nothing is proved yet: checks at run time stand in the proof's place; './union --version' proves and builds the program"
+  run_child start_try "$program" "${handed[@]}" </dev/null >"$scratch/out" 2>"$scratch/said"
+  if ! tail -n 1 "$scratch/said" | grep -q '^run=ended status=[0-9]* .*proved=no$'; then
+    say "the try gave no answer, and its end says:"
+    tail -n 20 "$scratch/said" >&2
+    exit 70
+  fi
+  cat "$scratch/out" 2>/dev/null || status=5
+  grep -vE "^($own_lines)" "$scratch/said" >&2
+  help_after "$status" "$program" "$@"
+}
