@@ -64,7 +64,7 @@ start_try() {
 own_lines="interpreter:|checked:|races:|call=|calls=|run=|rt:"
 
 try_program() {
-  local program=$1 path total=0 copies=0 handed scratch
+  local program=$1 path total=0 copies=0 handed
   shift
   if [ $# -eq 1 ] && [ "$1" = -h ]; then set -- --help; fi
   look_for_kit
@@ -75,12 +75,12 @@ try_program() {
     die "the files have $total bytes, and --try takes $most: it is for a first look; './union --version' builds the program for more"
   say "nothing is proved yet: checks at run time stand in the proof's place; './union --version' proves and builds the program"
   run_child start_try "$program" "${handed[@]}" </dev/null >"$scratch/out" 2>"$scratch/said"
-  if ! tail -n 1 "$scratch/said" | grep -q '^run=ended status=[0-9]* .*proved=no$'; then
+  if ! [[ $(tail -n 1 "$scratch/said") =~ ^run=ended\ status=[0-9]+\ .*proved=no$ ]]; then
     say "the try gave no answer, and its end says:"
     tail -n 20 "$scratch/said" >&2
     exit 70
   fi
   cat "$scratch/out" 2>/dev/null || status=5
-  grep -vE "^($own_lines)" "$scratch/said" >&2
+  sed -E "/^($own_lines)/d" "$scratch/said" >&2
   help_after "$status" "$program" "$@"
 }
