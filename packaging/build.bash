@@ -182,10 +182,11 @@ look_for_begun() {
   done
 }
 
-# What comes after the number of crates that are proved: what is under way, as it is given, and the time that is left.
+# What comes after the number of crates that are proved: what is under way, as it is given, and the time that is left. Where crates are
+# kept, it is not known yet how many more are, so no time is told.
 outlook() {
-  [ "${#ended[@]}" -lt "${#crates[@]}" ] || return
-  [ "${#under_way[@]}" -eq 0 ] || echo -n "; $1"
+  [[ ${#under_way[@]} -gt 0 && $news != *"(kept)" ]] || return
+  echo -n "; $1"
   if [ "${#cost[@]}" -gt 0 ]; then
     local minutes
     minutes=$(minutes_left)
