@@ -7,9 +7,15 @@
 # The bytes that the files of a try may have together.
 most=10000000
 
-# Makes `path` the whole path of a file, or of a copy where it is a pipe or a device, and adds the file's bytes to `total`.
-whole_path() {
+# Adds the bytes of a file to `total`.
+add_bytes() {
   local size
+  size=$(find -L "$1" -maxdepth 0 -type f -printf %s 2>/dev/null)
+  total=$((total + ${size:-0}))
+}
+
+# Makes `path` the whole path of a file, or of a copy where it is a pipe or a device.
+whole_path() {
   path=$1
   [[ $path == /* ]] || path=$PWD/$path
   if [[ -r $path && ! -f $path && ! -d $path ]]; then
@@ -17,35 +23,38 @@ whole_path() {
     head -c "$((most + 1))" <"$path" >"$scratch/$copies"
     path=$scratch/$copies
   fi
-  size=$(find -L "$path" -maxdepth 0 -type f -printf %s 2>/dev/null)
-  total=$((total + ${size:-0}))
+  add_bytes "$path"
 }
 
 # Makes `path` the whole path of a script, or of a copy in which its lines `load` have whole paths.
 whole_script() {
   local folder script line
   whole_path "$1"
-  [[ -f $path && -r $path ]] || return
-  script=$path
-  while IFS= read -r line || [ -n "$line" ]; do
-    if [[ ${line%$'\r'} =~ ^load\ [A-Z0-9]+\ (.+)$ ]]; then whole_path "${BASH_REMATCH[1]}"; fi
-  done <"$script"
+  [[ -f $path && -r $path ]] || return 0
+  script=$path path=$scratch/script
   folder=$(sed 's/[\\&|]/\\&/g' <<<"$PWD/")
-  path=$scratch/script
   LC_ALL=C sed -E "/^load [A-Z0-9]+ \r?\$/! s|^(load [A-Z0-9]+ )([^/])|\1$folder\2|" <"$script" >"$path"
+  while IFS= read -r line || [ -n "$line" ]; do
+    line=${line%$'\r'}
+    [[ ! $line =~ ^load\ [A-Z0-9]+\ (.+)$ ]] || add_bytes "${BASH_REMATCH[1]}"
+  done 2>/dev/null <"$path"
 }
 
-# Makes `handed` of the words, with whole paths. No other word is touched, and none that could be wrong is made right.
+# Makes `handed` of the words, with whole paths. What is wrong with a word stays wrong: its path stays empty, or is no path.
 hand_over() {
   local word
   handed=()
   for word; do
     case ${handed[0]-}:$word in
       :*) ;;
-      script:?*) whole_script "$word" && word=$path ;;
-      *:--ask=?* | *:--names=?*) whole_path "${word#*=}" && word=${word%%=*}=$path ;;
-      *:--*) ;;
-      *:*=?*) whole_path "${word#*=}" && word=${word%%=*}=$path ;;
+      script:?*)
+        whole_script "$word"
+        word=$path
+        ;;
+      *:--ask=?* | *:--names=?* | *:[!-]*=?*)
+        whole_path "${word#*=}"
+        word=${word%%=*}=$path
+        ;;
     esac
     handed+=("$word")
   done
@@ -60,7 +69,7 @@ start_try() {
   cd "$top/crates/$1" && shift && exec rt try -- "$@"
 }
 
-# The lines that are the toolchain's own, from the last ones on.
+# How the lines begin that are the toolchain's own.
 own_lines="interpreter:|checked:|races:|call=|calls=|run=|rt:"
 
 try_program() {
