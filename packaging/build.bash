@@ -148,15 +148,18 @@ read_costs() {
 }
 
 # The minutes that are left: the longest chain of crates that are not proved, or all of them shared out among the processors, whichever is
-# more. A crate's seconds are those of the table, made longer or shorter as those of the crates that are done turned out.
+# more. A crate's seconds are those of the table, made longer or shorter as those of the crates that are done turned out; one that takes
+# longer is given a fifth of what it took so far.
 minutes_left() {
-  local at name below left sum=0 longest=0 processors
+  local at name below since left sum=0 longest=0 processors
   local -A above=()
   processors=$(nproc)
   for ((at = ${#crates[@]} - 1; at >= 0; at--)); do
     name=${crates[at]} left=0
     if [ -z "${ended[$name]-}" ]; then
-      left=$((cost[$name] * taken / foretold - SECONDS + ${begun[$name]:-$SECONDS}))
+      since=$((SECONDS - ${begun[$name]:-$SECONDS}))
+      left=$((cost[$name] * taken / foretold - since))
+      [ "$left" -ge "$((since / 5))" ] || left=$((since / 5))
       [ "$left" -ge 5 ] || left=5
     fi
     sum=$((sum + left)) left=$((left + ${above[$name]:-0}))
