@@ -22,9 +22,15 @@ const DELETED: u8 = b'd';
 
 /// A table of names: which established heading is to be used for a see-from heading. It means the records that were added,
 /// in any order, and holds their headings alone.
-#[derive(Drop)]
 pub struct NameTable {
     headings: Headings,
+}
+
+/// A drop of its own, as that of `Bytes`.
+impl Drop for NameTable {
+    fn drop(self) {
+        let NameTable { headings: _ } = self;
+    }
 }
 
 impl Model for NameTable {

@@ -48,6 +48,17 @@ module _ {S : Type 0} (name : S → List ℕ) where
       ap (λ (all : List (Session S)). map file_of_course (courses_of name all)) (ap (λ n. take n sessions) rest ∙ take-length sessions)
       ∙ ((drop_get libraries place (file_of_course (course_of name first)) (map file_of_course (courses_of name sessions)) same).1 ∙ ap (λ n. drop n libraries) next)
 
+  -- a read of the file failed in the first session, or in one of the rest
+  pub failed_first : (sessions : List (Session S)) (session : Session S) (path : List ℕ) → 1 ≤ length sessions → session ≡ get_or sessions 0 session
+      → is_failed_in (courses_of name sessions) path
+      ≡ (fails_on path (course_of name session) || is_failed_in (courses_of name (take (length sessions - 1) (drop 1 sessions))) path)
+  failed_first [] session path some is = absurd (omega (arith, some))
+  failed_first (first ∷ sessions) session path some is =
+      let rest : length (first ∷ sessions) - 1 ≡ length sessions = omega arith in
+      let all : take (length (first ∷ sessions) - 1) sessions ≡ sessions = ap (λ n. take n sessions) rest ∙ take-length sessions in
+      ap (λ (s : Session S). fails_on path (course_of name s) || is_failed_in (courses_of name sessions) path) (sym is)
+      ∙ ap (λ (others : List (Session S)). fails_on path (course_of name session) || is_failed_in (courses_of name others) path) (sym all)
+
 -- ---- the first that failed
 
 -- a library of a file that was read is passed over
