@@ -277,10 +277,10 @@ fn push_numbers_beside(
         ++ numbers_beside features.now base.now) }
 {
     let control = values_beside(alloc, &features.control, &base.control)?;
-    let isbns = values_beside(alloc, &features.isbns, &base.isbns)?;
-    let issns = values_beside(alloc, &features.issns, &base.issns)?;
     push_control_keys(alloc, found, control.as_slice())?;
+    let isbns = values_beside(alloc, &features.isbns, &base.isbns)?;
     push_isbn_keys(found, isbns.as_slice())?;
+    let issns = values_beside(alloc, &features.issns, &base.issns)?;
     push_issn_keys(found, issns.as_slice())
 }
 

@@ -14,7 +14,7 @@ loop-x-preserved-in_ok-push-in-Less g c =
       right = c.loop-x.invariant.right;
       all = rw (c.in_ok-push-in-Less.ensures.items, c.in_ok-copied-in-Less.ensures) (found_less g.met.K.Ord.total g.met.K.Element.ties s.x.now s.y.now s.lefts.now s.rights.now
           c.loop-x.left.now c.loop-x.right.now s.ensures.cases.0 s.ensures'.cases.0 c.loop-x.invariant.left c.loop-x.invariant.right
-          c.loop-x.found.items _ c.loop-x.invariant.all c.in-Less.ensures);
+          c.loop-x.found.items (beside g.K.Ord.cmp c.args.list.now c.args.base.now) c.loop-x.invariant.all c.in-Less.ensures);
     }
 
 pub loop-x-preserved-in-Equal : goal.loop-x-preserved-in-Equal
@@ -27,7 +27,7 @@ loop-x-preserved-in-Equal g c =
           c.loop-x.left.now c.loop-x.right.now s.ensures.cases.0 s.ensures'.cases.0 c.loop-x.invariant.left c.loop-x.invariant.right;
       all = found_equal g.met.K.Ord.total g.met.K.Element.ties s.x.now s.y.now s.lefts.now s.rights.now
           c.loop-x.left.now c.loop-x.right.now s.ensures.cases.0 s.ensures'.cases.0 c.loop-x.invariant.left c.loop-x.invariant.right
-          c.loop-x.found.items _ c.loop-x.invariant.all c.in-Equal.ensures;
+          c.loop-x.found.items (beside g.K.Ord.cmp c.args.list.now c.args.base.now) c.loop-x.invariant.all c.in-Equal.ensures;
     }
 
 pub loop-x-preserved : goal.loop-x-preserved
@@ -39,7 +39,7 @@ loop-x-preserved g c =
           c.loop-x.left.now c.loop-x.right.now s.ensures.cases.0 s.ensures'.cases.0 c.loop-x.invariant.left c.loop-x.invariant.right;
       all = found_greater g.met.K.Ord.total g.met.K.Element.ties s.x.now s.y.now s.lefts.now s.rights.now
           c.loop-x.left.now c.loop-x.right.now s.ensures.cases.0 s.ensures'.cases.0 c.loop-x.invariant.left c.loop-x.invariant.right
-          c.loop-x.found.items _ c.loop-x.invariant.all c.in-Greater.ensures;
+          c.loop-x.found.items (beside g.K.Ord.cmp c.args.list.now c.args.base.now) c.loop-x.invariant.all c.in-Greater.ensures;
     }
 
 pub returns : goal.returns
