@@ -8,8 +8,8 @@ ghost use Rattle.catalogue_editions.specs.declared.edition.Edition.{Edition as E
 ghost use Rattle.catalogue_editions.specs.IndexKeys.{has_key};
 ghost use Rattle.catalogue_editions.specs.Resolutions.{IsOrderedResolution};
 
-use catalogue_editions::edition::Edition;
 use crate::looking::{by_least, under_numbers};
+use catalogue_editions::edition::Edition;
 use match_features::keys::FeatureKey;
 use std::alloc::Global;
 use swoosh_resolver::blocks::Blocks;

@@ -6,8 +6,8 @@ ghost use Rattle.std.specs.List.Sorted.{IsPermutation, IsSorted};
 ghost use Rattle.swoosh_resolver.specs.Tables.{blocks_in, values_of};
 ghost use Rattle.catalogue_editions.specs.Ids.{edition_cmp};
 
-use catalogue_editions::edition::Edition;
 use crate::looking::by_least;
+use catalogue_editions::edition::Edition;
 use std::alloc::Global;
 use swoosh_resolver::blocks::Blocks;
 use union_base::memory::Memory;
