@@ -1,4 +1,4 @@
-use Rattle.std.proofs.Common.{◌≡◌, ◌++◌, ◌∷◌, [], true, false, sym, ap, subst, ◌∙◌}
+use Rattle.std.proofs.Common.{◌≡◌, ◌++◌, ◌∷◌, [], true, false, sym, ap, subst, ◌∙◌, arith}
 use Rattle.std.specs.Prelude.{is_some}
 use Rattle.std.specs.Map.{remove_entry, values_of}
 use Rattle.union_base.specs.declared.record_id.RecordId.{RecordId}
@@ -10,6 +10,12 @@ use Rattle.turn_plans.proofs.Growing.{remove-none}
 use Rattle.record_homes.proofs.MapLaws.{same}
 use Rattle.turn_plans.proofs.PlanLaws.{current-from_place, withdrawal-paid}
 use Rattle.turn_plans.proofs.one_by_one.plan_withdrawal.Goals as goal
+
+pub returns-in_err-copied-clause-cost : goal.returns-in_err-copied-clause-cost
+returns-in_err-copied-clause-cost g c = λ all number p r. omega arith
+
+pub returns-clause-cost : goal.returns-clause-cost
+returns-clause-cost g c = λ all number p r. omega arith
 
 pub returns-in_err-next-in-Some-clause-cost : goal.returns-in_err-next-in-Some-clause-cost
 returns-in_err-next-in-Some-clause-cost g c = λ all number p r.

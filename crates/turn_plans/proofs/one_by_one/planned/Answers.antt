@@ -1,8 +1,8 @@
-use Rattle.std.proofs.Common.{◌≡◌, ◌<◌, ◌++◌, ◌∷◌, [], List, length, get_or, subst, refl}
+use Rattle.std.proofs.Common.{◌≡◌, ◌<◌, ◌≤◌, ◌++◌, ◌∷◌, [], List, length, get_or, subst, refl, arith}
 use Rattle.turn_plans.specs.Histories.{current}
 use Rattle.turn_plans.specs.Keeping.{batches}
 use Rattle.catalogue_editions.specs.declared.op.Op.{Op}
-use Rattle.turn_plans.proofs.TurnLaws.{plan-begins, plans-begin, plans-paid, plans-next, op-loads, op-own}
+use Rattle.turn_plans.proofs.TurnLaws.{plan-begins, plans-begin, plans-paid, plans-next, plans-all, answers-all, paid-all, op-loads, op-own}
 use Rattle.turn_plans.proofs.one_by_one.planned.Goals as goal
 
 pub loop-i-init : goal.loop-i-init
@@ -39,3 +39,24 @@ loop-i-preserved g c =
     (subst (λ (xs : List Op). op ≡ get_or xs c.loop-i.i op) c.as_slice-ops.ensures c.index-ops-i.is) c.plan_op.new.steps c.plan_op.ensures.cost
     next.change.closed.items next.change.opened.items next.touched.entries c.in_ok-next.ensures.planned c.in_ok-next.outcome c.in_ok-next.ensures.outcome
     c.push.new.self.items c.in_ok-push.ensures.items
+
+pub returns-in_err-outcomes-clause-cost : goal.returns-in_err-outcomes-clause-cost
+returns-in_err-outcomes-clause-cost g c = λ number r. omega arith
+
+pub returns-in_err-touched-clause-cost : goal.returns-in_err-touched-clause-cost
+returns-in_err-touched-clause-cost g c = λ number r. omega arith
+
+pub returns-in_err-next-clause-cost : goal.returns-in_err-next-clause-cost
+returns-in_err-next-clause-cost g c =
+    let op = c.index-ops-i.result in
+    plans-paid c.loop-i.invariant op (subst (λ (xs : List Op). c.loop-i.i < length xs) c.as_slice-ops.ensures c.loop-i-test.true)
+    (subst (λ (xs : List Op). op ≡ get_or xs c.loop-i.i op) c.as_slice-ops.ensures c.index-ops-i.is) c.plan_op.new.steps c.plan_op.ensures.cost
+
+pub returns-clause-planned : goal.returns-clause-planned
+returns-clause-planned g c = plans-all c.loop-i.invariant (subst (λ (xs : List Op). length xs ≤ c.loop-i.i) c.as_slice-ops.ensures c.loop-i-test.false)
+
+pub returns-clause-outcomes : goal.returns-clause-outcomes
+returns-clause-outcomes g c = answers-all c.loop-i.invariant (subst (λ (xs : List Op). length xs ≤ c.loop-i.i) c.as_slice-ops.ensures c.loop-i-test.false)
+
+pub returns-clause-cost : goal.returns-clause-cost
+returns-clause-cost g c = paid-all c.loop-i.invariant (subst (λ (xs : List Op). length xs ≤ c.loop-i.i) c.as_slice-ops.ensures c.loop-i-test.false)

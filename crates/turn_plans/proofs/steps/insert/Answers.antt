@@ -1,7 +1,16 @@
-use Rattle.std.proofs.Common.{◌≡◌, ◌∙◌}
+use Rattle.std.proofs.Common.{◌≡◌, ◌∙◌, arith}
 use Rattle.catalogue_editions.specs.Ids.{least}
 use Rattle.turn_plans.proofs.PlanLaws.{plan-inserted, insert-paid}
 use Rattle.turn_plans.proofs.steps.insert.Goals as goal
+
+pub returns-in_err-copied-clause-cost : goal.returns-in_err-copied-clause-cost
+returns-in_err-copied-clause-cost g c = λ all number p r. omega arith
+
+pub returns-in_err-insert-clause-cost : goal.returns-in_err-insert-clause-cost
+returns-in_err-insert-clause-cost g c = λ all number p r. omega arith
+
+pub returns-in_err-copy-clause-cost : goal.returns-in_err-copy-clause-cost
+returns-in_err-copy-clause-cost g c = λ all number p r. omega arith
 
 pub returns-in_err-change-clause-cost : goal.returns-in_err-change-clause-cost
 returns-in_err-change-clause-cost g c = λ all number p r.
