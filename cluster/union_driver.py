@@ -387,7 +387,7 @@ def main(arguments):
         if kept["scratch"]:
             shutil.rmtree(kept["scratch"], ignore_errors=True)
         if line:
-            quietly(lambda: notes.write(f"union-cluster: {line_of(line)}\n".encode()))
+            quietly(lambda: notes.write(f"union-cluster: {line_of(line)}\n".encode(errors="surrogateescape")))
             quietly(notes.close)
         if by:
             signal.signal(by, signal.SIG_DFL)

@@ -37,15 +37,15 @@ def end_of(error, scratch):
         return Ended(MEMORY, "workers were killed again and again, as happens for lack of memory: fewer --workers or more --parts make each less")
     if isinstance(error, MemoryError) or errno_of(error) == errno.ENOMEM:
         return Ended(MEMORY, "out of memory: fewer --workers or more --parts make each less")
-    if errno_of(error) in NO_ROOM:
+    if errno_of(error) in NO_ROOM or scratch and isinstance(error, OSError) and str(error.filename or "").startswith(scratch):
         return no_scratch(scratch, error)
     if errno_of(error) in (errno.EMFILE, errno.ENFILE):
         return Ended(OPEN, "too many files are open: 'ulimit -n' must allow one for each of the --parts, and 100")
     if isinstance(error, ImportError):
-        return Ended(FAULT, f"{error}; union-cluster needs python3-distributed and python3-pandas, on each machine of a cluster")
+        return Ended(FAULT, f"python3-distributed and python3-pandas must be installed, on each machine of a cluster ({error})")
     if kind in ("CancelledError", "CommClosedError", "FutureCancelledError", "TimeoutError"):
         return Ended(FAULT, "the scheduler has gone away; run it again once it is back")
-    return Ended(FAULT, f"the run failed ({kind}: {error}); --progress tells more")
+    return Ended(FAULT, f"the run failed; --progress tells more ({kind}: {error})")
 
 
 def errno_of(error):
@@ -53,6 +53,7 @@ def errno_of(error):
 
 
 def no_scratch(scratch, error):
+    """The folder is full, is not there, or is not there for a worker."""
     return Ended(WRITE, f"cannot write in the folder {scratch} ({reason(error)}); --scratch names another")
 
 
