@@ -1,8 +1,8 @@
-# One line of help after the program's own, for the launcher `union` and for the packaged command. It is sourced: `run_program PROGRAM
-# WORDS..` runs the program, adds the line on standard error where the status asks for one, and leaves the status in `status`.
+# One line of help after the program's own, for the launcher `union` and for the packaged commands. It is sourced, with the command's name in
+# `me`: `run_program PROGRAM WORDS..` runs the program, adds the line on standard error where there is one, and leaves the status in `status`.
 
 help_line() {
-  echo "union: $*" >&2
+  echo "$me: $*" >&2
 }
 
 # The commands that a text of help names.
@@ -15,12 +15,54 @@ commands_of() {
   "$1" --help 2>/dev/null | commands_in
 }
 
+# The options of a command, in their order.
+options_of() {
+  case $1 in
+    export) echo "--workers=N --prefer=LIB,.. --names=PATH --json" ;;
+    works) echo "--workers=N --prefer=LIB,.. --names=PATH" ;;
+    watch) echo "--ask=PATH --workers=N --prefer=LIB,.. --names=PATH" ;;
+    follow) echo "--ask=PATH" ;;
+    union-explain) echo "--csv" ;;
+    union-keys) echo "--groups=PATH" ;;
+  esac
+}
+
+# What is wrong with an option that stands where a LIB=PATH must be, or does not have its form.
+wrong_option() {
+  local word=$1 name=${1%%=*} options option
+  options=$(options_of "$command")
+  case $name in
+    -h | --help | --version)
+      [ "$name" != -h ] || name=--help
+      echo "'$word' takes no other word beside it: $me $name"
+      return
+      ;;
+  esac
+  for option in $options; do
+    if [ "$name" = "${option%%=*}" ]; then
+      if [[ $option == *=* && $word != *=?* || $option != *=* && $word == *=* ]]; then
+        echo "'$word' must be one word $option"
+      else
+        echo "'$word' is not in its place: options stand once each and before LIB=PATH, in the order $options"
+      fi
+      return
+    fi
+  done
+  for option in $options; do
+    if [[ ${#name} -gt 3 && (${option%%=*} == "${name,,}"* || ${name,,} == "${option%%=*}"*) ]]; then
+      echo "'$word' is no option; is it $option?"
+      return
+    fi
+  done
+  echo "'$word' is no option of $command${options:+; it has $options}"
+}
+
 # What is wrong with a word that must be LIB=PATH; nothing where it is one, but for a path that is no UTF-8.
 wrong_library() {
   local word=$1 code=${1%%=*}
   local LC_ALL=C
   case $word in
-    --*) echo "'$word' is no option that can stand here" ;;
+    -h | --*) wrong_option "$word" ;;
     *=*)
       if [[ ! $code =~ ^[A-Z0-9]{1,16}$ ]]; then
         echo "'$word': a library's code is 1 to 16 of A-Z and 0-9"
@@ -73,6 +115,21 @@ wrong_preference() {
   [ "$count" -le 64 ] || echo "'--prefer=..': there are more than 64 libraries"
 }
 
+# The same for the programs that have no commands; `command` is the program's name.
+wrong_file_word() {
+  local command=$me wrong
+  case ${1-} in
+    --help | --version)
+      wrong_option "$1"
+      return
+      ;;
+    --csv) [ "$me" != union-explain ] || shift ;;
+    --groups=?*) [ "$me" != union-keys ] || shift ;;
+  esac
+  wrong=$(wrong_libraries 64 "$@")
+  echo "${wrong:-a path is not UTF-8}"
+}
+
 # Which word of a command line that was refused is wrong, and how it should be.
 wrong_word() {
   local commands=$1 command=${2-} wrong=""
@@ -115,7 +172,7 @@ wrong_word() {
         shift
       fi
       if [[ -z $wrong && $command != follow && ${1-} == --names=* ]]; then
-        [ -n "${1#--names=}" ] || wrong="'--names=': a path must follow the '='"
+        [ "$1" != --names= ] || wrong="'--names=': a path must follow the '='"
         shift
       fi
       [ "$command" = export ] && [ "${1-}" = --json ] && shift
@@ -145,23 +202,39 @@ wrong_path() {
   for word in "${@:2}"; do
     case $word in
       --ask=*) why=$(wrong_file "${word#--ask=}") ;;
-      --names=*) why=$(wrong_file "${word#--names=}") ;;
+      --names=* | --groups=*) why=$(wrong_file "${word#*=}") ;;
+      --help | -h)
+        why=$(wrong_file "$word")
+        why="${why:+$why; the help is '$me --help'}"
+        ;;
       --*) continue ;;
       *=*) if [ "$1" = script ]; then why=$(wrong_file "$word"); else why=$(wrong_file "${word#*=}"); fi ;;
       *) why=$(wrong_file "$word") ;;
     esac
     [ -z "$why" ] || { echo "$why"; return; }
   done
-  if [ "$1" = script ]; then
+  # (a pipe was read by the program, and would be waited for)
+  if [ "$1" = script ] && [ -f "$2" ]; then
     while IFS= read -r word || [ -n "$word" ]; do
       word=${word%$'\r'}
       [[ $word =~ ^load\ [A-Z0-9]+\ (.+)$ ]] || continue
       why=$(wrong_file "${BASH_REMATCH[1]}")
       [ -z "$why" ] || { echo "$why"; return; }
-    done <"$2" 2>/dev/null
+    done 2>/dev/null <"$2"
   fi
   [ "$#" -lt 3 ] || [ "$(ulimit -n)" = unlimited ] || [ "$(ulimit -n)" -gt $(($# + 16)) ] ||
     echo "too many files would be open: 'ulimit -n' allows $(ulimit -n)"
+}
+
+# The libraries of a preference that are not among those loaded.
+not_loaded() {
+  local word code preference=""
+  for word; do
+    case $word in --prefer=*) preference=${word#--prefer=} ;; esac
+  done
+  for code in ${preference//,/ }; do
+    [[ " $*" == *" $code="* ]] || echo "$code"
+  done
 }
 
 # The line of help for a run that ended with this status, if there is one.
@@ -169,13 +242,43 @@ help_after() {
   local ended=$1 program=$2 why
   shift 2
   case $ended in
-    2) help_line "$(wrong_word "$(commands_of "$program")" "$@"); see union --help" ;;
+    0 | 1)
+      [ "$me" = union ] || return 0
+      why=$(not_loaded "$@")
+      [ -z "$why" ] || help_line "note: --prefer names ${why//$'\n'/, }, of which nothing is loaded"
+      ;;
+    2)
+      if [ "$me" = union ]; then why=$(wrong_word "$(commands_of "$program")" "$@"); else why=$(wrong_file_word "$@"); fi
+      help_line "$why; see $me --help"
+      ;;
     3 | 4)
-      why=$(wrong_path "$@")
+      if [ "$me" = union ]; then why=$(wrong_path "$@"); else why=$(wrong_path "$me" "$@"); fi
       [ -z "$why" ] || help_line "$why"
       ;;
     5) help_line "an output could not be written: it is closed, or its disk is full" ;;
+    129 | 1[3-5]?) help_line "the program was ended by the signal $(kill -l "$ended")" ;;
   esac
+}
+
+# Says of a file for fromjson, once and in place of a report for each line, that it has no record on a line, as JSON has that is laid out for
+# readers. It fails where one line at least may be a record: it has the key `leader` (or an escape) between braces.
+no_record_on_a_line() {
+  local path=${1#*=} first how=.
+  local LC_ALL=C
+  [ -f "$path" ] && [ -r "$path" ] || return
+  first=$(sed -nE '/[^[:space:]]/{s/^[[:space:]]*(.).*/\1/p;q}' "$path" | tr -d '\0')
+  case $first in
+    "{") ;;
+    "[") how="'.[]'" ;;
+    *) return 1 ;;
+  esac
+  [ -z "$(sed -nE '/^[[:space:]]*\{.*(leader|\\u).*\}[[:space:]]*$/{s/.*/found/p;q}' "$path")" ] || return
+  help_line "no line of $path is a record: fromjson wants one on each line, as 'jq -c $how $path' writes them"
+}
+
+# Whether the words are those of a run of which one line can say all; it has been said then, and `status` is the program's.
+is_foreseen() {
+  [ "$me" = union ] && [ $# -eq 2 ] && [ "$1" = fromjson ] && [ -z "$(wrong_library "$2")" ] && no_record_on_a_line "$2" && status=1
 }
 
 # Runs a command whose last step is an `exec`, and leaves its status in `status`. Ctrl-C reaches the command as it would without a shell
@@ -187,10 +290,11 @@ run_child() {
   trap 'signal=INT' INT
   trap 'signal=TERM; kill -TERM "$child" 2>/dev/null' TERM
   trap 'signal=HUP; kill -HUP "$child" 2>/dev/null' HUP
-  wait "$child"
+  # (a shell tells of a child that a signal has ended)
+  wait "$child" 2>/dev/null
   status=$?
   while kill -0 "$child" 2>/dev/null; do
-    wait "$child"
+    wait "$child" 2>/dev/null
     status=$?
   done
   trap - INT TERM HUP
@@ -202,6 +306,7 @@ run_program() {
   local program=$1
   shift
   if [ $# -eq 1 ] && [ "$1" = -h ]; then set -- --help; fi
+  is_foreseen "$@" && return
   run_child exec "$program" "$@"
   help_after "$status" "$program" "$@"
 }

@@ -76,6 +76,7 @@ try_program() {
   local program=$1 path total=0 copies=0 handed
   shift
   if [ $# -eq 1 ] && [ "$1" = -h ]; then set -- --help; fi
+  is_foreseen "$@" && return
   look_for_kit
   scratch=$(mktemp -d) || die "there is no folder for files that are needed for a moment; TMPDIR names another"
   trap 'rm -rf "$scratch"' EXIT
