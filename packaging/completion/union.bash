@@ -1,10 +1,10 @@
 # bash completion for union(1)
 
 _union() {
-  local word=$2 command=${COMP_WORDS[1]-} path code
+  local word=$2 command=${COMP_WORDS[1]-}
   COMPREPLY=()
   if [ "$COMP_CWORD" -eq 1 ]; then
-    mapfile -t COMPREPLY < <(compgen -W "check export works watch follow script trial --help --version" -- "$word")
+    mapfile -t COMPREPLY < <(compgen -W "check tojson fromjson export works watch follow script trial --help --version" -- "$word")
     return
   fi
   # The line is parted at each '=', so the word after one is a path.
@@ -19,19 +19,20 @@ _union() {
       compopt -o filenames 2>/dev/null
       mapfile -t COMPREPLY < <(compgen -f -- "$word")
       ;;
-    export | works)
-      compopt -o nospace 2>/dev/null
+    export)
+      mapfile -t COMPREPLY < <(compgen -W "--workers= --prefer= --names= --json" -- "$word")
+      ;;
+    works)
       mapfile -t COMPREPLY < <(compgen -W "--workers= --prefer= --names=" -- "$word")
       ;;
     watch)
-      compopt -o nospace 2>/dev/null
       mapfile -t COMPREPLY < <(compgen -W "--ask= --workers= --prefer= --names=" -- "$word")
       ;;
     follow)
-      compopt -o nospace 2>/dev/null
       mapfile -t COMPREPLY < <(compgen -W "--ask=" -- "$word")
       ;;
   esac
+  [[ ${COMPREPLY[0]-} != --*= ]] || compopt -o nospace 2>/dev/null
 }
 
 complete -F _union union
