@@ -1,6 +1,5 @@
 -- Which rule the frame breaks that a line of a report tells of, and whether it is the one that the line names.
 use Rattle.std.specs.Prelude.{ℕ, Bool, true, false, not, ◌&&◌, ◌==◌, nat_le, List, length, Option, Some, None, if◌then◌else◌}
-use Rattle.std.specs.List.{list_any}
 use Rattle.iso2709_frame.specs.declared.cut.Cut.{Cut}
 use Rattle.iso2709_frame.specs.declared.cut.Cut.TheVariants.{Whole, TooLong, Truncated}
 use Rattle.marc_fields.specs.Rows.{ends_in_only}

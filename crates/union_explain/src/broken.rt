@@ -53,7 +53,8 @@ pub fn is_as_told(told: &Reported, found: Option<Failure>) -> bool
 {
     match found {
         Some(failure) => {
-            rule_name(failure.rule) == rule_name(told.rule) && u64::from(failure.place) == told.place
+            rule_name(failure.rule) == rule_name(told.rule)
+                && u64::from(failure.place) == told.place
         }
         None => false,
     }

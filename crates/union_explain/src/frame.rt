@@ -96,7 +96,8 @@ impl Frame {
         ensures { OnOk result ((at : ℕ) (front : List ℕ) → self.old ≡ frame_at at front
             → self.new ≡ frame_at at (front ++ byte ∷ [])) }
     {
-        self.ended = is_ended_by(self.ended, byte);
+        let ended = is_ended_by(self.ended, byte);
+        self.ended = ended;
         if self.size == 0 && is_break(byte) {
             self.first += 1;
             return Ok(());

@@ -1,10 +1,11 @@
-use Rattle.std.proofs.Common.{◌≡◌, ◌++◌, ◌∷◌, ◌||◌, Some, ap, ◌∙◌, subst, refl}
+use Rattle.std.proofs.Common.{◌≡◌, ◌++◌, ◌∷◌, ◌||◌, Some, sym, ap, ◌∙◌, subst, refl}
 use Rattle.std.proofs.lemmas.List.{nil_from_length}
 use Rattle.union_explain.specs.Broken.{is_astray}
-use Rattle.union_explain.specs.Located.{located}
+use Rattle.union_explain.specs.Located.{located, located_ahead}
+use Rattle.union_explain.specs.Readings.{ahead}
 use Rattle.union_explain.specs.Reports.{IsRising}
 use Rattle.union_explain.specs.Rows.{row}
-use Rattle.union_explain.proofs.RowLaws.{Remains-all, Remains-found, Remains-missed, Remains-none_text, Remains-none_rows, Remains-none_astray, Remains-first}
+use Rattle.union_explain.proofs.RowLaws.{Remains, Remains-all, Remains-found, Remains-missed, Remains-none_text, Remains-none_rows, Remains-none_astray, Remains-first}
 use Rattle.union_explain.proofs.explain.add_rows.Goals.{then-found+in_ok-add, else-found}
 use Rattle.union_explain.proofs.explain.add_rows.Goals as goal
 
@@ -44,10 +45,14 @@ loop-told-preserved g c =
                 (ap (λ t. t.astray) w.table-is ∙ (w.in_ok-add.ensures.astray
                 ∙ ap (λ f. c.loop-told.table.astray || is_astray told (Some f)) w.frame.ensures))
             | else-found w ↦
-                Remains-missed c.args.form c.args.library.now (located bytes) c.args.refused.now behind told c.loop-told.passed
+                subst (λ t. Remains c.args.form c.args.library.now (located bytes) c.args.refused.now behind told.number
+                (located_ahead c.nth.new.self.at (ahead c.nth.new.self.unread (g.S.Source.left c.nth.new.source)))
+                c.args.table.now.text t.text c.args.table.now.rows t.rows c.args.table.now.astray t.astray)
+                (sym (w.table-is ∙ w.miss.ensures))
+                (Remains-missed c.args.form c.args.library.now (located bytes) c.args.refused.now behind told c.loop-told.passed
                 _ _ c.args.table.now.text c.loop-told.table.text c.args.table.now.rows c.loop-told.table.rows
                 c.args.table.now.astray c.loop-told.table.astray
-                h rising.0 (rw w.if-found.false at c.in_ok-found.ensures.finds)
+                h rising.0 (rw w.if-found.false at c.in_ok-found.ensures.finds))
           ];
     }
 
