@@ -1,4 +1,4 @@
-use Rattle.std.proofs.Common.{◌≡◌, false, ℕ, List, [], length}
+use Rattle.std.proofs.Common.{false, ℕ, List, [], length}
 use Rattle.union_words.specs.Lines.{lines_of}
 use Rattle.union_keys.specs.Groups.{groups_from}
 use Rattle.union_keys.specs.Lines.{AddsLines}
