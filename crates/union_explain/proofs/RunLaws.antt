@@ -1,12 +1,13 @@
 -- How the table grows library by library.
-use Rattle.std.proofs.Common.{◌≡◌, ◌+◌, ◌-◌, ◌++◌, ◌∷◌, [], ℕ, zero, suc, List, drop, Some, sym, ap, ◌∙◌, arith, append_assoc}
+use Rattle.std.proofs.Common.{◌≡◌, ◌+◌, ◌-◌, ◌++◌, ◌∷◌, [], ℕ, zero, suc, Bool, ◌||◌, List, drop, Some, sym, ap, ◌∙◌, arith, append_assoc}
 use Rattle.std.specs.Prelude.{codes, decimal}
 use Rattle.std.specs.List.{slice_get}
 use Rattle.union_words.specs.Words.{LibraryFile}
 use Rattle.union_explain.specs.Located.{located}
-use Rattle.union_explain.specs.Rows.{row_count}
-use Rattle.union_explain.specs.Runs.{library_rows, all_rows, table_rows, refused_in, counts_text}
+use Rattle.union_explain.specs.Rows.{row_count, any_astray}
+use Rattle.union_explain.specs.Runs.{library_rows, all_rows, table_rows, are_astray, refused_in, counts_text}
 use Rattle.union_explain.specs.declared.form.Form.{Form}
+use Rattle.union_explain.proofs.RowLaws.{or_assoc}
 
 -- what is left from a place on begins with what stands there
 drop-get : {X : Type 0} (xs : List X) (n : ℕ) (x : X) → slice_get xs n ≡ Some x → drop n xs ≡ x ∷ drop (n + 1) xs
@@ -37,6 +38,18 @@ pub rows-next : (report : List ℕ) (contents : List ℕ → List ℕ) (all : Li
     → after + table_rows report contents (drop (place + 1) all) ≡ total
 rows-next report contents all place file before after total here added h =
     omega (arith, added, h, ap (table_rows report contents) (drop-get all place file here))
+
+-- and whether a line told of no frame of its file
+pub astray-next : (report : List ℕ) (contents : List ℕ → List ℕ) (all : List LibraryFile) (place : ℕ) (file : LibraryFile)
+    (before after total : Bool) → slice_get all place ≡ Some file
+    → after ≡ (before || any_astray (located (contents file.path)) (refused_in report file.library))
+    → (before || are_astray report contents (drop place all)) ≡ total
+    → (after || are_astray report contents (drop (place + 1) all)) ≡ total
+astray-next report contents all place file before after total here noted h =
+    let rest = are_astray report contents (drop (place + 1) all) in
+    ap (λ t. t || rest) noted
+    ∙ (or_assoc before (any_astray (located (contents file.path)) (refused_in report file.library)) rest
+    ∙ (sym (ap (λ xs. before || are_astray report contents xs) (drop-get all place file here)) ∙ h))
 
 -- a text that was made of three parts and a line feed
 pub three_parts : (start first second third all x y z : List ℕ) → start ≡ [] → first ≡ start ++ x → second ≡ first ++ y → third ≡ second ++ z

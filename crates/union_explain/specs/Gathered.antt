@@ -4,4 +4,4 @@ use Rattle.union_explain.specs.declared.frame.Frame.TheInside.{Inside}
 
 -- the frame as its value
 abbrev pub gathered_of : Inside → Located
-gathered_of frame = record { first = frame.first; size = frame.size; bytes = frame.bytes.items }
+gathered_of frame = record { first = frame.first; size = frame.size; ended = frame.ended; bytes = frame.bytes.items }

@@ -7,6 +7,7 @@ pub mod Locating
 pub mod Rules
 pub mod Reports
 pub mod Glances
+pub mod Broken
 pub mod Rows
 pub mod Tables
 pub mod Runs

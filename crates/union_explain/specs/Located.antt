@@ -1,13 +1,16 @@
 -- Where the frames of a stream stand. A frame reaches up to and with its record terminator (ISO 2709), or to the end of the
 -- stream; CR and LF before it are no part of it (this project's own). Offsets are counted from 0.
-use Rattle.std.specs.Prelude.{ℕ, ◌+◌, ◌-◌, nat_lt, if◌then◌else◌, List, [], ◌∷◌, ◌++◌, length, take, Option}
+use Rattle.std.specs.Prelude.{ℕ, ◌+◌, ◌-◌, Bool, nat_lt, if◌then◌else◌, List, [], ◌∷◌, ◌++◌, length, take, Option}
+use Rattle.std.specs.List.{list_any}
 use Rattle.std.specs.Option.{option_map}
 use Rattle.iso2709_frame.specs.Frames.{is_terminator, first_piece, skip_breaks}
 
--- a frame: the offset of its first byte, how many bytes it has, and the first 99,999 of them, the most that a frame may have
+-- a frame: the offset of its first byte, how many bytes it has, whether a record terminator ends it, and the first 99,999 of its
+-- bytes, the most that a frame may have
 pub record Located : Type 0 where
   pub first : ℕ
   pub size : ℕ
+  pub ended : Bool
   pub bytes : List ℕ
 
 -- the frame in a piece that begins at an offset, after its CR and LF
@@ -15,6 +18,7 @@ abbrev pub frame_at : ℕ → List ℕ → Located
 frame_at at piece = record {
   first = at + (length piece - length (skip_breaks piece));
   size = length (skip_breaks piece);
+  ended = list_any is_terminator piece;
   bytes = take 99999 (skip_breaks piece);
 }
 

@@ -1,7 +1,9 @@
 -- The rows that are written.
-use Rattle.std.specs.Prelude.{ℕ, ◌+◌, ◌-◌, ◌==◌, List, [], ◌∷◌, ◌++◌, Option, Some, None, if◌then◌else◌, decimal, is_some}
-use Rattle.std.specs.List.{flat_map, slice_get}
+use Rattle.std.specs.Prelude.{ℕ, ◌+◌, ◌-◌, ◌==◌, Bool, List, [], ◌∷◌, ◌++◌, Option, Some, None, if◌then◌else◌, decimal, is_some}
+use Rattle.std.specs.List.{flat_map, list_any, slice_get}
+use Rattle.marc_fields.specs.declared.rules.Failure.{Failure}
 use Rattle.marc_fields.specs.declared.rules.Rule.{Rule}
+use Rattle.union_explain.specs.Broken.{broken_by, is_as_told, is_astray}
 use Rattle.union_explain.specs.Glances.{control_number_of, tag_of}
 use Rattle.union_explain.specs.Located.{Located}
 use Rattle.union_explain.specs.Rules.{name_of, points_at_entry, meaning_of, advice_of}
@@ -9,6 +11,7 @@ use Rattle.union_explain.specs.declared.form.Form.{Form}
 use Rattle.union_explain.specs.declared.form.Form.TheVariants.{Tabs, Csv}
 use Rattle.union_explain.specs.declared.form.TheConstants.{HEADING}
 use Rattle.union_explain.specs.declared.reported.Reported.{Reported}
+use Rattle.union_explain.specs.declared.texts.TheConstants as texts
 
 -- a text with each quotation mark, 0x22, doubled
 abbrev pub doubled : List ℕ → List ℕ
@@ -44,15 +47,25 @@ unfoldable pub name_cells : Form → Rule → ℕ → List ℕ → List ℕ
 name_cells form rule place bytes =
     next_cell form (control_number_of bytes) ++ (next_cell form (tag_at rule place bytes) ++ next_cell form (name_of rule))
 
--- what the rule says, and what to do
-unfoldable pub word_cells : Form → Rule → ℕ → List ℕ
-word_cells form rule place = next_cell form (meaning_of rule place) ++ (next_cell form (advice_of rule place) ++ 0x0A ∷ [])
+-- what is said of a record: what the rule of the report finds where the frame breaks it there, and else that the file is another
+abbrev pub said_of : Reported → Option Failure → List ℕ
+said_of told found =
+    (if is_as_told told found then meaning_of told.rule told.place
+    else (if is_some found then texts.OTHER_RULE.now else texts.NO_RULE.now))
 
--- the row of a refused record
+-- what to do
+abbrev pub advised_of : Reported → Option Failure → List ℕ
+advised_of told found = (if is_as_told told found then advice_of told.rule told.place else texts.OTHER_FILE_ADVICE.now)
+
+-- what is said of the record, and what to do
+unfoldable pub word_cells : Form → Reported → Option Failure → List ℕ
+word_cells form told found = next_cell form (said_of told found) ++ (next_cell form (advised_of told found) ++ 0x0A ∷ [])
+
+-- the row of a refused record, by the first rule that its frame breaks
 unfoldable pub row : Form → List ℕ → Reported → Located → List ℕ
 row form library told frame =
     place_cells form library told.number frame
-    ++ (name_cells form told.rule told.place frame.bytes ++ word_cells form told.rule told.place)
+    ++ (name_cells form told.rule told.place frame.bytes ++ word_cells form told (broken_by frame))
 
 -- the row of a reported frame, where the frame was found
 abbrev pub row_of : Form → List ℕ → Reported → Option Located → List ℕ
@@ -71,6 +84,10 @@ rows_of form library all refused = flat_map (λ told. row_of form library told (
 abbrev pub row_count : List Located → List Reported → ℕ
 row_count all [] = 0
 row_count all (told ∷ rest) = (if is_some (frame_of all told) then 1 else 0) + row_count all rest
+
+-- some line tells of no frame of this file
+abbrev pub any_astray : List Located → List Reported → Bool
+any_astray all refused = list_any (λ told. is_astray told (frame_of all told)) refused
 
 -- what stands above the rows
 abbrev pub heading : Form → List ℕ

@@ -1,11 +1,11 @@
 -- The table of a report.
-use Rattle.std.specs.Prelude.{ℕ, ◌+◌, ◌-◌, List, [], ◌∷◌, ◌++◌, decimal, codes}
-use Rattle.std.specs.List.{flat_map, filter_map}
+use Rattle.std.specs.Prelude.{ℕ, ◌+◌, ◌-◌, Bool, List, [], ◌∷◌, ◌++◌, decimal, codes}
+use Rattle.std.specs.List.{flat_map, filter_map, list_any}
 use Rattle.union_words.specs.Lines.{lines_of}
 use Rattle.union_words.specs.Words.{LibraryFile}
 use Rattle.union_explain.specs.Located.{located}
 use Rattle.union_explain.specs.Reports.{refused_by, rising}
-use Rattle.union_explain.specs.Rows.{rows_of, row_count, heading}
+use Rattle.union_explain.specs.Rows.{rows_of, row_count, any_astray, heading}
 use Rattle.union_explain.specs.declared.form.Form.{Form}
 use Rattle.union_explain.specs.declared.reported.Reported.{Reported}
 
@@ -31,6 +31,11 @@ abbrev pub table_rows : List ℕ → (List ℕ → List ℕ) → List LibraryFil
 table_rows report contents [] = 0
 table_rows report contents (file ∷ rest) =
     row_count (located (contents file.path)) (refused_in report file.library) + table_rows report contents rest
+
+-- some line that the report has of these libraries tells of no frame of its file
+abbrev pub are_astray : List ℕ → (List ℕ → List ℕ) → List LibraryFile → Bool
+are_astray report contents libraries =
+    list_any (λ file. any_astray (located (contents file.path)) (refused_in report file.library)) libraries
 
 -- how many lines are not empty
 abbrev pub told_lines : List (List ℕ) → ℕ

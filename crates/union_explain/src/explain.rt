@@ -1,10 +1,10 @@
 //! The rows of one library.
-ghost use Rattle.std.specs.Prelude.{◌≡◌, ◌+◌, ◌++◌, ℕ, List, Some, IfOk, MatchResult};
+ghost use Rattle.std.specs.Prelude.{◌≡◌, ◌+◌, ◌++◌, ◌||◌, ℕ, List, Some, IfOk, MatchResult};
 ghost use Rattle.std.specs.declared.option.Option.{Option};
 ghost use Rattle.union_explain.specs.Located.{located};
 ghost use Rattle.union_explain.specs.Readings.{CountsStop};
 ghost use Rattle.union_explain.specs.Reports.{IsRising};
-ghost use Rattle.union_explain.specs.Rows.{rows_of, row_count};
+ghost use Rattle.union_explain.specs.Rows.{rows_of, row_count, any_astray};
 
 use crate::form::Form;
 use crate::locator::Locator;
@@ -15,7 +15,8 @@ use std::alloc::Global;
 use union_io::source::Source;
 
 /// Adds the row of each refused record of a library, whose file the source is. A refused record whose frame the file has not
-/// gets no row. The file is read as far as the last refused record reaches, and each of its bytes is looked at once.
+/// gets no row, and the table notes that.
+/// The file is read as far as the last refused record reaches, and each of its bytes is looked at once.
 pub fn add_rows<S: Source>(
     alloc: Global,
     form: Form,
@@ -30,6 +31,8 @@ pub fn add_rows<S: Source>(
         → table.new.text ≡ table.old.text ++ rows_of form library.now (located bytes) refused.now) }
     ensures rows { IfOk result (λ _. (bytes : List ℕ) → S.left source.old ≡ Some bytes
         → table.new.rows ≡ table.old.rows + row_count (located bytes) refused.now) }
+    ensures astray { IfOk result (λ _. (bytes : List ℕ) → S.left source.old ≡ Some bytes
+        → table.new.astray ≡ (table.old.astray || any_astray (located bytes) refused.now)) }
     ensures faults { MatchResult result (λ _. S.faults source.new ≡ S.faults source.old)
         (λ stop. CountsStop stop (S.faults source.old) (S.faults source.new)) }
 {
@@ -40,6 +43,8 @@ pub fn add_rows<S: Source>(
         let found = locator.nth(told.number - passed - 1, source)?;
         if found {
             table.add(alloc, form, library, told, locator.frame())?;
+        } else {
+            table.miss();
         }
         passed = told.number;
         rest = behind;

@@ -1,18 +1,20 @@
 //! A frame that is gathered byte by byte.
 ghost use Rattle.std.specs.Prelude.{◌≡◌, ◌+◌, ◌<◌, ◌≤◌, ◌^◌, ◌∷◌, ◌++◌, [], ℕ, List, OnOk, IsTrue, ◌||◌, ◌==◌};
-ghost use Rattle.iso2709_frame.specs.Frames.{is_break};
+ghost use Rattle.iso2709_frame.specs.Frames.{is_break, is_terminator};
 ghost use Rattle.union_explain.specs.Located.{frame_at};
 
-use iso2709_frame::cut::{CARRIAGE_RETURN, LARGEST_FRAME, LINE_FEED};
+use iso2709_frame::cut::{CARRIAGE_RETURN, LARGEST_FRAME, LINE_FEED, RECORD_TERMINATOR};
 use std::alloc::Global;
 use std::marker::Model;
 use union_base::memory::Memory;
 
-/// A frame and where it stands. Contracts see the offset of its first byte, its length, and its first 99,999 bytes.
+/// A frame and where it stands. Contracts see the offset of its first byte, its length, whether a record terminator ends it,
+/// and its first 99,999 bytes.
 #[derive(Drop)]
 pub struct Frame {
     first: u64,
     size: u64,
+    ended: bool,
     bytes: Vec<u8>,
 }
 
@@ -32,12 +34,20 @@ fn is_break(byte: u8) -> bool
     byte == CARRIAGE_RETURN || byte == LINE_FEED
 }
 
+/// Whether a piece has a record terminator that had one or not, and now this byte.
+fn is_ended_by(ended: bool, byte: u8) -> bool
+    ensures { result ≡ (ended || is_terminator byte) }
+{
+    ended || byte == RECORD_TERMINATOR
+}
+
 impl Frame {
     /// A frame of no bytes. Takes no memory.
     pub fn new(alloc: Global) -> Frame {
         Frame {
             first: 0,
             size: 0,
+            ended: false,
             bytes: Vec::new(alloc),
         }
     }
@@ -56,6 +66,13 @@ impl Frame {
         self.size
     }
 
+    /// Whether a record terminator ends it. Takes no memory.
+    pub fn is_ended(&self) -> bool
+        ensures { result ≡ self.now.ended }
+    {
+        self.ended
+    }
+
     /// Its bytes, of a longer one the first 99,999. Takes no memory.
     pub fn bytes(&self) -> &[u8]
         ensures { result.now ≡ self.now.bytes }
@@ -69,6 +86,7 @@ impl Frame {
     {
         self.first = at;
         self.size = 0;
+        self.ended = false;
         self.bytes.clear();
     }
 
@@ -78,6 +96,8 @@ impl Frame {
         ensures { OnOk result ((at : ℕ) (front : List ℕ) → self.old ≡ frame_at at front
             → self.new ≡ frame_at at (front ++ byte ∷ [])) }
     {
+        let ended = is_ended_by(self.ended, byte);
+        self.ended = ended;
         if self.size == 0 && is_break(byte) {
             self.first += 1;
             return Ok(());

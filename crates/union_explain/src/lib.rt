@@ -9,6 +9,7 @@
 //! Cost: each byte of a file is looked at once. Memory grows with the report, and never with a file.
 #![tactic(auto)]
 
+pub mod broken;
 pub mod byte_reader;
 pub mod explain;
 pub mod form;

@@ -34,8 +34,9 @@ A ROW HAS NINE COLUMNS, parted by tabs
     length          how many bytes it has
     control number  its 001, where that can be read
     tag             the tag of the field that the rule is about, where it is one
-    rule            the rule that it breaks
-    what it says    what the rule finds in the record
+    rule            the rule that the report names
+    what it says    what the rule finds in the record; where the record of that
+                    number does not break it there, that the file is another
     what to do      how such a record is mended
 
     --csv writes CSV with a heading: each column between quotation marks, parted
@@ -49,6 +50,8 @@ THE COUNTS
 
 EXIT STATUS
     0    done
+    1    done, and a file is not the one of the report: a refused line names a
+         record that it has not, or that does not break that rule at that place
     2    bad command line
     3    cannot open: a library's file could not be opened
     4    read failed: the report or a file could not be read

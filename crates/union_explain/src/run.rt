@@ -1,5 +1,5 @@
 //! The table of a report: the rows of each library that the command names.
-ghost use Rattle.std.specs.Prelude.{◌≡◌, ◌+◌, ◌-◌, ◌^◌, ◌++◌, decimal, min, ℕ, List, Some, IfOk, IfErr, OnOk, IsTrue};
+ghost use Rattle.std.specs.Prelude.{◌≡◌, ◌+◌, ◌-◌, ◌^◌, ◌++◌, ◌||◌, decimal, min, ℕ, List, Some, IfOk, IfErr, OnOk, IsTrue};
 ghost use Rattle.std.specs.declared.option.Option.{Option};
 ghost use Rattle.union_io.specs.Causes.{Rose};
 ghost use Rattle.union_io.specs.Counts.{SameCounts};
@@ -9,8 +9,8 @@ ghost use Rattle.union_words.specs.Lines.{lines_of};
 ghost use Rattle.union_explain.specs.Located.{located};
 ghost use Rattle.union_explain.specs.Readings.{CountsStop};
 ghost use Rattle.union_explain.specs.Reports.{IsRising};
-ghost use Rattle.union_explain.specs.Rows.{rows_of, row_count};
-ghost use Rattle.union_explain.specs.Runs.{table_text, table_rows, told_lines, counts_text};
+ghost use Rattle.union_explain.specs.Rows.{rows_of, row_count, any_astray};
+ghost use Rattle.union_explain.specs.Runs.{table_text, table_rows, are_astray, told_lines, counts_text};
 
 use crate::byte_reader::ByteReader;
 use crate::explain::add_rows;
@@ -74,6 +74,9 @@ fn read_file<F: Shelf>(
     ensures rows { OnOk result ((contents : List ℕ → List ℕ) → F.files shelf.old ≡ Some contents
         → table.new.rows ≡ table.old.rows + row_count (located (contents file.now.path.now))
         refused.now) }
+    ensures astray { OnOk result ((contents : List ℕ → List ℕ) → F.files shelf.old ≡ Some contents
+        → table.new.astray ≡ (table.old.astray
+        || any_astray (located (contents file.now.path.now)) refused.now)) }
     ensures early { IfErr result (λ status. IsTrue (is_early status)) }
     ensures calm { OnOk result (SameCounts (F.faults shelf.old) (F.faults shelf.new)) }
     ensures fault { IfErr result (λ status. IsTrue (is_input_fault status)
@@ -119,6 +122,9 @@ pub fn table_of<F: Shelf>(
     ensures rows { IfOk result (λ table. (contents : List ℕ → List ℕ)
         → F.files shelf.old ≡ Some contents
         → table.rows ≡ table_rows report.now contents (libraries_meaning libraries.now)) }
+    ensures astray { IfOk result (λ table. (contents : List ℕ → List ℕ)
+        → F.files shelf.old ≡ Some contents
+        → table.astray ≡ are_astray report.now contents (libraries_meaning libraries.now)) }
     ensures early { IfErr result (λ status. IsTrue (is_early status)) }
     ensures calm { OnOk result (SameCounts (F.faults shelf.old) (F.faults shelf.new)) }
 {

@@ -1,4 +1,5 @@
-//! What the rows say: for each rule, what it finds in the record, and what to do.
+//! What the rows say: for each rule, what it finds in the record, and what to do; and what is said where the file is not the
+//! one of the report.
 
 pub const TRUNCATED: &[u8] =
     b"The file ends before the record does: its last record terminator is missing.";
@@ -130,3 +131,13 @@ pub const NO_TITLE_ADVICE: &[u8] =
 pub const SECOND_TITLE: &[u8] = b"This is a second 245.";
 
 pub const SECOND_TITLE_ADVICE: &[u8] = b"Keep one 245; make the other a 246.";
+
+pub const NO_RULE: &[u8] =
+    b"The file is not the one of the report: the record of this number breaks no rule.";
+
+pub const OTHER_RULE: &[u8] =
+    b"The file is not the one of the report: the record of this number breaks another rule, or \
+    this one elsewhere.";
+
+pub const OTHER_FILE_ADVICE: &[u8] =
+    b"Name the file as it was when the report was written, or have this file checked again.";

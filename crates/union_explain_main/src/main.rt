@@ -11,6 +11,7 @@ use union_explain::form::Form;
 use union_explain::request::{HELP, Request, VERSION};
 use union_explain::run::{counts_text, read_all, table_of};
 use union_explain::stop::Stop;
+use union_explain::table::Table;
 use union_io::failed::Failed;
 use union_io::file_shelf::FileShelf;
 use union_io::reader_source::ReaderSource;
@@ -104,6 +105,18 @@ fn told<O: Sink>(out: &mut O, text: &[u8]) -> Status {
     }
 }
 
+/// Writes the table, and then the counts: the status is 1 where a file is not the one of the report.
+fn written(out: &mut OutSink, notes: &mut ErrSink, table: &Table, counts: &[u8]) -> Status {
+    match told(out, table.text()) {
+        Status::Done => (),
+        status => return status,
+    }
+    match told(notes, counts) {
+        Status::Done if table.is_astray() => Status::DoneWithRefusals,
+        status => status,
+    }
+}
+
 /// Explains the report that standard input is.
 fn explain(
     rt: &HostRuntime,
@@ -130,10 +143,7 @@ fn explain(
     End::Status(
         match table_of(alloc, form, libraries, report.as_slice(), &mut shelf) {
             Ok(table) => match counts_text(alloc, report.as_slice(), table.rows()) {
-                Ok(counts) => match told(out, table.text()) {
-                    Status::Done => told(notes, counts.as_slice()),
-                    status => status,
-                },
+                Ok(counts) => written(out, notes, &table, counts.as_slice()),
                 Err(_) => Status::Memory,
             },
             Err(status) => status,

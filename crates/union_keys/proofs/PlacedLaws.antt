@@ -9,7 +9,7 @@ use Rattle.iso2709_frame.specs.declared.cut.Cut.TheVariants.{Whole, TooLong, Tru
 use Rattle.iso2709_frame.specs.Frames.{is_terminator, first_piece, skip_breaks, cut_of, cut_piece, IsWhole}
 use Rattle.iso2709_frame.proofs.FrameLaws.{list_any-skip_breaks}
 use Rattle.iso2709_frame.proofs.PieceLaws.{IsWhole-fed, first_piece-rest}
-use Rattle.union_keys.specs.Placed.{Placed, placed_at, placed_piece, placed_later, placed_from}
+use Rattle.union_keys.specs.Placed.{placed_at, placed_piece, placed_later, placed_from}
 
 -- the frames after the first piece are those of what comes after it
 placed_later-next : (at : ℕ) (text : List ℕ)

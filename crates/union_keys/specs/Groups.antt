@@ -1,5 +1,6 @@
--- Groups of records, as a text names them: an id `LIB.CTL` on each line, and an empty line after each group.
-use Rattle.std.specs.Prelude.{ℕ, ◌==◌, List, [], ◌∷◌, ◌++◌, fold, Option, Some, None, if◌then◌else◌}
+-- Groups of records, as a text names them: an id `LIB.CTL` on each line, and an empty line after each group. Lines that are not
+-- empty, one after the other, are a group.
+use Rattle.std.specs.Prelude.{ℕ, ◌==◌, Bool, true, false, List, [], ◌∷◌, ◌++◌, fold, Option, Some, None, if◌then◌else◌}
 use Rattle.std.specs.BTreeMap.{is_at, insert_entry}
 use Rattle.std.specs.List.{before_first, after_first}
 use Rattle.std.specs.Map.{lookup}
@@ -37,11 +38,11 @@ at_id table (Some id) = lookup (is_at (id_cmp id)) table
 abbrev pub named_by : Table → List ℕ → Option Standing
 named_by table line = at_id table (id_in line)
 
--- the groups of lines, where the first of them go on with a group that has these records already. A line that names no record adds
--- none. What follows the last empty line is a group too, where it names a record
-abbrev pub groups_from : Table → List (List ℕ) → List Standing → List (List Standing)
-groups_from table [] [] = []
-groups_from table [] (s ∷ members) = (s ∷ members) ∷ []
-groups_from table ([] ∷ lines) members = members ∷ groups_from table lines []
-groups_from table ((b ∷ line) ∷ lines) members =
-    groups_from table lines (members ++ option_to_list (named_by table (b ∷ line)))
+-- the groups of lines, where `begun` tells whether a group is begun, which has these records already. A line that names no record
+-- adds none. An empty line ends the group that is begun, and makes none where none is
+abbrev pub groups_from : Table → List (List ℕ) → Bool → List Standing → List (List Standing)
+groups_from table [] begun members = (if begun then members ∷ [] else [])
+groups_from table ([] ∷ lines) begun members =
+    (if begun then members ∷ groups_from table lines false [] else groups_from table lines false members)
+groups_from table ((b ∷ line) ∷ lines) begun members =
+    groups_from table lines true (members ++ option_to_list (named_by table (b ∷ line)))

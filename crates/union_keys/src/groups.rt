@@ -1,5 +1,5 @@
 //! The lines of groups of records.
-ghost use Rattle.std.specs.Prelude.{◌≡◌, ◌==◌, ◌++◌, ◌∷◌, [], ℕ, List, length, IfOk, OnOk};
+ghost use Rattle.std.specs.Prelude.{◌≡◌, ◌==◌, ◌++◌, ◌∷◌, [], true, false, ℕ, List, length, IfOk, OnOk};
 ghost use Rattle.std.specs.Option.{option_to_list};
 ghost use Rattle.union_words.specs.Lines.{lines_of};
 ghost use Rattle.union_keys.specs.Groups.{table_of, id_in, named_by, groups_from};
@@ -64,12 +64,13 @@ fn named_by(
     }
 }
 
-/// The lines so far of groups, the records of the group that is not ended, and what is to be told.
+/// The lines so far of groups, the records of the group that is begun, if one is, and what is to be told.
 #[derive(Drop)]
 struct Written {
     text: Vec<u8>,
     notes: Vec<u8>,
     members: Vec<Standing>,
+    begun: bool,
     groups: u64,
 }
 
@@ -86,6 +87,7 @@ impl Written {
         ensures line { OnOk result ((count : ℕ)
             × AddsLine self.old.members.items self.old.text.items self.new.text.items count) }
         ensures members { OnOk result (self.new.members.items ≡ []) }
+        ensures begun { OnOk result (self.new.begun ≡ false) }
     {
         self.groups = self.groups.saturating_add(1);
         let count = add_line(alloc, &mut self.text, self.members.as_slice())?;
@@ -95,6 +97,7 @@ impl Written {
             self.notes.extend_from_slice(b" editions\n")?;
         }
         self.members.clear();
+        self.begun = false;
         Ok(())
     }
 
@@ -107,8 +110,10 @@ impl Written {
     ) -> Result<(), Memory>
         ensures members { OnOk result (self.new.members.items
             ≡ self.old.members.items ++ option_to_list (named_by table.now.entries line.now)) }
+        ensures begun { OnOk result (self.new.begun ≡ true) }
         ensures text { OnOk result (self.new.text.items ≡ self.old.text.items) }
     {
+        self.begun = true;
         match named_by(alloc, table, line)? {
             Some(standing) => self.members.push(standing)?,
             None => {
@@ -131,29 +136,32 @@ pub fn group_lines(
     groups: &[u8],
 ) -> Result<(Vec<u8>, Vec<u8>), Memory>
     ensures { IfOk result (λ written.
-        AddsLines (groups_from table.now.entries (lines_of groups.now) []) [] written.0.items) }
+        AddsLines (groups_from table.now.entries (lines_of groups.now) false []) []
+        written.0.items) }
 {
     let mut written = Written {
         text: Vec::new(alloc),
         notes: Vec::new(alloc),
         members: Vec::new(alloc),
+        begun: false,
         groups: 0,
     };
     let mut lines = Lines::of(groups);
     while let Some(line) = lines.next() {
-        if line.is_empty() {
-            written.end_group(alloc)?;
-        } else {
+        if !line.is_empty() {
             written.add_member(alloc, table, line)?;
+        } else if written.begun {
+            written.end_group(alloc)?;
         }
     }
-    if !written.members.is_empty() {
+    if written.begun {
         written.end_group(alloc)?;
     }
     let Written {
         text,
         notes,
         members: _,
+        begun: _,
         groups: _,
     } = written;
     Ok((text, notes))

@@ -42,6 +42,7 @@ WHAT IS WRITTEN
 
 GROUPS
     PATH has a line LIB.CTL for each record, and an empty line after each group.
+    An empty line where no group is begun makes none.
 
 STANDARD ERROR
     'LIB refused FRAME RULE PLACE' for each refused record, as union check has

@@ -14,7 +14,7 @@ invariant-loop-told g l = record {
   remains : (bytes : List ℕ) → g.S.Source.left l.fn.source ≡ Some bytes
       → Remains l.form l.library (located bytes) l.refused l.rest l.passed
       (located_ahead l.locator.at (ahead l.locator.unread (g.S.Source.left l.source)))
-      l.fn.table.text l.table.text l.fn.table.rows l.table.rows;
+      l.fn.table.text l.table.text l.fn.table.rows l.table.rows l.fn.table.astray l.table.astray;
 }
 
 abbrev pub decreases-loop-told : goal.decreases-loop-told

@@ -15,3 +15,8 @@ pub returns-in-Ok-added-clause-rows : goal.returns-in-Ok-added-clause-rows
 returns-in-Ok-added-clause-rows g c contents is =
     c.in-Ok-added.ensures.rows (contents c.args.file.now.path.now)
     (c.in-Ok-open.ensures.left ∙ (ap (λ files. told_file files c.in-Ok.path) is ∙ ap (λ path. Some (contents path)) c.in-Ok.ensures))
+
+pub returns-in-Ok-added-clause-astray : goal.returns-in-Ok-added-clause-astray
+returns-in-Ok-added-clause-astray g c contents is =
+    c.in-Ok-added.ensures.astray (contents c.args.file.now.path.now)
+    (c.in-Ok-open.ensures.left ∙ (ap (λ files. told_file files c.in-Ok.path) is ∙ ap (λ path. Some (contents path)) c.in-Ok.ensures))

@@ -1,9 +1,11 @@
-use Rattle.std.proofs.Common.{◌≡◌, ◌++◌, ◌+◌, ◌∙◌, ap}
+use Rattle.std.proofs.Common.{◌≡◌, ◌++◌, ◌+◌, ◌||◌, ◌∙◌, sym, ap, arith}
+use Rattle.std.proofs.lemmas.List.{drop_all}
 use Rattle.union_words.specs.Meanings.{libraries_meaning, file_meaning}
 use Rattle.union_explain.specs.Located.{located}
-use Rattle.union_explain.specs.Rows.{rows_of, row_count}
-use Rattle.union_explain.specs.Runs.{refused_in}
-use Rattle.union_explain.proofs.RunLaws.{text-next, rows-next}
+use Rattle.union_explain.specs.Rows.{rows_of, row_count, any_astray}
+use Rattle.union_explain.specs.Runs.{refused_in, are_astray}
+use Rattle.union_explain.proofs.RowLaws.{or_none}
+use Rattle.union_explain.proofs.RunLaws.{text-next, rows-next, astray-next}
 use Rattle.union_explain.proofs.run.table_of.Goals as goal
 
 pub loop-place-preserved : goal.loop-place-preserved
@@ -27,4 +29,17 @@ loop-place-preserved g c =
           (c.in_ok-read_file-in-Ok-refused_of.ensures.rows contents (c.loop-place.invariant.files ∙ is)
           ∙ ap (λ xs. c.loop-place.table.rows + row_count (located (contents file.path)) xs) refused)
           (c.loop-place.invariant.rows contents is);
+      astray = λ contents is.
+          astray-next c.args.report.now contents all c.loop-place.place file c.loop-place.table.astray c.read_file.new.table.astray _
+          c.at-file.ensures
+          (c.in_ok-read_file-in-Ok-refused_of.ensures.astray contents (c.loop-place.invariant.files ∙ is)
+          ∙ ap (λ xs. c.loop-place.table.astray || any_astray (located (contents file.path)) xs) refused)
+          (c.loop-place.invariant.astray contents is);
     }
+
+pub returns-clause-astray : goal.returns-clause-astray
+returns-clause-astray g c = λ contents is.
+    let all = libraries_meaning c.args.libraries.now in
+    let none = drop_all c.loop-place.place all (omega (arith, c.loop-place-test.false, c.len-place-end.ensures.value)) in
+    or_none c.loop-place.table.astray
+    ∙ (ap (λ xs. c.loop-place.table.astray || are_astray c.args.report.now contents xs) (sym none) ∙ c.loop-place.invariant.astray contents is)

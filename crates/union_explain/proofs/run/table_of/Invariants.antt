@@ -1,7 +1,7 @@
-use Rattle.std.proofs.Common.{◌≡◌, ◌+◌, ◌++◌, ℕ, List, Some, drop}
+use Rattle.std.proofs.Common.{◌≡◌, ◌+◌, ◌++◌, ◌||◌, ℕ, List, Some, drop}
 use Rattle.union_io.specs.Counts.{SameCounts}
 use Rattle.union_words.specs.Meanings.{libraries_meaning}
-use Rattle.union_explain.specs.Runs.{all_rows, table_text, table_rows}
+use Rattle.union_explain.specs.Runs.{all_rows, table_text, table_rows, are_astray}
 use Rattle.union_explain.proofs.run.table_of.Given as goal
 
 -- the rows so far and those of the libraries that are left are all of them
@@ -15,4 +15,7 @@ invariant-loop-place g l = record {
   rows : (contents : List ℕ → List ℕ) → g.F.Shelf.files l.fn.shelf ≡ Some contents
       → l.table.rows + table_rows l.report contents (drop l.place (libraries_meaning l.libraries))
       ≡ table_rows l.report contents (libraries_meaning l.libraries);
+  astray : (contents : List ℕ → List ℕ) → g.F.Shelf.files l.fn.shelf ≡ Some contents
+      → (l.table.astray || are_astray l.report contents (drop l.place (libraries_meaning l.libraries)))
+      ≡ are_astray l.report contents (libraries_meaning l.libraries);
 }

@@ -3,7 +3,7 @@ use Rattle.std.proofs.lemmas.Bool.{eqb-true, eq-eqb}
 use Rattle.std.proofs.lemmas.List.{length-take-le}
 use Rattle.std.proofs.Math.Seq.{take-length}
 use Rattle.std.specs.List.{list_any}
-use Rattle.iso2709_frame.specs.Frames.{is_terminator, first_piece}
+use Rattle.iso2709_frame.specs.Frames.{is_terminator}
 use Rattle.iso2709_frame.proofs.FrameLaws.{IsOpen}
 use Rattle.iso2709_frame.proofs.PieceLaws.{IsOpen-take, first_piece-found, first_piece-all}
 use Rattle.union_keys.proofs.frame_cut.piece_size.Goals as goal

@@ -1,4 +1,4 @@
-use Rattle.std.proofs.Common.{◌≡◌, []}
+use Rattle.std.proofs.Common.{◌≡◌}
 use Rattle.std.specs.Prelude.{fold}
 use Rattle.union_keys.specs.Groups.{put_standing, table_of}
 use Rattle.union_keys.proofs.groups.table_of.Given as goal

@@ -1,4 +1,4 @@
-use Rattle.std.proofs.Common.{◌≡◌, ℕ, List, [], length}
+use Rattle.std.proofs.Common.{ℕ, List, [], length}
 use Rattle.union_keys.specs.Lines.{AddsLines, alone}
 use Rattle.union_keys.proofs.run.each_line.Given as goal
 

@@ -1,4 +1,4 @@
-use Rattle.std.proofs.Common.{◌≡◌, ◌≤◌, ◌+◌, ℕ, length}
+use Rattle.std.proofs.Common.{◌≡◌, ◌≤◌, ◌+◌, length}
 use Rattle.union_keys.specs.Placed.{placed, placed_from}
 use Rattle.union_keys.specs.Readings.{Read, TakesAll}
 use Rattle.union_keys.proofs.reading.Reading.take_text.Given as goal
