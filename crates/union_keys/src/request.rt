@@ -9,7 +9,7 @@ use union_words::libraries::Libraries;
 use union_words::number::option_text;
 
 /// The answer to `--version`.
-pub const VERSION: &[u8] = b"union-keys 0.3.0\n";
+pub const VERSION: &[u8] = b"union-keys 0.4.0\n";
 
 /// The answer to `--help`.
 pub const HELP: &[u8] = b"\
