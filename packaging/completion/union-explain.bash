@@ -1,15 +1,24 @@
-# bash completion for union-explain(1)
+# bash completion for union-explain(1), union-keys(1) and union-cluster(1)
 
-_union_explain() {
-  local word=$2
+_union_tools() {
+  local word=$2 options=""
   COMPREPLY=()
+  # The line is parted at each '=', so the word after one is a path.
   if [ "$word" = "=" ] || [ "${COMP_WORDS[COMP_CWORD - 1]}" = "=" ]; then
     [ "$word" != "=" ] || word=""
     compopt -o filenames 2>/dev/null
     mapfile -t COMPREPLY < <(compgen -f -- "$word")
-  elif [ "$COMP_CWORD" -eq 1 ]; then
-    mapfile -t COMPREPLY < <(compgen -W "--csv --help --version" -- "$word")
+    return
   fi
+  case ${1##*/}:$COMP_CWORD in
+    union-explain:1) options="--csv --help --version" ;;
+    union-keys:1) options="--groups= --help --version" ;;
+    union-cluster:*)
+      options="--scheduler= --workers= --parts= --memory= --scratch= --block= --prefer= --names= --json --union= --keys= --progress --help --version"
+      ;;
+  esac
+  mapfile -t COMPREPLY < <(compgen -W "$options" -- "$word")
+  [[ ${COMPREPLY[0]-} != --*= ]] || compopt -o nospace 2>/dev/null
 }
 
-complete -F _union_explain union-explain
+complete -F _union_tools union-explain union-keys union-cluster
