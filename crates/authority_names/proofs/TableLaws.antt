@@ -1,5 +1,5 @@
 -- What holds of the entries of a table: what they have at a heading, and what stays where one is put in.
-use Rattle.std.proofs.Common.{◌≡◌, ◌==◌, ℕ, zero, suc, ◌+◌, ◌<◌, ◌≤◌, Bool, true, false, cond, if◌then◌else◌, List, [], ◌∷◌, map, length, slice_get, nat_eq, refl, sym, ap, subst, ◌∙◌, inl, inr, is_some, unwrap_or, get_or, arith}
+use Rattle.std.proofs.Common.{◌≡◌, ◌==◌, ℕ, zero, suc, ◌+◌, ◌<◌, ◌≤◌, Bool, true, false, cond, if◌then◌else◌, List, [], ◌∷◌, map, length, slice_get, nat_eq, ◌++◌, true≢false, refl, sym, ap, subst, ◌∙◌, inl, inr, is_some, unwrap_or, get_or, arith}
 use Rattle.std.specs.Prelude.{◌⊎◌, Option, None, Some, not, filter, count_by}
 use Rattle.std.specs.Cmp.Lexicographic.{pointwise, nat_list_eq_equiv, nat_list_cmp_total, texts_ties, slice_cmp}
 use Rattle.std.specs.FinMap.{get, find, get-from_entries}
@@ -41,6 +41,15 @@ pub at_heading : (entries : Entries) (x : List ℕ) → get (table_of entries) x
 at_heading entries x =
     get-from_entries nat_list_cmp_total (map (λ e. (e.0, heading_at (keys_of entries) e.1)) entries) x
     ∙ find_mapped (heading_at (keys_of entries)) entries x
+
+-- a heading that the entries do not have goes last
+pub insert-fresh : (entries : Entries) (k : List ℕ) (v : Lead) → entry_at entries k ≡ None → insert_entry (pointwise nat_eq) entries k v ≡ entries ++ (k, v) ∷ []
+insert-fresh [] k v none = refl
+insert-fresh (e ∷ es) k v none =
+    elim (pointwise nat_eq k e.0) as (λ b. cond b (Some e.1) (entry_at es k) ≡ None → (if b then (e.0, v) ∷ es else e ∷ insert_entry (pointwise nat_eq) es k v) ≡ e ∷ (es ++ (k, v) ∷ [])) [
+      | true ↦ λ is. absurd (true≢false (ap is_some is))
+      | false ↦ λ is. ap (λ (rest : Entries). e ∷ rest) (insert-fresh es k v is)
+    ] none
 
 -- a heading keeps its place where one is put in
 pub kept_place : (entries : Entries) (k : List ℕ) (v : Lead) (i : ℕ) (t : List ℕ)

@@ -1,11 +1,14 @@
 -- A table of names as a value: what it has at each heading that stands in a record.
-use Rattle.std.specs.Prelude.{◌≡◌, ℕ, true, List, [], ◌∷◌, Option, None, Some, if◌then◌else◌, unwrap_or}
+use Rattle.std.specs.Prelude.{◌≡◌, ℕ, true, List, [], ◌∷◌, Option, None, Some, if◌then◌else◌, map, unwrap_or}
 use Rattle.std.specs.Ordering.{nat_cmp}
 use Rattle.std.specs.Cmp.Lexicographic.{slice_cmp}
 use Rattle.std.specs.FinMap as finite
 use Rattle.std.specs.Option.{option_and_then}
 use Rattle.workset_keys.specs.Texts.{is_key_text}
-use Rattle.workset_keys.specs.WorkKeys.{or_else}
+use Rattle.union_base.specs.declared.field.Field.{Field}
+use Rattle.workset_keys.specs.Laws.{IsLeastOrNone}
+use Rattle.workset_keys.specs.Names.{name_of}
+use Rattle.workset_keys.specs.WorkKeys.{or_else, least_of}
 use Rattle.authority_names.specs.Names.{is_same, Authority, is_established, led_to, the_one}
 
 -- the heading that each heading leads to, or `None` at one that leads to no other, whatever is added
@@ -46,3 +49,8 @@ abbrev pub joined_lead : Option (Option (List ℕ)) → List ℕ → Option (Lis
 joined_lead None t = Some t
 joined_lead (Some None) t = None
 joined_lead (Some (Some u)) t = if is_same u t then Some u else None
+
+-- the least of the headings that a table has for the names of fields is a least one of them
+abbrev pub LeastUsedIsLeast : Type 0
+LeastUsedIsLeast =
+    (table : Table) (fields : List Field) → IsLeastOrNone (map (λ f. used_for table (name_of f)) fields) (least_of (map (λ f. used_for table (name_of f)) fields))

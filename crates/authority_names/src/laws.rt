@@ -1,7 +1,9 @@
 //! What holds of the names that records give, and of their tables.
 ghost use Rattle.std.specs.Prelude.{◌≡◌, ℕ, List, Option, IsPermutation};
 ghost use Rattle.authority_names.specs.Names.{Authority, IsSize, name_at, see};
-ghost use Rattle.authority_names.specs.Leads.{Table, IsTableOf};
+ghost use Rattle.authority_names.specs.Leads.{Table, IsTableOf, LeastUsedIsLeast};
+
+use workset_keys::laws::least_name_is_least;
 
 /// A heading that is used for a name stands for itself.
 pub fn seen_once()
@@ -23,3 +25,11 @@ pub fn one_size()
     ensures { (table : List ℕ → Option (List ℕ)) (m n : ℕ) → IsSize table m → IsSize table n
         → m ≡ n }
 {}
+
+/// The least of the headings that are used for the names of added entries is one of them, is not empty, and no other that is not
+/// empty comes before it in the order of bytes; or all of them are empty, and then it is empty.
+pub fn least_used_is_least()
+    ensures { LeastUsedIsLeast }
+{
+    least_name_is_least();
+}

@@ -2,7 +2,7 @@
 //!
 //! Guarantee: a heading that is put in is told apart from all others, and what a heading leads to is a place among the
 //! headings, so that no heading is held twice. Cost: two look-ups for a see-from heading, and one for an established one.
-ghost use Rattle.std.specs.Prelude.{◌≡◌, ◌+◌, ◌<◌, ◌≤◌, List, ℕ, Some, None, length, slice_get, option_copied, if◌then◌else◌, nat_eq, count_by};
+ghost use Rattle.std.specs.Prelude.{◌≡◌, ◌+◌, ◌<◌, ◌≤◌, List, ℕ, Some, None, IfOk, length, slice_get, option_copied, if◌then◌else◌, nat_eq, count_by};
 ghost use Rattle.std.specs.FinMap.{get};
 ghost use Rattle.std.specs.List.{list_any};
 ghost use Rattle.indexmap.specs.IndexMap.{keys, spare, IsUnique};
@@ -13,7 +13,10 @@ ghost use Rattle.authority_names.specs.Places.{leads, joined_place, table_of, Ha
 
 use indexmap::IndexMap;
 use key_hashing::hashing::Hashing;
+use std::alloc::Global;
 use union_base::bytes::Bytes;
+use union_base::copied::Copied;
+use union_base::memory::Memory;
 
 /// What a heading leads to.
 #[derive(Clone, Copy, Debug, PartialEq, Eq)]
@@ -26,6 +29,18 @@ pub(crate) enum Lead {
 
 /// The headings, each with what it leads to.
 pub(crate) type Headings = IndexMap<Bytes, Lead, Hashing>;
+
+/// A copy of the headings, in their order. Returns `Memory` if allocation fails.
+pub(crate) fn headings_copied(alloc: Global, headings: &Headings) -> Result<Headings, Memory>
+    ensures { IfOk result (λ copy. copy.entries ≡ headings.now.entries) }
+{
+    let hashing = *headings.hasher();
+    let mut copy = IndexMap::with_capacity_and_hasher(alloc, headings.len(), hashing)?;
+    for (heading, lead) in headings.iter() {
+        copy.insert(heading.copied(alloc)?, *lead)?;
+    }
+    Ok(copy)
+}
 
 /// Puts in an established heading, and answers its place. Takes no memory.
 pub(crate) fn establish(headings: &mut Headings, heading: Bytes) -> usize

@@ -7,7 +7,7 @@ ghost use Rattle.workset_keys.specs.Texts.{is_key_text};
 ghost use Rattle.authority_names.specs.Records.{AnswersNames, refusal_of, taken_of};
 
 use crate::authority::names_of;
-use crate::leads::{Headings, establish, heading_from, how_many_lead, lead_all};
+use crate::leads::{Headings, establish, heading_from, headings_copied, how_many_lead, lead_all};
 use crate::refusal::NameRefusal;
 use indexmap::IndexMap;
 use key_hashing::hashing::Hashing;
@@ -61,6 +61,15 @@ impl NameTable {
         NameTable {
             headings: IndexMap::with_hasher(alloc, hashing),
         }
+    }
+
+    /// A copy of the table. Returns `Memory` if allocation fails.
+    pub fn copied(&self, alloc: Global) -> Result<NameTable, Memory>
+        ensures { IfOk result (λ copy. copy ≡ self.now) }
+    {
+        Ok(NameTable {
+            headings: headings_copied(alloc, &self.headings)?,
+        })
     }
 
     /// The numbers by which the table hashes its headings. Takes no memory.

@@ -49,7 +49,7 @@ fn change(
     gone: Vec<(Bytes, RecordId)>,
     come: Vec<(Bytes, RecordId)>,
 ) -> Result<(), Memory> {
-    let change = works.plan(alloc, gone, come)?;
+    let change = works.plan(gone, come);
     works.make_room(alloc, &change)?;
     works.install(change);
     Ok(())

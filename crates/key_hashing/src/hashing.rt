@@ -1,5 +1,5 @@
 //! The numbers by which a run hashes its keys.
-ghost use Rattle.std.specs.Prelude.{◌≡◌};
+ghost use Rattle.std.specs.Prelude.{◌≡◌, ◌/◌, ◌%◌, ◌^◌};
 ghost use Rattle.key_hashing.specs.Keyed.{begun};
 
 use crate::keyed_hasher::KeyedHasher;
@@ -28,8 +28,11 @@ impl Hashing {
         Hashing::of(0x9E37_79B9_7F4A_7C15_243F_6A88_85A3_08D3)
     }
 
-    /// The two halves of the bits.
-    fn of(bits: u128) -> Hashing {
+    /// The numbers that the two halves of the bits are: the low half begins a hash, and the high half multiplies.
+    fn of(bits: u128) -> Hashing
+        ensures state { result.state ≡ bits % 2 ^ 64 }
+        ensures multiplier { result.multiplier ≡ bits / 2 ^ 64 }
+    {
         Hashing {
             state: (bits & 0xFFFF_FFFF_FFFF_FFFF) as u64,
             multiplier: (bits >> 64) as u64,

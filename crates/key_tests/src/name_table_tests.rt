@@ -1,5 +1,5 @@
 //! Tables of names whose expected values another program made, and the laws.
-use authority_names::laws::{any_order, one_size, seen_once};
+use authority_names::laws::{any_order, least_used_is_least, one_size, seen_once};
 use authority_names::name_table::NameTable;
 use authority_names::refusal::NameRefusal;
 use key_hashing::hashing::Hashing;
@@ -45,6 +45,7 @@ fn laws(_rt: HostRuntime) -> Result<(), Fail> {
     seen_once();
     any_order();
     one_size();
+    least_used_is_least();
     Ok(())
 }
 

@@ -33,6 +33,11 @@ pub refusal-first : (refusal : DecodeRefusal) (first later : Option Failure) →
 refusal-first (RuleRefusal rule place) first later is = rw is refl
 refusal-first Memory first later is = tt
 
+-- a refusal that is made of a failure names it
+pub refusal-of : (refusal : DecodeRefusal) (found : Failure) (failure : Option Failure) → refusal ≡ RuleRefusal found.rule found.place → failure ≡ Some found
+    → IsRefusal refusal failure
+refusal-of refusal found failure is first = subst (λ r. IsRefusal r failure) (sym is) first
+
 -- where nothing fails at first, the later failure is the failure
 pub Answers-later : {T : Type 0} (result : Result T DecodeRefusal) (first later : Option Failure) (P Q : T → Type 0) → first ≡ None
     → ((value : T) → P value → Q value) → Answers result later P → Answers result (or_then first later) Q

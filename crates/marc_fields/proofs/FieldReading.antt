@@ -1,5 +1,5 @@
 -- What reading the fields at entries shows.
-use Rattle.std.proofs.Common.{◌≡◌, ℕ, suc, ◌+◌, ◌-◌, ◌<◌, ◌≤◌, Bool, true, false, not, ◌||◌, List, [], ◌∷◌, ◌++◌, length, get_or, take, drop, refl, sym, ◌∙◌, ap, arith, add-one, length-drop, Option, None, Some}
+use Rattle.std.proofs.Common.{◌≡◌, ℕ, zero, suc, ◌+◌, ◌-◌, ◌<◌, ◌≤◌, Bool, true, false, not, ◌&&◌, ◌||◌, List, [], ◌∷◌, ◌++◌, length, get_or, take, drop, refl, sym, ◌∙◌, ap, arith, add-one, append_assoc, length-drop, Option, None, Some}
 use Rattle.std.proofs.Math.Seq.{drop-cons}
 use Rattle.std.proofs.lemmas.Bool.{and_parts, and_from}
 use Rattle.std.proofs.lemmas.Bool.Decides.{nat_tests}
@@ -8,17 +8,18 @@ use Rattle.std.proofs.lemmas.List.Folds.{list_all-append}
 use Rattle.std.specs.List.{list_all}
 use Rattle.std.specs.Prelude.{◌==◌, nat_le, if◌then◌else◌}
 use Rattle.marc_leader.specs.declared.entry.Entry.{Entry}
-use Rattle.union_base.specs.Fields.{is_tag, is_control_tag}
+use Rattle.union_base.specs.Fields.{is_tag, is_control_tag, is_subfield_code}
 use Rattle.union_base.specs.declared.field.Field.{Field}
 use Rattle.marc_fields.specs.Directories.{is_formed}
 use Rattle.marc_fields.specs.Rows.{least_where_not, ends_in_only, fails, or_then}
 use Rattle.marc_fields.specs.Rules.{is_tile, range_of, text_of, is_control_shaped, is_data_shaped, shape_failure}
-use Rattle.marc_fields.specs.Shapes.{are_inner, is_inner, ends_no_record, has_shape, has_control_shape, has_data_shape, IsFieldOf}
+use Rattle.marc_fields.specs.Shapes.{are_inner, is_inner, begins_with_code, are_coded, are_indicated, ends_no_record, has_shape, has_control_shape, has_data_shape, IsFieldOf}
 use Rattle.marc_fields.specs.Spelling.{IsEntryOf, AreEntriesOf}
 use Rattle.marc_fields.specs.declared.rules.Rule.{Rule}
 use Rattle.marc_fields.specs.declared.rules.Rule.TheVariants.{ControlShape, DataShape}
 use Rattle.marc_fields.proofs.DirectoryLaws.{least-here, least-later, least-none}
 use Rattle.marc_fields.proofs.RowLaws.{ends-parts}
+use Rattle.marc_fields.proofs.ShapeLaws.{data_shape-parts}
 
 -- the value at a place, and the places after it
 least_at : {A : Type 0} (passes : A → Bool) (xs : List A) (i : ℕ) (x : A) → i < length xs → x ≡ get_or xs i x
@@ -151,3 +152,52 @@ pub shape_failure-none : (bytes : List ℕ) (entries : List Entry) → least_whe
     → least_where_not (is_data_shaped bytes) 1 entries ≡ None → shape_failure bytes entries ≡ None
 unfolding shape_failure
 shape_failure-none bytes entries control data_shaped = rw (control, data_shaped) refl
+
+-- a code follows each delimiter of bytes that are left
+coded-drop : (n : ℕ) (bytes : List ℕ) → are_coded bytes ≡ true → are_coded (drop n bytes) ≡ true
+coded-drop zero bytes coded = coded
+coded-drop (suc n) [] coded = refl
+coded-drop (suc n) (b ∷ bytes) coded = coded-drop n bytes (and_parts (not (b == 0x1F) || begins_with_code bytes) (are_coded bytes) coded).1
+
+-- and of bytes before a field terminator, which is no code
+coded-front : (text rest : List ℕ) → are_coded (text ++ 0x1E ∷ rest) ≡ true → are_coded text ≡ true
+coded-front [] rest coded = refl
+coded-front (b ∷ []) rest coded =
+    let both = and_parts (not (b == 0x1F) || false) (are_coded (0x1E ∷ rest)) coded in
+    and_from _ _ both.0 refl
+coded-front (b ∷ c ∷ text) rest coded =
+    let both = and_parts (not (b == 0x1F) || is_subfield_code c) (are_coded (c ∷ (text ++ 0x1E ∷ rest))) coded in
+    and_from _ _ both.0 (coded-front (c ∷ text) rest both.1)
+
+pub coded-tile : (bytes : List ℕ) (e : Entry) → is_tile bytes e ≡ true → are_coded bytes ≡ true → are_coded (text_of bytes e) ≡ true
+coded-tile bytes e is coded =
+    let tile = tile-parts bytes e is in
+    let behind = drop e.start bytes in
+    let text = text_of bytes e in
+    let whole : behind ≡ text ++ 0x1E ∷ drop e.length behind
+    = sym (take-append-drop e.length behind) ∙ (ap (λ t. t ++ drop e.length behind) tile.parts ∙ append_assoc text (0x1E ∷ []) (drop e.length behind)) in
+    coded-front text (drop e.length behind) (ap are_coded (sym whole) ∙ coded-drop e.start bytes coded)
+
+-- where a code follows each delimiter, a data field's first bytes decide
+pub indicated-shape : (text : List ℕ) → are_coded text ≡ true → are_indicated text ≡ has_data_shape text
+indicated-shape text coded = sym (and_true (are_indicated text)) ∙ (ap (λ b. are_indicated text && b) (sym coded) ∙ data_shape-parts text)
+  where
+    and_true : (b : Bool) → (b && true) ≡ b
+    and_true true = refl
+    and_true false = refl
+
+-- a field that has its shape passes both rules
+pub shape-both : (bytes : List ℕ) (e : Entry) → has_shape e.tag (text_of bytes e) ≡ true → (is_control_shaped bytes e ≡ true) × (is_data_shaped bytes e ≡ true)
+shape-both bytes e shaped = of (is_control_tag e.tag) shaped
+  where
+    of : (control : Bool) → (if control then has_control_shape (text_of bytes e) else has_data_shape (text_of bytes e)) ≡ true
+        → ((not control || has_control_shape (text_of bytes e)) ≡ true) × ((control || has_data_shape (text_of bytes e)) ≡ true)
+    of true has = (has, refl)
+    of false has = (refl, has)
+
+-- no entries are left
+pub least-past : {A : Type 0} (passes : A → Bool) (n i : ℕ) (xs : List A) → length xs ≤ n → least_where_not passes i (drop n xs) ≡ None
+least-past passes zero i [] past = refl
+least-past passes zero i (x ∷ xs) past = absurd (omega (arith, past))
+least-past passes (suc n) i [] past = refl
+least-past passes (suc n) i (x ∷ xs) past = least-past passes n i xs (omega (arith, past))

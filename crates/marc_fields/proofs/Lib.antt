@@ -12,3 +12,4 @@ pub mod DecodingLaws
 pub mod NoFailure
 pub mod PlaceLaws
 pub mod TilingPlaces
+pub mod OrderLaws

@@ -1,6 +1,6 @@
 -- The bytes of a field and their shape.
-use Rattle.std.proofs.Common.{◌≡◌, ℕ, suc, ◌<◌, Bool, true, false, not, ◌&&◌, List, [], ◌∷◌, ◌++◌, length, get_or, refl, sym, ◌∙◌, ap, subst, arith}
-use Rattle.std.proofs.Math.Seq.{take-length}
+use Rattle.std.proofs.Common.{◌≡◌, ℕ, suc, ◌-◌, ◌<◌, ◌≤◌, Bool, true, false, not, ◌&&◌, List, [], ◌∷◌, ◌++◌, length, get_or, drop, refl, sym, ◌∙◌, ap, subst, arith}
+use Rattle.std.proofs.Math.Seq.{take-length, drop-cons}
 use Rattle.std.proofs.lemmas.Bool.{and_parts, and_from}
 use Rattle.std.proofs.lemmas.Bool.Decides.{nat_tests}
 use Rattle.std.proofs.lemmas.List.Folds.{list_all-append, list_all_at}
@@ -12,7 +12,7 @@ use Rattle.union_base.specs.Bodies.{Subfield, Body, Control, Data}
 use Rattle.union_base.specs.Readings.{text_in, subfield_of, subfields_in, body_in, IsSpelling}
 use Rattle.union_base.proofs.ReadingLaws.{body_in-control}
 use Rattle.union_base.proofs.SubfieldLaws.{undelimited-take}
-use Rattle.marc_fields.specs.Shapes.{is_inner, are_inner, begins_with_code, are_coded, has_control_shape, has_data_shape, has_shape, IsFirstSubfield}
+use Rattle.marc_fields.specs.Shapes.{is_inner, are_inner, begins_with_code, begins_with_delimiter, are_coded, are_indicated, has_control_shape, has_data_shape, has_shape}
 
 -- leading bytes without a delimiter ask nothing
 pub are_coded-append : (text rest : List ℕ) → has_control_shape text ≡ true → are_coded (text ++ rest) ≡ are_coded rest
@@ -60,9 +60,38 @@ inner-is_text (b ∷ text) is =
     let parts = and_parts (is_text_byte b) (is_text text) is in
     and_from _ _ (text_byte_inner b parts.0) (inner-is_text text parts.1)
 
-pub first-are_coded : (rest next : List ℕ) (code : ℕ) (text : List ℕ) → IsFirstSubfield rest code text next → are_coded rest ≡ are_coded next
-first-are_coded rest next code text first =
-    ap are_coded first.parts ∙ are_coded-first code text next first.code_fits first.undelimited
+-- a byte and the next one, and the bytes from there on
+pub coded-step : (bytes : List ℕ) (at : ℕ) → 1 ≤ at → at < length bytes
+    → are_coded (drop (at - 1) bytes) ≡ (not ((get_or bytes (at - 1) 0 == 0x1F) && not (is_subfield_code (get_or bytes at 0))) && are_coded (drop at bytes))
+coded-step bytes at some below =
+    let one : suc (at - 1) ≡ at = omega arith in
+    let here : drop (at - 1) bytes ≡ get_or bytes (at - 1) 0 ∷ drop at bytes
+    = drop-cons bytes (at - 1) 0 (omega arith) ∙ ap (λ n. get_or bytes (at - 1) 0 ∷ drop n bytes) one in
+    let next : begins_with_code (drop at bytes) ≡ is_subfield_code (get_or bytes at 0) = ap begins_with_code (drop-cons bytes at 0 below) in
+    ap are_coded here
+    ∙ ap (λ b. b && are_coded (drop at bytes))
+    (ap (λ b. not (get_or bytes (at - 1) 0 == 0x1F) || b) next ∙ turned (get_or bytes (at - 1) 0 == 0x1F) (is_subfield_code (get_or bytes at 0)))
+  where
+    turned : (delimits codes : Bool) → (not delimits || codes) ≡ not (delimits && not codes)
+    turned true true = refl
+    turned true false = refl
+    turned false codes = refl
+
+-- an indicator is no delimiter
+indicator_undelimited : (b : ℕ) → is_indicator b ≡ true → (b == 0x1F) ≡ false
+indicator_undelimited b is = grind (arith, nat_tests)
+
+-- the bytes of a data field: two indicators and a delimiter, and a code after each delimiter
+pub data_shape-parts : (bytes : List ℕ) → (are_indicated bytes && are_coded bytes) ≡ has_data_shape bytes
+data_shape-parts [] = refl
+data_shape-parts (b ∷ []) = refl
+data_shape-parts (ind1 ∷ ind2 ∷ rest) = of (is_indicator ind1) refl (is_indicator ind2) refl
+  where
+    of : (one : Bool) → is_indicator ind1 ≡ one → (two : Bool) → is_indicator ind2 ≡ two
+        → (((one && two) && begins_with_delimiter rest) && are_coded (ind1 ∷ ind2 ∷ rest)) ≡ ((one && two) && (begins_with_delimiter rest && are_coded rest))
+    of false first two second = refl
+    of true first false second = refl
+    of true first true second = rw (indicator_undelimited ind1 first, indicator_undelimited ind2 second) refl
 
 -- subfields that were spelled have a code after each delimiter
 pub are_coded-subfields : (subfields : List Subfield) → list_all is_subfield subfields ≡ true → are_coded (flat_map spelled_subfield subfields) ≡ true

@@ -9,3 +9,4 @@ pub mod Directories
 pub mod Tilings
 pub mod Refusals
 pub mod Places
+pub mod RuleNames

@@ -33,6 +33,10 @@ IsRefusal Memory failure = Unit {0}
 abbrev pub Answers : {T : Type 0} → Result T DecodeRefusal → Option Failure → (T → Type 0) → Type 0
 Answers result failure P = MatchResult result (λ value. (failure ≡ None) × P value) (λ refusal. IsRefusal refusal failure)
 
+-- the answer is a value where nothing fails, else the failure
+abbrev pub Checks : {T : Type 0} → Result T Failure → Option Failure → (T → Type 0) → Type 0
+Checks result failure P = MatchResult result (λ value. (failure ≡ None) × P value) (λ found. failure ≡ Some found)
+
 -- one of this many numbers from that one on passes the test
 abbrev pub any_from : (ℕ → Bool) → ℕ → ℕ → Bool
 any_from passes start zero = false

@@ -1,8 +1,8 @@
 -- Which bytes spell a control field and which a data field (MARC 21, 'Variable fields').
-use Rattle.std.specs.Prelude.{◌≡◌, ℕ, Bool, true, false, not, ◌&&◌, ◌||◌, ◌==◌, List, [], ◌∷◌, ◌++◌, if◌then◌else◌}
+use Rattle.std.specs.Prelude.{◌≡◌, ℕ, Bool, true, false, not, ◌&&◌, ◌||◌, ◌==◌, List, [], ◌∷◌, if◌then◌else◌}
 use Rattle.std.specs.List.{list_all}
 use Rattle.union_base.specs.Fields.{delimiter, field_terminator, record_terminator, is_indicator, is_subfield_code, is_control_tag, spelled}
-use Rattle.union_base.specs.Readings.{is_undelimited, is_end}
+use Rattle.union_base.specs.Readings.{is_undelimited}
 use Rattle.union_base.specs.declared.field.Field.{Field}
 
 -- the byte ends no field and no record
@@ -36,6 +36,12 @@ begins_with_delimiter (b ∷ rest) = b == delimiter
 abbrev pub are_subfields : List ℕ → Bool
 are_subfields bytes = begins_with_delimiter bytes && are_coded bytes
 
+-- the bytes begin with two indicators and a delimiter
+abbrev pub are_indicated : List ℕ → Bool
+are_indicated (ind1 ∷ ind2 ∷ rest) = (is_indicator ind1 && is_indicator ind2) && begins_with_delimiter rest
+are_indicated (b ∷ []) = false
+are_indicated [] = false
+
 -- a data field has two indicators, and then subfields, one at least
 abbrev pub has_data_shape : List ℕ → Bool
 has_data_shape (ind1 ∷ ind2 ∷ rest) = (is_indicator ind1 && is_indicator ind2) && are_subfields rest
@@ -45,20 +51,6 @@ has_data_shape [] = false
 -- the bytes have the shape that the tag asks for
 abbrev pub has_shape : List ℕ → List ℕ → Bool
 has_shape tag bytes = (if is_control_tag tag then has_control_shape bytes else has_data_shape bytes)
-
--- the bytes are a subfield of that code and text, and the rest
-pub record IsFirstSubfield (bytes : List ℕ) (code : ℕ) (text rest : List ℕ) : Type 0 where
-  pub parts : bytes ≡ delimiter ∷ code ∷ (text ++ rest)
-  pub code_fits : is_subfield_code code ≡ true
-  pub undelimited : has_control_shape text ≡ true
-  pub ends : is_end rest ≡ true
-
--- the bytes are two indicators and then a delimiter
-pub record IsIndicated (bytes : List ℕ) (ind1 ind2 : ℕ) (rest : List ℕ) : Type 0 where
-  pub parts : bytes ≡ ind1 ∷ ind2 ∷ rest
-  pub first : is_indicator ind1 ≡ true
-  pub second : is_indicator ind2 ≡ true
-  pub begins : begins_with_delimiter rest ≡ true
 
 -- the field has that tag and these bytes
 pub record IsFieldOf (tag bytes : List ℕ) (f : Field) : Type 0 where

@@ -1,5 +1,5 @@
 -- Marks of the bytes that have their entry, and ranges that need none.
-use Rattle.std.specs.Prelude.{◌≡◌, ℕ, ◌+◌, Bool, false, ◌&&◌, ◌==◌, nat_le, List, [], ◌∷◌, length, take, drop, slice_index_or}
+use Rattle.std.specs.Prelude.{◌≡◌, ℕ, ◌+◌, ◌-◌, Bool, false, ◌&&◌, ◌==◌, nat_le, List, [], ◌∷◌, length, take, drop, slice_index, slice_index_or, if◌then◌else◌}
 use Rattle.marc_leader.specs.declared.entry.Entry.{Entry}
 use Rattle.union_base.specs.Fields.{field_terminator}
 use Rattle.marc_fields.specs.Rows.{ends_in_only}
@@ -13,6 +13,11 @@ is_marked mark = mark
 abbrev pub AreOwners : List Entry → List Bool → Type 0
 AreOwners entries marks = (at : ℕ) → slice_index_or marks at false ≡ is_owned entries at
 
+-- how often the byte stands in the bytes
+abbrev pub count_of : ℕ → List ℕ → ℕ
+count_of byte [] = 0
+count_of byte (b ∷ bytes) = (if b == byte then 1 else 0) + count_of byte bytes
+
 -- the entries' ranges lie one after the other in these bytes, which begin at that offset of the data; each is a field with
 -- its terminator, and together they are all of the bytes
 abbrev pub lie_in_order : ℕ → List ℕ → List Entry → Bool
@@ -20,3 +25,11 @@ lie_in_order start rest [] = length rest == 0
 lie_in_order start rest (e ∷ entries) =
     ((e.start == start) && nat_le e.length (length rest))
     && (ends_in_only field_terminator (take e.length rest) && lie_in_order (start + e.length) (drop e.length rest) entries)
+
+-- the entries' ranges lie one after the other in these bytes, which begin at that offset of the data; each ends in a field
+-- terminator, and together they are all of the bytes
+abbrev pub end_in_order : ℕ → List ℕ → List Entry → Bool
+end_in_order start rest [] = length rest == 0
+end_in_order start rest (e ∷ entries) =
+    ((e.start == start) && (nat_le 1 e.length && nat_le e.length (length rest)))
+    && ((slice_index rest (e.length - 1) == field_terminator) && end_in_order (start + e.length) (drop e.length rest) entries)

@@ -15,7 +15,7 @@ use crate::ending::ends_in_only;
 use crate::fields::check_fields;
 use crate::head::{Front, SMALLEST_BASE, check_head};
 use crate::parts::split_frame;
-use crate::rules::Rule;
+use crate::rules::{Failure, Rule};
 use crate::tiling::check_tiling;
 use marc_leader::entry::{ENTRY_SIZE, Entry};
 use marc_parts::marc_record::Record;
@@ -32,6 +32,19 @@ pub enum DecodeRefusal {
     Rule { rule: Rule, place: u32 },
     /// Memory ran out.
     Memory,
+}
+
+impl From<Failure> for DecodeRefusal {
+    ghost use Rattle.marc_fields.specs.declared.decoding.DecodeRefusal.TheVariants.{Rule as RuleRefusal};
+
+    ghost from_gives = { λ failure refusal. refusal ≡ RuleRefusal failure.rule failure.place };
+
+    fn from(failure: Failure) -> DecodeRefusal {
+        DecodeRefusal::Rule {
+            rule: failure.rule,
+            place: failure.place,
+        }
+    }
 }
 
 impl From<Memory> for DecodeRefusal {
@@ -140,6 +153,6 @@ pub fn decode(alloc: Global, frame: &[u8]) -> Result<Record, DecodeRefusal>
 {
     match check_head(frame) {
         Ok(front) => decode_behind(alloc, frame, &front),
-        Err(refusal) => Err(refusal),
+        Err(failure) => Err(DecodeRefusal::from(failure)),
     }
 }

@@ -1,12 +1,12 @@
 //! The directory of a frame: its entries, looked at rule by rule.
-ghost use Rattle.std.specs.Prelude.{◌≡◌, ◌+◌, ◌*◌, ◌<◌, ◌≤◌, length, take};
+ghost use Rattle.std.specs.Prelude.{◌≡◌, ◌+◌, ◌*◌, ◌<◌, ◌≤◌, length, take, Some};
 ghost use Rattle.marc_leader.specs.Entry.{entry_of};
 ghost use Rattle.marc_fields.specs.Directories.{AreRead, directory_failure_from};
-ghost use Rattle.marc_fields.specs.Rows.{Answers, IsRefusal, least_where_not};
+ghost use Rattle.marc_fields.specs.Rows.{Answers, least_where_not};
 ghost use Rattle.marc_fields.specs.Rules.{entry_texts, has_digits, directory_failure};
 
 use crate::decoding::DecodeRefusal;
-use crate::rules::Rule;
+use crate::rules::{Failure, Rule};
 use marc_leader::entry::{ENTRY_SIZE, Entry, EntryRule, read_entry};
 use marc_leader::numeral::digits;
 use std::alloc::Global;
@@ -38,25 +38,24 @@ fn first_undigited(directory: &[u8], before: usize, count: usize) -> Option<u32>
 
 /// The first rule that entries break, after `before` others that break none, where the first of them breaks that one: a
 /// tag that is none is named only where all numbers are digits.
-fn failure_at(rule: EntryRule, directory: &[u8], before: usize, count: usize) -> DecodeRefusal
+fn failure_at(rule: EntryRule, directory: &[u8], before: usize, count: usize) -> Failure
     requires size { length directory.now ≡ 12 * count }
     requires few { before + count ≤ 9999 }
     requires some { 0 < count }
     requires rule { Err rule ≡ entry_of (take 12 directory.now) }
-    ensures { IsRefusal result (directory_failure_from (before + 1)
-        (entry_texts count directory.now)) }
+    ensures { directory_failure_from (before + 1) (entry_texts count directory.now) ≡ Some result }
 {
     match rule {
-        EntryRule::Digits => DecodeRefusal::Rule {
+        EntryRule::Digits => Failure {
             rule: Rule::EntryDigits,
             place: before as u32 + 1,
         },
         EntryRule::Tag => match first_undigited(directory, before, count) {
-            Some(place) => DecodeRefusal::Rule {
+            Some(place) => Failure {
                 rule: Rule::EntryDigits,
                 place,
             },
-            None => DecodeRefusal::Rule {
+            None => Failure {
                 rule: Rule::Tag,
                 place: before as u32 + 1,
             },
@@ -82,7 +81,7 @@ pub fn check_directory(
         let (text, later) = rest.split_at(ENTRY_SIZE);
         match read_entry(text) {
             Ok(entry) => entries.push(entry)?,
-            Err(rule) => return Err(failure_at(rule, rest, i, count - i)),
+            Err(rule) => return Err(DecodeRefusal::from(failure_at(rule, rest, i, count - i))),
         }
         rest = later;
     }

@@ -1,18 +1,19 @@
-//! The fields of a frame whose entries partition the data, looked at rule by rule.
+//! The fields of a frame whose entries partition the data, looked at together, and rule by rule where one is not as it
+//! should be. The work is linear in the data.
 ghost use Rattle.std.specs.Prelude.{⊤, ◌≡◌, ◌≤◌, true, IfOk, length, None};
 ghost use Rattle.std.specs.List.{list_all};
 ghost use Rattle.marc_leader.specs.declared.entry.Entry.{Entry};
 ghost use Rattle.marc_fields.specs.Directories.{is_formed};
-ghost use Rattle.marc_fields.specs.Rows.{Answers, least_where_not};
-ghost use Rattle.marc_fields.specs.Rules.{is_tile, is_control_shaped, is_data_shaped, shape_failure};
-ghost use Rattle.marc_fields.specs.Shapes.{ends_no_record};
+ghost use Rattle.marc_fields.specs.Rows.{Answers, Checks, least_where_not};
+ghost use Rattle.marc_fields.specs.Rules.{is_tile, text_of, is_control_shaped, is_data_shaped, shape_failure};
+ghost use Rattle.marc_fields.specs.Shapes.{are_coded, ends_no_record, has_shape};
 ghost use Rattle.marc_fields.specs.Spelling.{AreEntriesOf};
 ghost use Rattle.marc_fields.specs.declared.rules.Rule.TheVariants.{DataShape};
 
 use crate::decoding::DecodeRefusal;
 use crate::parts::text_in;
-use crate::rules::Rule;
-use crate::shape::{are_data, are_undelimited, read_field};
+use crate::rules::{Failure, Rule};
+use crate::shape::{are_data, are_indicated, are_undelimited, have_codes, read_field};
 use marc_leader::entry::Entry;
 use std::alloc::Global;
 use union_base::body::is_control_tag;
@@ -63,21 +64,56 @@ fn first_misshaped(entries: &[Entry], bytes: &[u8]) -> Option<u32>
     None
 }
 
+/// Whether the entry's field has its shape, where a code follows each delimiter of the data: then a data field has it if it
+/// begins with two indicators and a delimiter.
+fn is_shaped(entry: &Entry, bytes: &[u8]) -> bool
+    requires tile { is_tile bytes.now entry.now ≡ true }
+    requires coded { are_coded bytes.now ≡ true }
+    ensures { result ≡ has_shape entry.now.tag (text_of bytes.now entry.now) }
+{
+    let text = text_in(entry, bytes);
+    if is_control_tag(&entry.tag) {
+        are_undelimited(text)
+    } else {
+        are_indicated(text)
+    }
+}
+
+/// Whether a code follows each delimiter of the data, and then each field has its shape. One look at the whole costs less
+/// than one at each field.
+fn are_shaped_together(entries: &[Entry], bytes: &[u8]) -> bool
+    requires { list_all (is_tile bytes.now) entries.now ≡ true }
+    ensures { result ≡ true → shape_failure bytes.now entries.now ≡ None }
+{
+    if !have_codes(bytes) {
+        return false;
+    }
+    for entry in entries {
+        if !is_shaped(entry, bytes) {
+            return false;
+        }
+    }
+    true
+}
+
 /// Refuses a control field that has a delimiter, and a data field that has not two indicators and then subfields (MARC 21,
 /// 'Variable fields'). Takes no memory.
-pub fn check_shapes(entries: &[Entry], bytes: &[u8]) -> Result<(), DecodeRefusal>
+pub fn check_shapes(entries: &[Entry], bytes: &[u8]) -> Result<(), Failure>
     requires few { length entries.now ≤ 9999 }
     requires tiles { list_all (is_tile bytes.now) entries.now ≡ true }
-    ensures { Answers result (shape_failure bytes.now entries.now) (λ _. ⊤) }
+    ensures { Checks result (shape_failure bytes.now entries.now) (λ _. ⊤) }
 {
+    if are_shaped_together(entries, bytes) {
+        return Ok(());
+    }
     if let Some(place) = first_delimited(entries, bytes) {
-        return Err(DecodeRefusal::Rule {
+        return Err(Failure {
             rule: Rule::ControlShape,
             place,
         });
     }
     if let Some(place) = first_misshaped(entries, bytes) {
-        return Err(DecodeRefusal::Rule {
+        return Err(Failure {
             rule: Rule::DataShape,
             place,
         });
@@ -115,6 +151,6 @@ pub fn check_fields(
 {
     match check_shapes(entries, bytes) {
         Ok(()) => Ok(read_fields(alloc, entries, bytes)?),
-        Err(refusal) => Err(refusal),
+        Err(failure) => Err(DecodeRefusal::from(failure)),
     }
 }

@@ -3,12 +3,11 @@ ghost use Rattle.std.specs.Prelude.{◌≡◌, ◌+◌, ◌≤◌, true, length,
 ghost use Rattle.marc_leader.specs.Leader.{length_place, base_place, misfit};
 ghost use Rattle.marc_leader.specs.Numeral.{are_digits};
 ghost use Rattle.marc_fields.specs.Fronts.{IsFront, IsCounted};
-ghost use Rattle.marc_fields.specs.Rows.{Answers, fails};
+ghost use Rattle.marc_fields.specs.Rows.{Checks, fails};
 ghost use Rattle.marc_fields.specs.Rules.{leader_of_frame, is_base, has_base, base_in, head_failure, leader_failure};
 ghost use Rattle.marc_fields.specs.declared.rules.Rule.TheVariants.{LeaderCounts};
 
-use crate::decoding::DecodeRefusal;
-use crate::rules::Rule;
+use crate::rules::{Failure, Rule};
 use marc_leader::codes::LeaderCodes;
 use marc_leader::entry::ENTRY_SIZE;
 use marc_leader::leader::{LEADER_SIZE, Leader, LeaderRule};
@@ -55,16 +54,16 @@ fn read_base(leader: &[u8], frame: &[u8]) -> Option<usize>
 }
 
 /// The codes of a leader whose numbers are digits; refused at the first byte that may not stand at its offset.
-fn read_codes(leader: &[u8]) -> Result<LeaderCodes, DecodeRefusal>
+fn read_codes(leader: &[u8]) -> Result<LeaderCodes, Failure>
     requires size { length leader.now ≡ 24 }
     requires length { are_digits (length_place leader.now) ≡ true }
     requires base { are_digits (base_place leader.now) ≡ true }
-    ensures { Answers result (fails LeaderCounts (misfit leader.now))
+    ensures { Checks result (fails LeaderCounts (misfit leader.now))
         (λ codes. IsCounted leader.now codes) }
 {
     match Leader::read(leader) {
         Ok(found) => Ok(found.codes),
-        Err(LeaderRule::Counts { at }) => Err(DecodeRefusal::Rule {
+        Err(LeaderRule::Counts { at }) => Err(Failure {
             rule: Rule::LeaderCounts,
             place: at,
         }),
@@ -74,44 +73,44 @@ fn read_codes(leader: &[u8]) -> Result<LeaderCodes, DecodeRefusal>
 }
 
 /// The leader's content, or the first of the rules on it that fails, where there are bytes enough.
-fn check_leader(leader: &[u8], frame: &[u8]) -> Result<Front, DecodeRefusal>
+fn check_leader(leader: &[u8], frame: &[u8]) -> Result<Front, Failure>
     requires size { length leader.now ≡ 24 }
     requires long { 26 ≤ length frame.now }
-    ensures { Answers result (leader_failure leader.now frame.now)
+    ensures { Checks result (leader_failure leader.now frame.now)
         (λ front. IsFront leader.now frame.now front.codes front.base) }
 {
     let Some(size) = digits(&leader[..5]) else {
-        return Err(DecodeRefusal::Rule {
+        return Err(Failure {
             rule: Rule::LengthDigits,
             place: 0,
         });
     };
     if size as usize != frame.len() {
-        return Err(DecodeRefusal::Rule {
+        return Err(Failure {
             rule: Rule::LengthDiffers,
             place: 0,
         });
     }
     let Some(base) = read_base(leader, frame) else {
-        return Err(DecodeRefusal::Rule {
+        return Err(Failure {
             rule: Rule::BaseAddress,
             place: 0,
         });
     };
     match read_codes(leader) {
         Ok(codes) => Ok(Front { codes, base }),
-        Err(refusal) => Err(refusal),
+        Err(failure) => Err(failure),
     }
 }
 
 /// The leader's content, or the first of the rules on it that fails (ISO 2709, 'Record label'; MARC 21, 'Leader').
 /// Takes no memory.
-pub fn check_head(frame: &[u8]) -> Result<Front, DecodeRefusal>
-    ensures { Answers result (head_failure frame.now)
+pub fn check_head(frame: &[u8]) -> Result<Front, Failure>
+    ensures { Checks result (head_failure frame.now)
         (λ front. IsFront (leader_of_frame frame.now) frame.now front.codes front.base) }
 {
     if frame.len() < SMALLEST_FRAME {
-        return Err(DecodeRefusal::Rule {
+        return Err(Failure {
             rule: Rule::TooShort,
             place: 0,
         });

@@ -6,6 +6,7 @@
 
 pub use marc_parts::marc_record;
 
+mod counting;
 pub mod decoding;
 pub mod directory;
 pub mod encoding;

@@ -1,4 +1,6 @@
-//! The rules that a frame has to keep, by name.
+//! The nineteen rules that a frame has to keep, in their order, with their names; and a rule's failure, with its place.
+ghost use Rattle.std.specs.Prelude.{◌≡◌};
+ghost use Rattle.marc_fields.specs.RuleNames.{rule_name};
 
 /// A rule for frames. They are looked at in this order, and the first that fails is named (this project's own).
 #[derive(Clone, Copy, Debug, PartialEq, Eq)]
@@ -41,6 +43,35 @@ pub enum Rule {
     Fixed008,
     /// There is not one field 245.
     Title245,
+}
+
+impl Rule {
+    /// The rule's name, as every report writes it (docs/FORMATS.md). Takes no memory.
+    pub fn name(self) -> &'static [u8]
+        ensures { result.now ≡ rule_name self }
+    {
+        match self {
+            Rule::Truncated => b"Truncated",
+            Rule::TooLong => b"TooLong",
+            Rule::TooShort => b"TooShort",
+            Rule::LengthDigits => b"LengthDigits",
+            Rule::LengthDiffers => b"LengthDiffers",
+            Rule::BaseAddress => b"BaseAddress",
+            Rule::LeaderCounts => b"LeaderCounts",
+            Rule::EntryDigits => b"EntryDigits",
+            Rule::Tag => b"Tag",
+            Rule::Tiling => b"Tiling",
+            Rule::Status => b"Status",
+            Rule::Coding => b"Coding",
+            Rule::NotUtf8 => b"NotUtf8",
+            Rule::ControlShape => b"ControlShape",
+            Rule::DataShape => b"DataShape",
+            Rule::ControlNumber => b"ControlNumber",
+            Rule::Repeated => b"Repeated",
+            Rule::Fixed008 => b"Fixed008",
+            Rule::Title245 => b"Title245",
+        }
+    }
 }
 
 /// A rule that fails, and where.

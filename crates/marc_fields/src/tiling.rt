@@ -1,15 +1,17 @@
 //! The rule that the entries' ranges partition the data, each a field with its terminator. Ranges that lie one after the
-//! other in the order of the directory, as they do in nearly all frames, partition it without more. Else each byte of the
-//! data is marked as it finds its entry, and the first entry that meets a mark is refused. The work is linear in the data.
-ghost use Rattle.std.specs.Prelude.{⊤, ◌≡◌, ◌+◌, ◌≤◌, ℕ, ◌||◌, ◌&&◌, [], not, false, nat_le, nat_lt, length, take, drop, Some, None, slice_index_or};
+//! other in the order of the directory, as they do in nearly all frames, partition it if each ends in a terminator and the
+//! data have no more of them. Else each byte of the data is marked as it finds its entry, and the first entry that meets a
+//! mark is refused. The work is linear in the data.
+ghost use Rattle.std.specs.Prelude.{⊤, ◌≡◌, ◌+◌, ◌≤◌, ℕ, ◌||◌, ◌&&◌, [], not, false, true, nat_le, nat_lt, length, take, drop, Some, None, slice_index_or};
 ghost use Rattle.std.specs.List.{list_any, list_all};
-ghost use Rattle.marc_fields.specs.Rows.{Answers};
+ghost use Rattle.marc_fields.specs.Rows.{Answers, Checks};
 ghost use Rattle.marc_fields.specs.Rules.{is_tile, tiling_from, tiling_failure};
-ghost use Rattle.marc_fields.specs.Tilings.{AreOwners, is_marked, lie_in_order};
+ghost use Rattle.marc_fields.specs.Tilings.{AreOwners, is_marked, end_in_order, lie_in_order};
 
+use crate::counting::count_of;
 use crate::decoding::DecodeRefusal;
 use crate::ending::ends_in_only;
-use crate::rules::Rule;
+use crate::rules::{Failure, Rule};
 use marc_leader::entry::Entry;
 use std::alloc::Global;
 use union_base::body::FIELD_TERMINATOR;
@@ -75,20 +77,20 @@ fn first_untiled(marks: &mut [bool], entries: &[Entry], bytes: &[u8]) -> Option<
 }
 
 /// Refuses entries whose ranges do not partition the data, which have no marks yet.
-fn check_marks(marks: &mut [bool], entries: &[Entry], bytes: &[u8]) -> Result<(), DecodeRefusal>
+fn check_marks(marks: &mut [bool], entries: &[Entry], bytes: &[u8]) -> Result<(), Failure>
     requires size { length marks.old ≡ length bytes.now }
     requires few { length entries.now ≤ 9999 }
     requires unmarked { AreOwners [] marks.old }
-    ensures { Answers result (tiling_failure bytes.now entries.now) (λ _. ⊤) }
+    ensures { Checks result (tiling_failure bytes.now entries.now) (λ _. ⊤) }
 {
     if let Some(place) = first_untiled(marks, entries, bytes) {
-        return Err(DecodeRefusal::Rule {
+        return Err(Failure {
             rule: Rule::Tiling,
             place,
         });
     }
     if !are_marked(marks) {
-        return Err(DecodeRefusal::Rule {
+        return Err(Failure {
             rule: Rule::Tiling,
             place: entries.len() as u32 + 1,
         });
@@ -96,26 +98,33 @@ fn check_marks(marks: &mut [bool], entries: &[Entry], bytes: &[u8]) -> Result<()
     Ok(())
 }
 
-/// Whether the ranges lie one after the other in the order of the directory, each a field with its terminator, and are all
-/// of the data. Takes no memory.
-fn are_in_order(entries: &[Entry], bytes: &[u8]) -> bool
-    ensures { result ≡ lie_in_order 0 bytes.now entries.now }
+/// Whether the ranges lie one after the other in the order of the directory, each ends in a terminator, and they are all of
+/// the data. Looks at the ranges' last bytes alone.
+fn end_in_order(entries: &[Entry], bytes: &[u8]) -> bool
+    ensures { result ≡ end_in_order 0 bytes.now entries.now }
 {
     let mut start = 0;
     let mut rest = bytes;
     for entry in entries {
         let size = entry.length as usize;
-        if entry.start as usize != start || size > rest.len() {
+        if entry.start as usize != start || size < 1 || rest.len() < size {
             return false;
         }
-        let (range, behind) = rest.split_at(size);
-        if !ends_in_only(FIELD_TERMINATOR, range) {
+        if rest[size - 1] != FIELD_TERMINATOR {
             return false;
         }
         start += size;
-        rest = behind;
+        rest = &rest[size..];
     }
     rest.is_empty()
+}
+
+/// Whether the ranges lie one after the other in the order of the directory, each a field with its terminator, and are all
+/// of the data: there are as many terminators as ranges, which each end in one. Takes no memory.
+fn are_in_order(entries: &[Entry], bytes: &[u8]) -> bool
+    ensures { result ≡ true → lie_in_order 0 bytes.now entries.now ≡ true }
+{
+    end_in_order(entries, bytes) && count_of(FIELD_TERMINATOR, bytes) == entries.len()
 }
 
 /// Refuses entries whose ranges do not partition the data into fields, each with its terminator (ISO 2709, 'Directory').
@@ -128,5 +137,8 @@ pub fn check_tiling(alloc: Global, entries: &[Entry], bytes: &[u8]) -> Result<()
         return Ok(());
     }
     let mut marks = vec![in alloc; false; bytes.len()]?;
-    check_marks(&mut marks, entries, bytes)
+    match check_marks(&mut marks, entries, bytes) {
+        Ok(()) => Ok(()),
+        Err(failure) => Err(DecodeRefusal::from(failure)),
+    }
 }

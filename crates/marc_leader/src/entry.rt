@@ -2,7 +2,7 @@
 ghost use Rattle.std.specs.Prelude.{◌≡◌, ◌≤◌, length, IfOk, Ok, IsTrue};
 ghost use Rattle.marc_leader.specs.Entry.{entry_text, entry_of, is_tag};
 
-use crate::numeral::{digits, last_digit};
+use crate::numeral::{are_digits, last_digit, number_of};
 
 /// How many bytes an entry has.
 pub const ENTRY_SIZE: usize = 12;
@@ -53,17 +53,18 @@ pub fn read_entry(text: &[u8]) -> Result<Entry, EntryRule>
     ensures length { IfOk result (λ entry. entry.length ≤ 9999) }
     ensures start { IfOk result (λ entry. entry.start ≤ 99999) }
 {
-    let Some(length) = digits(&text[TAG_END..SIZE_END]) else {
+    if !are_digits(&text[TAG_END..START_END]) {
         return Err(EntryRule::Digits);
-    };
-    let Some(start) = digits(&text[SIZE_END..START_END]) else {
-        return Err(EntryRule::Digits);
-    };
+    }
     let tag = [text[0], text[1], text[2]];
     if !are_alphanumeric(&tag) {
         return Err(EntryRule::Tag);
     }
-    Ok(Entry { tag, length, start })
+    Ok(Entry {
+        tag,
+        length: number_of(&text[TAG_END..SIZE_END]),
+        start: number_of(&text[SIZE_END..START_END]),
+    })
 }
 
 /// Writes the entry's 12 bytes. Takes no memory.

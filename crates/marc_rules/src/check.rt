@@ -3,7 +3,7 @@ ghost use Rattle.std.specs.Prelude.{◌≡◌, ◌*◌, ◌≤◌, true, length,
 ghost use Rattle.std.specs.List.{list_all};
 ghost use Rattle.iso2709_frame.specs.Frames.{IsWhole};
 ghost use Rattle.marc_fields.specs.Fronts.{IsFront};
-ghost use Rattle.marc_fields.specs.Rows.{Answers, IsRefusal, or_then};
+ghost use Rattle.marc_fields.specs.Rows.{Answers, Checks, IsRefusal, or_then};
 ghost use Rattle.marc_fields.specs.Rules.{IsFrame, is_tile, entry_texts, texts_of, data_in, leader_of_frame, tiling_failure, shape_failure};
 ghost use Rattle.marc_fields.specs.Spelling.{Spells};
 ghost use Rattle.marc_fields.specs.declared.rules.Failure.{Failure};
@@ -22,7 +22,7 @@ use marc_fields::directory::check_directory;
 use marc_fields::fields::{check_shapes, read_fields};
 use marc_fields::head::{Front, SMALLEST_BASE, check_head};
 use marc_fields::parts::split_frame;
-use marc_fields::rules::Rule;
+use marc_fields::rules::{Failure, Rule};
 use marc_fields::tiling::check_tiling;
 use marc_leader::entry::{ENTRY_SIZE, Entry};
 use marc_parts::marc_record::Record;
@@ -56,31 +56,31 @@ const TOO_LONG: Refusal = Refusal::Rule {
 };
 
 /// Refuses fields that have not their shape, and a record that has not the fields that it has to have. Takes no memory.
-fn check_shaped(status: u8, entries: &[Entry], bytes: &[u8]) -> Result<(), DecodeRefusal>
+fn check_shaped(status: u8, entries: &[Entry], bytes: &[u8]) -> Result<(), Failure>
     requires few { length entries.now ≤ 9999 }
     requires tiles { list_all (is_tile bytes.now) entries.now ≡ true }
-    ensures { Answers result (or_then (shape_failure bytes.now entries.now)
+    ensures { Checks result (or_then (shape_failure bytes.now entries.now)
         (number_failure status bytes.now entries.now))
         (λ _. shape_failure bytes.now entries.now ≡ None) }
 {
     match check_shapes(entries, bytes) {
         Ok(()) => check_numbers(status, entries, bytes),
-        Err(refusal) => Err(refusal),
+        Err(failure) => Err(failure),
     }
 }
 
 /// Refuses entries that partition the data, at the first rule on their content that fails. Takes no memory.
-fn check_tiled(status: u8, coding: u8, entries: &[Entry], bytes: &[u8]) -> Result<(), DecodeRefusal>
+fn check_tiled(status: u8, coding: u8, entries: &[Entry], bytes: &[u8]) -> Result<(), Failure>
     requires few { length entries.now ≤ 9999 }
     requires tiles { list_all (is_tile bytes.now) entries.now ≡ true }
-    ensures { Answers result (or_then (content_failure status coding bytes.now entries.now)
+    ensures { Checks result (or_then (content_failure status coding bytes.now entries.now)
         (or_then (shape_failure bytes.now entries.now)
         (number_failure status bytes.now entries.now)))
         (λ _. shape_failure bytes.now entries.now ≡ None) }
 {
     match check_content(status, coding, entries, bytes) {
         Ok(()) => check_shaped(status, entries, bytes),
-        Err(refusal) => Err(refusal),
+        Err(failure) => Err(failure),
     }
 }
 
@@ -98,7 +98,10 @@ fn check_entries(
         × (shape_failure bytes.now entries.now ≡ None)) }
 {
     match check_tiling(alloc, entries, bytes) {
-        Ok(()) => check_tiled(status, coding, entries, bytes),
+        Ok(()) => match check_tiled(status, coding, entries, bytes) {
+            Ok(()) => Ok(()),
+            Err(failure) => Err(DecodeRefusal::from(failure)),
+        },
         Err(refusal) => Err(refusal),
     }
 }
@@ -166,7 +169,7 @@ fn check_whole(alloc: Global, frame: &[u8]) -> Result<Sound, DecodeRefusal>
             Ok(entries) => Ok(Sound { front, entries }),
             Err(refusal) => Err(refusal),
         },
-        Err(refusal) => Err(refusal),
+        Err(failure) => Err(DecodeRefusal::from(failure)),
     }
 }
 

@@ -2,13 +2,12 @@
 ghost use Rattle.std.specs.Prelude.{⊤, ◌≡◌, ◌≤◌, true, length, None};
 ghost use Rattle.std.specs.List.{list_all};
 ghost use Rattle.std.specs.Str.{is_utf8, IsCharBoundary};
-ghost use Rattle.marc_fields.specs.Rows.{Answers, least_where_not};
+ghost use Rattle.marc_fields.specs.Rows.{Checks, least_where_not};
 ghost use Rattle.marc_fields.specs.Rules.{is_tile};
 ghost use Rattle.marc_rules.specs.Contents.{is_status, is_plain, is_plain_at, is_utf8_at, coding_failure, content_failure};
 
-use marc_fields::decoding::DecodeRefusal;
 use marc_fields::parts::text_in;
-use marc_fields::rules::Rule;
+use marc_fields::rules::{Failure, Rule};
 use marc_leader::entry::Entry;
 use simdutf8::basic::from_utf8;
 
@@ -97,27 +96,27 @@ fn first_not_utf8(entries: &[Entry], bytes: &[u8]) -> Option<u32>
 }
 
 /// Refuses a coding that is neither blank nor that of Unicode, and a field that is not in its coding.
-fn check_coding(coding: u8, entries: &[Entry], bytes: &[u8]) -> Result<(), DecodeRefusal>
+fn check_coding(coding: u8, entries: &[Entry], bytes: &[u8]) -> Result<(), Failure>
     requires few { length entries.now ≤ 9999 }
     requires tiles { list_all (is_tile bytes.now) entries.now ≡ true }
-    ensures { Answers result (coding_failure coding bytes.now entries.now) (λ _. ⊤) }
+    ensures { Checks result (coding_failure coding bytes.now entries.now) (λ _. ⊤) }
 {
     match coding {
         UNICODE => match first_not_utf8(entries, bytes) {
-            Some(place) => Err(DecodeRefusal::Rule {
+            Some(place) => Err(Failure {
                 rule: Rule::NotUtf8,
                 place,
             }),
             None => Ok(()),
         },
         b' ' => match first_coded(entries, bytes) {
-            Some(place) => Err(DecodeRefusal::Rule {
+            Some(place) => Err(Failure {
                 rule: Rule::Coding,
                 place,
             }),
             None => Ok(()),
         },
-        _ => Err(DecodeRefusal::Rule {
+        _ => Err(Failure {
             rule: Rule::Coding,
             place: 0,
         }),
@@ -126,18 +125,13 @@ fn check_coding(coding: u8, entries: &[Entry], bytes: &[u8]) -> Result<(), Decod
 
 /// Refuses a status that is none, a coding that is neither blank nor that of Unicode, and a field that is not in its coding
 /// (MARC 21, leader/05 and leader/09). Takes no memory.
-pub fn check_content(
-    status: u8,
-    coding: u8,
-    entries: &[Entry],
-    bytes: &[u8],
-) -> Result<(), DecodeRefusal>
+pub fn check_content(status: u8, coding: u8, entries: &[Entry], bytes: &[u8]) -> Result<(), Failure>
     requires few { length entries.now ≤ 9999 }
     requires tiles { list_all (is_tile bytes.now) entries.now ≡ true }
-    ensures { Answers result (content_failure status coding bytes.now entries.now) (λ _. ⊤) }
+    ensures { Checks result (content_failure status coding bytes.now entries.now) (λ _. ⊤) }
 {
     if !is_status_code(status) {
-        return Err(DecodeRefusal::Rule {
+        return Err(Failure {
             rule: Rule::Status,
             place: 0,
         });

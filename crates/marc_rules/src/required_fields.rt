@@ -1,13 +1,12 @@
 //! The rules on which fields a record has, and how often.
 ghost use Rattle.std.specs.Prelude.{⊤, ◌≡◌, ◌+◌, ◌<◌, ◌≤◌, ◌∷◌, [], ℕ, Bool, true, length, MatchResult, Some};
 ghost use Rattle.std.specs.List.{list_all};
-ghost use Rattle.marc_fields.specs.Rows.{Answers};
+ghost use Rattle.marc_fields.specs.Rows.{Checks};
 ghost use Rattle.marc_fields.specs.Rules.{is_tile};
 ghost use Rattle.marc_rules.specs.RequiredFields.{is_same, places, not_one, place_of, is_control_number, class_of, number_of, repeated_from, control_number_place, fixed_008_place, title_245_place, load_failure, number_failure};
 
-use marc_fields::decoding::DecodeRefusal;
 use marc_fields::parts::text_in;
-use marc_fields::rules::Rule;
+use marc_fields::rules::{Failure, Rule};
 use marc_leader::entry::Entry;
 use marc_parts::loads::has_number_shape;
 use marc_parts::trimming::trimmed;
@@ -187,25 +186,25 @@ fn bad_title_245(entries: &[Entry]) -> Option<u32>
 
 /// Refuses a record with a second field of a class of which it may have one, and a record that has not exactly one 008, of 40
 /// bytes, and exactly one 245.
-fn check_load(entries: &[Entry], bytes: &[u8]) -> Result<(), DecodeRefusal>
+fn check_load(entries: &[Entry], bytes: &[u8]) -> Result<(), Failure>
     requires few { length entries.now ≤ 9999 }
     requires tiles { list_all (is_tile bytes.now) entries.now ≡ true }
-    ensures { Answers result (load_failure bytes.now entries.now) (λ _. ⊤) }
+    ensures { Checks result (load_failure bytes.now entries.now) (λ _. ⊤) }
 {
     if let Some(place) = first_repeated(entries) {
-        return Err(DecodeRefusal::Rule {
+        return Err(Failure {
             rule: Rule::Repeated,
             place,
         });
     }
     if let Some(place) = bad_fixed_008(entries, bytes) {
-        return Err(DecodeRefusal::Rule {
+        return Err(Failure {
             rule: Rule::Fixed008,
             place,
         });
     }
     if let Some(place) = bad_title_245(entries) {
-        return Err(DecodeRefusal::Rule {
+        return Err(Failure {
             rule: Rule::Title245,
             place,
         });
@@ -216,13 +215,13 @@ fn check_load(entries: &[Entry], bytes: &[u8]) -> Result<(), DecodeRefusal>
 /// Refuses a record with no 001, with two, or with one that is no control number; and, unless its status is `d`, one that
 /// repeats a field that may occur only once, or has not exactly one 008, of 40 bytes, or not exactly one 245 (MARC 21, 001,
 /// 008, 245 and 'Repeatability'). Takes no memory.
-pub fn check_numbers(status: u8, entries: &[Entry], bytes: &[u8]) -> Result<(), DecodeRefusal>
+pub fn check_numbers(status: u8, entries: &[Entry], bytes: &[u8]) -> Result<(), Failure>
     requires few { length entries.now ≤ 9999 }
     requires tiles { list_all (is_tile bytes.now) entries.now ≡ true }
-    ensures { Answers result (number_failure status bytes.now entries.now) (λ _. ⊤) }
+    ensures { Checks result (number_failure status bytes.now entries.now) (λ _. ⊤) }
 {
     if let Some(place) = bad_control_number(entries, bytes) {
-        return Err(DecodeRefusal::Rule {
+        return Err(Failure {
             rule: Rule::ControlNumber,
             place,
         });

@@ -11,7 +11,7 @@ use Rattle.unicode_normalization.specs.Forms.{Nfkd, nfkd}
 use Rattle.unicode_normalization.proofs.FormsLemmas.{normalize-ascii}
 use Rattle.caseless.specs.Caseless.{default_case_fold}
 use Rattle.caseless.proofs.CaselessLemmas.{default_case_fold-ascii}
-use Rattle.naco_normal.specs.Ascii.{is_ascii_deleted, is_ascii_kept, ascii_letters, blank_mark, read_as}
+use Rattle.naco_normal.specs.Ascii.{is_ascii_deleted, is_ascii_kept, blank_mark, read_as}
 use Rattle.naco_normal.specs.Normal.{comma_sign, is_dropped, plain_letters, is_letter_or_number, is_kept, folded, without_deleted, with_plain_letters, letters}
 use Rattle.naco_normal.specs.Shown.{is_shown}
 use Rattle.naco_normal.specs.Words.{after_gap}
@@ -21,6 +21,11 @@ use Rattle.naco_normal.proofs.WordsLemmas.{read_on}
 abbrev pub is_ascii_shown : ℕ → Bool → List ℕ → Bool
 is_ascii_shown letter awaiting after =
     if awaiting && (letter == comma_sign) then list_any is_ascii_alphanumeric after else is_ascii_kept letter
+
+-- the bytes in lower case, without those that are deleted
+abbrev pub ascii_letters : List ℕ → List ℕ
+ascii_letters [] = []
+ascii_letters (b ∷ bs) = if is_ascii_deleted b then ascii_letters bs else to_ascii_lowercase b ∷ ascii_letters bs
 
 -- two tests agree
 abbrev same : Bool → Bool → Bool
@@ -68,7 +73,7 @@ pub record Agree (b : ℕ) : Type 0 where
   pub number_lower : is_ascii_alphanumeric (to_ascii_lowercase b) ≡ is_ascii_alphanumeric b
   pub apart : (is_ascii_deleted b && is_ascii_alphanumeric b) ≡ false
 
-agree_on_ascii : (b : ℕ) → b < 128 → Agree b
+pub agree_on_ascii : (b : ℕ) → b < 128 → Agree b
 agree_on_ascii b h =
     let all = and_parts _ _ (below_agrees 128 b agrees_on_ascii h) in
     let numbers = and_parts _ _ all.1 in

@@ -1,3 +1,5 @@
+pub mod CharacterLaw
+pub mod TableLemmas
 pub mod LettersLemmas
 pub mod WordsLemmas
 pub mod AsciiLemmas

@@ -1,12 +1,14 @@
 //! The normal form of a text, as `normal_form` in `specs/Normal.antt` has it.
 //!
-//! A text of ASCII goes through `ascii`, any other through `letters`; both meet the same clause.
+//! A text of ASCII goes through `ascii`, one whose characters are all in the table through `table`, and any other through
+//! `letters`; all meet the same clause.
 ghost use Rattle.std.specs.Prelude.{◌≡◌, chars, encode_utf8_all, IsUtf8, IfOk, OnOk};
-ghost use Rattle.naco_normal.specs.Normal.{normal_form};
+ghost use Rattle.naco_normal.specs.Normal.{letters, normal_form};
 ghost use Rattle.naco_normal.specs.Words.{joined};
 
 use crate::ascii::append_ascii;
 use crate::letters::{append_letters, letters};
+use crate::table::letters_by_table;
 use std::alloc::Global;
 use std::str;
 use union_base::bytes::Bytes;
@@ -101,8 +103,17 @@ fn append_any(alloc: Global, form: &mut Vec<u8>, text: &str, comma: Comma) -> Re
     ensures { OnOk result (form.new.items ≡ joined form.old.items
         (encode_utf8_all (normal_form comma (chars text.now)))) }
 {
-    let characters = characters(alloc, text)?;
-    append_letters(form, &letters(alloc, &characters)?, comma)
+    append_letters(form, &letters_of(alloc, text)?, comma)
+}
+
+/// The letters of the text: by the table where that has each of its characters.
+fn letters_of(alloc: Global, text: &str) -> Result<Vec<char>, Memory>
+    ensures { IfOk result (λ v. v.items ≡ letters (chars text.now)) }
+{
+    match letters_by_table(alloc, text)? {
+        Some(letters) => Ok(letters),
+        None => letters(alloc, &characters(alloc, text)?),
+    }
 }
 
 /// The characters of the text.

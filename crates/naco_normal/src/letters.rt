@@ -115,6 +115,9 @@ fn plain_letters(c: char) -> (char, Option<char>)
 fn is_letter_or_number(c: char) -> bool
     ensures { result ≡ is_letter_or_number c }
 {
+    if c.is_ascii() {
+        return c.is_ascii_alphanumeric();
+    }
     let category = GeneralCategory::for_char(c);
     GeneralCategoryGroup::Letter.contains(category)
         || GeneralCategoryGroup::Number.contains(category)
@@ -124,9 +127,9 @@ fn is_letter_or_number(c: char) -> bool
 fn is_kept(c: char) -> bool
     ensures { result ≡ is_kept c }
 {
-    matches!(c, '&' | '+' | '@' | '#' | '♭' | '♯')
+    is_letter_or_number(c)
+        || matches!(c, '&' | '+' | '@' | '#' | '♭' | '♯')
         || GeneralCategory::for_char(c) == GeneralCategory::SpacingMark
-        || is_letter_or_number(c)
 }
 
 /// Whether the character shows in the form: an awaited comma where a letter or number stands after it, and any other

@@ -7,13 +7,15 @@
 //! Decomposition, case folding and categories are Unicode's, as the crates `unicode_normalization`, `caseless` and
 //! `unicode` have them.
 //!
-//! Cost: a text of ASCII takes one pass over its bytes, and one allocation for the whole form, heading or title. Any
-//! other text is decomposed, folded and decomposed again, in a few passes over lists of its characters. All is linear
-//! in the text, but for runs of combining marks, which are sorted.
+//! Cost: a text of ASCII takes one pass over its bytes, and one allocation for the whole form, heading or title. A text
+//! whose characters all lie below U+0500 takes a look into a table for each, and one list of characters. Any other text is
+//! decomposed, folded and decomposed again, in a few passes over lists of its characters. All is linear in the text, but
+//! for runs of combining marks in such a text, which are sorted.
 #![tactic(auto)]
 
 mod ascii;
 pub mod form;
 pub mod heading;
 mod letters;
+mod table;
 mod words;

@@ -18,6 +18,17 @@ pub(crate) fn push_shown(form: &mut Vec<u8>, gap: bool, shown: bool, c: char) ->
         return Ok(());
     }
     open_word(form, gap)?;
+    push_char(form, c)
+}
+
+/// Appends the character in UTF-8.
+fn push_char(form: &mut Vec<u8>, c: char) -> Result<(), Memory>
+    ensures { OnOk result (form.new.items ≡ form.old.items ++ encode_utf8 c) }
+{
+    if c.is_ascii() {
+        form.push(c as u8)?;
+        return Ok(());
+    }
     let mut room = [0; 4];
     form.extend_from_slice(c.encode_utf8(&mut room).as_bytes())?;
     Ok(())

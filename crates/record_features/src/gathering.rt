@@ -1,4 +1,7 @@
 //! What the fields of a record give to its features, as `specs/Gathering.antt` has it, gathered in one pass.
+//!
+//! Cost: a list takes memory only when something comes into it. Most records have one ISBN, one title and one name at most, so
+//! these lists get room for one value at a time.
 ghost use Rattle.std.specs.Prelude.{◌≡◌, ◌++◌, All, IfOk, OnOk};
 ghost use Rattle.std.specs.List.{flat_map};
 ghost use Rattle.workset_keys.specs.Names.{HasTexts};
@@ -51,8 +54,8 @@ pub(crate) fn gathered(
         control,
         isbns: Vec::new(alloc),
         issns: Vec::new(alloc),
-        titles: Vec::with_capacity(alloc, 1)?,
-        names: Vec::with_capacity(alloc, 1)?,
+        titles: Vec::new(alloc),
+        names: Vec::new(alloc),
     };
     for field in fields {
         found.take(alloc, field)?;
@@ -173,6 +176,7 @@ fn push_isbn(isbns: &mut Vec<[u8; 13]>, subfield: &Subfield<'_>) -> Result<(), M
         return Ok(());
     }
     if let Some(digits) = isbn(subfield.text) {
+        isbns.reserve_exact(1)?;
         isbns.push(digits)?;
     }
     Ok(())
@@ -204,6 +208,7 @@ fn push_where_not_empty(texts: &mut Vec<Bytes>, text: Bytes) -> Result<(), Memor
     ensures { OnOk result (texts.new.items ≡ texts.old.items ++ where_not_empty text) }
 {
     if !text.bytes().is_empty() {
+        texts.reserve_exact(1)?;
         texts.push(text)?;
     }
     Ok(())

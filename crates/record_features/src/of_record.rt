@@ -12,15 +12,20 @@ use crate::gathering::{Findings, gathered};
 use isbn_keys::control::pair;
 use marc_parts::marc_record::Record;
 use marc_parts::parts::{control_number, text_under};
+use match_features::control_pair::joined;
 use match_features::features::Features;
 use std::alloc::Global;
 use union_base::bytes::Bytes;
+use union_base::field::Field;
 use union_base::library_code::LibraryCode;
 use union_base::memory::Memory;
 use union_base::sorted_list::SortedList;
 
 /// What stands before a library's code, in the source of its own control numbers.
 const OWN: u8 = b'=';
+
+/// The most pairs that a record has beside those of its fields 010 and 035: its own, and that of 003 and 001.
+const FIRST_PAIRS: usize = 2;
 
 /// The features of a record that the library loads. Its own number, under the source `=` and the library's code, the number
 /// of 003 and 001, the system numbers of 035 `$a` and the LCCNs of 010 `$a`; leader/06 and 07; the ISBNs of 020 `$a`; the
@@ -79,7 +84,8 @@ fn first_pairs(
     let fields = rec.fields.as_slice();
     let source = own_source(alloc, library.bytes())?;
     let number = Bytes::of(alloc, control_number(rec))?;
-    let mut pairs = Vec::new(alloc);
+    let room = fields_of_pairs(fields).saturating_add(FIRST_PAIRS);
+    let mut pairs = Vec::with_capacity(alloc, room)?;
     pairs.push((source, number))?;
     if let Some(found) = pair(
         alloc,
@@ -95,10 +101,17 @@ fn first_pairs(
 fn own_source(alloc: Global, code: &[u8]) -> Result<Bytes, Memory>
     ensures { IfOk result (λ source. source ≡ codes "=" ++ code.now) }
 {
-    let mut source = Vec::with_capacity(alloc, code.len().saturating_add(1))?;
-    source.push(OWN)?;
-    source.extend_from_slice(code)?;
-    Ok(Bytes::from(source))
+    joined(alloc, &[OWN], code)
+}
+
+/// How many fields may have a control pair. That is how much room the list of pairs begins with, and nothing else.
+fn fields_of_pairs(fields: &[Field]) -> usize {
+    fields.iter().filter(|field| may_have_pair(field)).count()
+}
+
+/// Whether the field has tag 010 or 035.
+fn may_have_pair(field: &Field) -> bool {
+    matches!(field.tag, [b'0', b'1', b'0'] | [b'0', b'3', b'5'])
 }
 
 /// The type of record and the bibliographic level.
@@ -114,8 +127,9 @@ fn types_of(alloc: Global, rec: &Record) -> Result<Vec<[u8; 2]>, Memory>
 fn date_in(alloc: Global, text: &[u8]) -> Result<Vec<[u8; 4]>, Memory>
     ensures { IfOk result (λ dates. dates.items ≡ date_in text.now) }
 {
-    let mut dates = Vec::with_capacity(alloc, 1)?;
+    let mut dates = Vec::new(alloc);
     if let Some(date) = year_of(text) {
+        dates.reserve_exact(1)?;
         dates.push(date)?;
     }
     Ok(dates)

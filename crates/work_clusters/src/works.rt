@@ -1,5 +1,5 @@
 //! The works of a catalogue.
-ghost use Rattle.std.specs.Prelude.{◌≡◌, ◌+◌, ◌<◌, ◌≤◌, [], ◌∷◌, ℕ, List, Ok, length, find, OnOk, if◌then◌else◌};
+ghost use Rattle.std.specs.Prelude.{◌≡◌, ◌+◌, ◌<◌, ◌≤◌, [], ◌∷◌, ℕ, List, length, find, OnOk, if◌then◌else◌};
 ghost use Rattle.std.specs.Option.{option_copied, option_map};
 ghost use Rattle.work_clusters.specs.Works.{is_key, ids_under, key_after, changed};
 ghost use Rattle.work_clusters.specs.Works.{some, AreWorks};
@@ -89,19 +89,14 @@ impl Works {
     }
 
     /// The change in which the gone pairs leave, and then the come pairs enter. Any pairs make a change: a gone pair that is
-    /// not there leaves nothing, and a come pair that is there stays. It is never refused.
-    pub fn plan(
-        &self,
-        _alloc: Global,
-        gone: Vec<(Bytes, RecordId)>,
-        come: Vec<(Bytes, RecordId)>,
-    ) -> Result<WorkChange, Memory>
-        ensures { result ≡ Ok (record { gone = gone.items; come = come.items }) }
+    /// not there leaves nothing, and a come pair that is there stays. Takes no memory.
+    pub fn plan(&self, gone: Vec<(Bytes, RecordId)>, come: Vec<(Bytes, RecordId)>) -> WorkChange
+        ensures { result ≡ record { gone = gone.items; come = come.items } }
     {
-        Ok(WorkChange {
+        WorkChange {
             gone: Sequence::from(gone),
             come: Sequence::from(come),
-        })
+        }
     }
 
     /// Makes room for the change's come pairs. Returns `Memory` if allocation fails. The works stay, whatever the answer.

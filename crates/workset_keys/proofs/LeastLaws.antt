@@ -1,6 +1,6 @@
 -- The least name is least.
 use Rattle.std.proofs.Common.{◌≡◌, ℕ, Bool, true, false, List, [], ◌∷◌, ◌++◌, refl, sym, ◌∙◌, ap, subst, arith, append_assoc, Contains, inl, inr}
-use Rattle.std.specs.Prelude.{◌⊎◌, map, fold, if◌then◌else◌}
+use Rattle.std.specs.Prelude.{fold, if◌then◌else◌}
 use Rattle.std.specs.Ordering.{nat_cmp, is_lt}
 use Rattle.std.specs.declared.cmp.Ordering.{Ordering}
 use Rattle.std.specs.declared.cmp.Ordering.TheVariants.{Less, Equal, Greater}
@@ -9,13 +9,8 @@ use Rattle.std.proofs.lemmas.Cmp.{nat_list_cmp_total, tied_itself}
 use Rattle.std.proofs.lemmas.List.{append-nil}
 use Rattle.std.proofs.lemmas.List.Elements.{Contains-append_left, Contains-push, Contains-push_cases}
 use Rattle.naco_normal.specs.Words.{is_empty}
-use Rattle.union_base.specs.declared.field.Field.{Field}
-use Rattle.workset_keys.specs.Laws.{IsLeastOf, AreEmpty}
-use Rattle.workset_keys.specs.Names.{name_of}
-use Rattle.workset_keys.specs.WorkKeys.{lesser, least_name}
-
-abbrev Stands : List (List ℕ) → List ℕ → Type 0
-Stands names least = AreEmpty names least ⊎ IsLeastOf names least
+use Rattle.workset_keys.specs.Laws.{IsLeastOf, IsLeastOrNone}
+use Rattle.workset_keys.specs.WorkKeys.{lesser, least_of}
 
 abbrev before : List ℕ → List ℕ → Bool
 before x y = is_lt (slice_cmp nat_cmp x y)
@@ -52,7 +47,7 @@ clash x same some = absurd (two (is_empty x) (ap is_empty same) some)
 
 -- the name comes after names that are all empty
 first : (names : List (List ℕ)) (name : List ℕ) (e : Bool) → is_empty name ≡ e → ((other : List ℕ) → Contains names other → other ≡ [])
-    → Stands (names ++ name ∷ []) name
+    → IsLeastOrNone (names ++ name ∷ []) name
 first names name true is all = inl (record {
   all = λ other in'. elim (Contains-push_cases names name other in') [
     | inl among ↦ all other among
@@ -97,17 +92,18 @@ later names least name false false is less_is h = record {
   ];
 }
 
-step : (names : List (List ℕ)) (least name : List ℕ) → Stands names least → Stands (names ++ name ∷ []) (lesser least name)
+step : (names : List (List ℕ)) (least name : List ℕ) → IsLeastOrNone names least → IsLeastOrNone (names ++ name ∷ []) (lesser least name)
 step names least name (inl h) =
-    subst (λ x. Stands (names ++ name ∷ []) (lesser x name)) (sym h.none) (first names name (is_empty name) refl h.all)
+    subst (λ x. IsLeastOrNone (names ++ name ∷ []) (lesser x name)) (sym h.none) (first names name (is_empty name) refl h.all)
 step names least name (inr h) =
     rw h.some (inr (later names least name (is_empty name) (before name least) refl refl h))
 
-along : (names : List (List ℕ)) (least : List ℕ) (more : List (List ℕ)) → Stands names least → Stands (names ++ more) (fold lesser least more)
+along : (names : List (List ℕ)) (least : List ℕ) (more : List (List ℕ)) → IsLeastOrNone names least → IsLeastOrNone (names ++ more) (fold lesser least more)
 along names least [] h = rw append-nil h
 along names least (name ∷ more) h =
-    subst (λ all. Stands all (fold lesser (lesser least name) more)) (append_assoc names (name ∷ []) more)
+    subst (λ all. IsLeastOrNone all (fold lesser (lesser least name) more)) (append_assoc names (name ∷ []) more)
     (along (names ++ name ∷ []) (lesser least name) more (step names least name h))
 
-pub least-name : (fields : List Field) → AreEmpty (map name_of fields) (least_name fields) ⊎ IsLeastOf (map name_of fields) (least_name fields)
-least-name fields = along [] [] (map name_of fields) (inl (record { all = λ name in'. absurd (omega (arith, in'.1)); none = refl }))
+-- the least of names is a least one
+pub least-of : (names : List (List ℕ)) → IsLeastOrNone names (least_of names)
+least-of names = along [] [] names (inl (record { all = λ name in'. absurd (omega (arith, in'.1)); none = refl }))

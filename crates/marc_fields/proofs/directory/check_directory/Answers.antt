@@ -1,7 +1,7 @@
-use Rattle.std.proofs.Common.{◌≡◌, ◌+◌, ◌-◌, ◌∙◌, sym, subst, arith, length}
-use Rattle.marc_fields.specs.Rows.{IsRefusal}
+use Rattle.std.proofs.Common.{◌≡◌, ◌+◌, ◌-◌, ◌∙◌, sym, arith, length}
 use Rattle.marc_fields.specs.Rules.{entry_texts, has_digits, has_tag}
 use Rattle.marc_fields.specs.Spelling.{entry_bytes}
+use Rattle.marc_fields.proofs.DecodingLaws.{refusal-of}
 use Rattle.marc_fields.proofs.DirectoryLaws.{row-later, entry-read, spelled-more, are-more, formed-more, directory_failure-from, directory-read}
 use Rattle.marc_fields.proofs.ReadingLaws.{is_tag-read}
 use Rattle.marc_fields.proofs.directory.check_directory.Goals as goal
@@ -34,9 +34,8 @@ loop-i-preserved c =
 pub returns-in-Err : goal.returns-in-Err
 returns-in-Err c =
     let inv = c.loop-i.invariant in
-    subst (IsRefusal c.failure_at.result)
-    (directory_failure-from (entry_texts c.args.count c.args.directory.now) (entry_texts (c.args.count - c.loop-i.i) c.loop-i.rest.now) (c.loop-i.i + 1) inv.digits inv.tags)
-    c.failure_at.ensures
+    let same = directory_failure-from (entry_texts c.args.count c.args.directory.now) (entry_texts (c.args.count - c.loop-i.i) c.loop-i.rest.now) (c.loop-i.i + 1) inv.digits inv.tags in
+    refusal-of c.from.result c.failure_at.result _ c.from.ensures (sym same ∙ c.failure_at.ensures)
 
 pub returns : goal.returns
 returns c =

@@ -1,10 +1,8 @@
-use Rattle.std.proofs.Common.{◌∙◌, sym, subst, Option}
+use Rattle.std.proofs.Common.{◌∙◌}
 use Rattle.std.proofs.lemmas.Bool.{and_parts}
 use Rattle.marc_leader.specs.Leader.{base_place}
 use Rattle.marc_leader.specs.Numeral.{are_digits}
-use Rattle.marc_fields.specs.Rows.{IsRefusal}
 use Rattle.marc_fields.specs.Rules.{is_base, base_in}
-use Rattle.marc_fields.specs.declared.rules.Failure.{Failure}
 use Rattle.marc_fields.proofs.FrontLaws.{none_if, some_if, leader_failure-digits, leader_failure-differs, leader_failure-base, leader_failure-counts, front-read}
 use Rattle.marc_fields.proofs.head.check_leader.Goals as goal
 
@@ -43,5 +41,4 @@ pub returns-in-Err : goal.returns-in-Err
 returns-in-Err c =
     let size = some_if _ _ c.in-Some.size c.in-Some.ensures.value in
     let base = some_if _ _ c.in-Some-read_base.base c.in-Some-read_base.ensures in
-    let Is : Option Failure → Type 0 = λ failure. IsRefusal c.in-Err.refusal failure in
-    subst Is (sym (leader_failure-counts c.args.leader.now c.args.frame.now c.in-Some.size size.0 size.1 c.if-size-frame.false base.0)) c.in-Err.ensures
+    leader_failure-counts c.args.leader.now c.args.frame.now c.in-Some.size size.0 size.1 c.if-size-frame.false base.0 ∙ c.in-Err.ensures

@@ -1,4 +1,4 @@
-use Rattle.marc_fields.proofs.DecodingLaws.{refusal-first}
+use Rattle.marc_fields.proofs.DecodingLaws.{refusal-of, refusal-first}
 use Rattle.marc_rules.specs.NineteenRules.{whole_failure}
 use Rattle.marc_rules.proofs.check.check_whole.Goals as goal
 
@@ -13,4 +13,5 @@ returns-in-Err-check_behind c = rw c.in-Ok.ensures.0 c.in-Err-check_behind.ensur
 
 pub returns-in-Err : goal.returns-in-Err
 unfolding whole_failure
-returns-in-Err c = refusal-first c.in-Err.refusal _ _ c.in-Err.ensures
+returns-in-Err c =
+    refusal-first c.from.result _ _ (refusal-of c.from.result c.in-Err.failure _ c.from.ensures c.in-Err.ensures)

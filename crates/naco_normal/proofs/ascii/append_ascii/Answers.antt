@@ -1,11 +1,10 @@
 use Rattle.std.proofs.Common.{◌+◌, length, ◌≤◌, sym, ap, ◌∙◌, drop_of_length-le, encode_utf8_all, arith}
 use Rattle.std.specs.Char.{is_ascii_alphanumeric}
 use Rattle.std.specs.List.{list_any}
-use Rattle.naco_normal.specs.Ascii.{ascii_letters}
 use Rattle.naco_normal.specs.Normal.{spaced}
 use Rattle.naco_normal.specs.Words.{joined}
 use Rattle.naco_normal.proofs.WordsLemmas.{read_on, read_on-spaced}
-use Rattle.naco_normal.proofs.AsciiLemmas.{read_kept, read_deleted, read_blank, read_comma, letters-ascii, slice_rest}
+use Rattle.naco_normal.proofs.AsciiLemmas.{ascii_letters, read_kept, read_deleted, read_blank, read_comma, letters-ascii, slice_rest}
 use Rattle.naco_normal.proofs.ascii.append_ascii.Goals as goal
 
 pub loop-place-preserved-then-letter-gt-BLANK : goal.loop-place-preserved-then-letter-gt-BLANK

@@ -1,5 +1,5 @@
 use Rattle.std.proofs.Common.{◌≡◌, ◌≤◌, ◌+◌, ◌-◌, true, length, drop, vec_len, vec_capacity}
-use Rattle.naco_normal.specs.Ascii.{ascii_letters}
+use Rattle.naco_normal.proofs.AsciiLemmas.{ascii_letters}
 use Rattle.naco_normal.specs.Shown.{keeps_first}
 use Rattle.naco_normal.specs.Words.{gap_room}
 use Rattle.naco_normal.proofs.WordsLemmas.{read_on}
