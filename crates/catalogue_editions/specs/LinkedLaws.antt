@@ -1,5 +1,5 @@
 -- A merge of editions is linked where both its sides are, and so is the edition of one record.
-use Rattle.std.proofs.Common.{◌≡◌, ℕ, Bool, true, false, ◌||◌, IsTrue, List, [], ◌∷◌, refl, ◌∙◌}
+use Rattle.std.proofs.Common.{◌≡◌, ℕ, true, IsTrue, List, [], ◌∷◌, refl, ◌∙◌}
 use Rattle.std.specs.Ordering.{eq_by_cmp}
 use Rattle.std.specs.Cmp.{eq_by_cmp_equiv}
 use Rattle.union_base.specs.SortedLists.{union, set_of, has}
@@ -8,17 +8,10 @@ use Rattle.union_base.proofs.SortedListLaws.{has-union}
 use Rattle.union_base.specs.declared.record_id.RecordId.{RecordId}
 use Rattle.match_features.specs.Kept.{pairs_cmp}
 use Rattle.match_features.specs.KeptLaws.{pairs_total}
+use Rattle.match_features.proofs.MemberLaws.{or_left, or_right}
 use Rattle.field_merge.specs.Kept.{id_cmp}
 use Rattle.catalogue_editions.specs.Linked.{own_pair, are_linked}
 use Rattle.catalogue_editions.specs.ListLaws.{all-union, all-weaker}
-
-or_left : (a b : Bool) → a ≡ true → (a || b) ≡ true
-or_left true b h = refl
-or_left false b h = cc
-
-or_right : (a b : Bool) → b ≡ true → (a || b) ≡ true
-or_right true b h = refl
-or_right false b h = h
 
 -- what is linked to some pairs is linked to more
 linked-left : (c d : List (List ℕ × List ℕ)) (ids : List RecordId) → are_linked ids c ≡ true → are_linked ids (union pairs_cmp c d) ≡ true

@@ -1,11 +1,12 @@
 -- Editions match as their features meet.
 use Rattle.merge_laws.specs.Resolution.{MatchLaws, KeyLaws}
-use Rattle.merge_laws.specs.Candidates.{SeekingLaws}
+use Rattle.merge_laws.specs.Candidates.{SeekingLaws, FindingLaws}
 use Rattle.match_features.proofs.MeetLaws.{features_match_laws}
 use Rattle.match_features.proofs.KeyLaws.{features_key_laws}
 use Rattle.match_features.proofs.PostedLaws.{features_seeking_laws}
+use Rattle.match_features.proofs.FindingLaws.{features_finding_laws}
 use Rattle.catalogue_editions.specs.Joining.{join}
-use Rattle.catalogue_editions.specs.Matching.{match, HasFeatureKey, IsPostedUnder, SeeksKey, share}
+use Rattle.catalogue_editions.specs.Matching.{match, HasFeatureKey, IsPostedUnder, SeeksKey, share, is_found}
 
 -- each edition matches itself, matching goes both ways, and what matches an edition matches what it is merged into
 pub edition_match_laws : MatchLaws match join
@@ -28,4 +29,11 @@ pub edition_seeking_laws : SeekingLaws match IsPostedUnder SeeksKey share
 edition_seeking_laws = record {
   matching = λ x y. features_seeking_laws.matching x.features y.features;
   near = λ x y. features_seeking_laws.near x.features y.features;
+}
+
+-- what an edition finds it finds too once it is merged with another
+pub edition_finding_laws : FindingLaws join IsPostedUnder SeeksKey is_found
+edition_finding_laws = record {
+  found = λ w x. features_finding_laws.found w.features x.features;
+  grows = λ w x y. features_finding_laws.grows w.features x.features y.features;
 }

@@ -1,8 +1,12 @@
 //! Which editions match, as `specs/Matching.antt` has it: by their features alone.
-ghost use Rattle.std.specs.Prelude.{◌≢◌, ◌↔◌, AllPairs, Contains, IfOk, refl};
+//!
+//! Guarantee: beside the laws of `Resolvable`, `posted_beside` answers None only where the base has a feature more or the two
+//! are keyed by title in different ways, and `sought_beside` leaves out each control pair of the base. Cost: each call walks the
+//! sorted lists of features once, and takes memory for the keys that it answers.
+ghost use Rattle.std.specs.Prelude.{◌≡◌, ◌≢◌, ◌↔◌, AllPairs, Contains, IfOk, IfSome, IsTrue, is_some, false, refl};
 ghost use Rattle.catalogue_editions.specs.Matching.{match as edition_match, HasFeatureKey, share};
-ghost use Rattle.catalogue_editions.specs.Matching.{IsPostedUnder, SeeksKey, IsSoughtBy};
-ghost use Rattle.catalogue_editions.specs.MatchLaws.{edition_match_laws, edition_key_laws, edition_seeking_laws};
+ghost use Rattle.catalogue_editions.specs.Matching.{IsPostedUnder, SeeksKey, is_found, IsSoughtBy, has_features_of, SeeksKeyBeside};
+ghost use Rattle.catalogue_editions.specs.MatchLaws.{edition_match_laws, edition_key_laws, edition_seeking_laws, edition_finding_laws};
 ghost use Rattle.catalogue_editions.specs.ExactKeys.{exact_keys};
 
 use crate::edition::Edition;
@@ -28,6 +32,8 @@ impl Resolvable for Edition {
     ghost is_posted = { IsPostedUnder };
 
     ghost seeks = { SeeksKey };
+
+    ghost is_found = { is_found };
 
     ghost is_sought = { IsSoughtBy };
 
@@ -65,11 +71,26 @@ impl Resolvable for Edition {
         &self,
         alloc: Global,
         base: &Edition,
-    ) -> Result<Option<Vec<FeatureKey>>, Memory> {
+    ) -> Result<Option<Vec<FeatureKey>>, Memory>
+        ensures told { IfOk result (λ o. is_some o ≡ has_features_of self.now base.now) }
+        ensures keeps { IfOk result (λ o. IfSome o (λ keys. (k : FeatureKey)
+            → IsPostedUnder base.now k → IsPostedUnder self.now k)) }
+        ensures keys { IfOk result (λ o. IfSome o (λ keys. (k : FeatureKey) → Contains keys.items k
+            ↔ (IsPostedUnder self.now k × (IsPostedUnder base.now k → ⊥)))) }
+        ensures once { IfOk result (λ o. IfSome o (λ keys. AllPairs (λ j k. j ≢ k) keys.items)) }
+    {
         posted_beside(alloc, self.features(), base.features())
     }
 
-    fn sought_beside(&self, alloc: Global, base: &Edition) -> Result<Vec<FeatureKey>, Memory> {
+    fn sought_beside(&self, alloc: Global, base: &Edition) -> Result<Vec<FeatureKey>, Memory>
+        ensures exact { IfOk result (λ keys. (k : FeatureKey) → Contains keys.items k
+            ↔ SeeksKeyBeside self.now base.now k) }
+        ensures keys { IfOk result (λ keys. (k : FeatureKey) → Contains keys.items k
+            → SeeksKey self.now k) }
+        ensures whole { IfOk result (λ keys. (x : Edition) → IsTrue (edition_match self.now x)
+            → edition_match base.now x ≡ false
+            → (k : FeatureKey) × Contains keys.items k × IsPostedUnder x k) }
+    {
         sought_beside(alloc, self.features(), base.features())
     }
 
@@ -78,6 +99,8 @@ impl Resolvable for Edition {
     ghost key_laws = { edition_key_laws };
 
     ghost seeking_laws = { edition_seeking_laws };
+
+    ghost finding_laws = { edition_finding_laws };
 
     ghost exact_keys = { exact_keys (record {
       controls = λ p q. refl;

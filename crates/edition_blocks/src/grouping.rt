@@ -77,7 +77,7 @@ pub fn grouped(alloc: Global, names: &NameTable, blocks: &Blocks<Edition>) -> Re
         ≡ works_of (work_pairs names.now (values_of (blocks_in blocks.now.blocks)))) }
 {
     let mut works = Works::empty(alloc);
-    let change = works.plan(alloc, Vec::new(alloc), pairs(alloc, names, blocks)?)?;
+    let change = works.plan(Vec::new(alloc), pairs(alloc, names, blocks)?);
     works.make_room(alloc, &change)?;
     works.install(change);
     Ok(works)

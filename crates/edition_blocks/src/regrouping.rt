@@ -75,7 +75,7 @@ fn make_room_in(
 {
     let gone = closed_pairs(alloc, names, blocks, change.closed.as_slice())?;
     let come = opened_pairs(alloc, names, change.opened.as_slice())?;
-    let regrouped = works.plan(alloc, gone, come)?;
+    let regrouped = works.plan(gone, come);
     works.make_room(alloc, &regrouped)?;
     Ok(regrouped)
 }

@@ -20,12 +20,22 @@ use Rattle.match_features.specs.Kept.{texts_cmp, pairs_cmp}
 use Rattle.match_features.specs.KeptLaws.{pairs_total, pairs_tie}
 use Rattle.match_features.specs.JoinLaws.{parts}
 use Rattle.match_features.specs.Meeting.{meet_by_isbn, meet_by_issn, meet_by_title, meet}
-use Rattle.match_features.specs.Keys.{keys, HasKey}
-use Rattle.match_features.specs.Posted.{has_few, IsPosted, is_posted, Seeks, description_keys, number_keys, sought_by_title}
-use Rattle.match_features.specs.Posted.{beside, has_each, are_alike, has_keys_of, numbers_beside, descriptions_beside, posted_beside, sought_beside}
+use Rattle.match_features.specs.Keys.{HasKey}
+use Rattle.match_features.specs.Posted.{has_few, IsPosted, is_posted, Seeks, IsPairOf, SeeksBeside, has_each, are_alike, has_keys_of}
+use Rattle.match_features.specs.KeyLists.{description_keys, number_keys, sought_by_title, beside, numbers_beside, descriptions_beside, beside_by_title}
 use Rattle.match_features.proofs.MemberLaws.{or_left, has-from_member, member-from_has, common-from_member, member-filter, member-from_filter, member-map, member-from_map, once-from_ascending, once-append}
-use Rattle.match_features.proofs.KeyLaws.{features_keys, features_keys_once}
-use Rattle.match_features.proofs.PostedLaws.{features_seeking_laws, told-from_posted, posted-from_told, description-from_member, member-from_description, descriptions_once, posted-from_key, title-sought, description-sought, many-sought, features_sought}
+use Rattle.match_features.proofs.KeyLaws.{keys, features_keys, features_keys_once}
+use Rattle.match_features.proofs.PostedLaws.{features_seeking_laws, told-from_posted, posted-from_told, description-from_member, member-from_description, descriptions_once, posted-from_key, none-few, title-sought, description-sought, many-sought, features_sought}
+
+-- the keys under which x is posted beside those of y, where x has the keys of y
+abbrev pub posted_beside : Features → Features → List FeatureKey
+posted_beside x y =
+    numbers_beside x y ++ map Title (beside texts_cmp x.titles y.titles) ++ beside_by_title x y (beside texts_cmp x.titles y.titles)
+
+-- the keys that x seeks, but for the control pairs that y has
+abbrev pub sought_beside : Features → Features → List FeatureKey
+sought_beside x y =
+    map Control (beside pairs_cmp x.control y.control) ++ map Isbn x.isbns ++ map Issn x.issns ++ sought_by_title x
 
 -- ---- the members of one list that another has not
 
@@ -125,10 +135,6 @@ has_all x y h =
       dates = each x.dates y.dates six.1;
       names = each x.names y.names all.1;
     }
-
-none-few : (b : Bool) → not b ≡ true → b ≡ false
-none-few true h = cc
-none-few false h = refl
 
 -- the key has a title, or a date, of these features
 abbrev HasTitleOf : Features → FeatureKey → Type 0
@@ -422,17 +428,54 @@ module _ (x y : Features) where
         ])
       ]
 
-  pub features_sought_beside : (k : FeatureKey) → Contains (sought_beside x y) k → Seeks x k
-  features_sought_beside k h =
+  sought-from_beside : (k : FeatureKey) → Contains (sought_beside x y) k → Seeks x k
+  sought-from_beside k h =
       (features_sought x k).0 (elim (Contains-append_cases (new_control ++ isbns ++ issns) (sought_by_title x) k h) [
         | inl number ↦ Contains-append_left (number_keys x) (sought_by_title x) k (number-from_new k number)
         | inr titled ↦ Contains-append_right (number_keys x) (sought_by_title x) k titled
       ])
 
-  -- what has a control pair of y's meets y
-  met-from_control : (z : Features) (pair : List ℕ × List ℕ) → Contains y.control pair → Contains z.control pair → meet y z ≡ true
-  met-from_control z pair mine its =
-      or_left _ (meet_by_title y z) (or_left _ (meet_by_issn y z) (or_left _ (meet_by_isbn y z) (common-from_member pairs_total pairs_tie y.control z.control pair mine its)))
+  -- no control pair of y's is sought beside
+
+  no_pair-titles : (f : List ℕ → FeatureKey) → ((t : List ℕ) → IsPairOf y (f t) → ⊥) → (ts : List (List ℕ)) (k : FeatureKey) → Contains (map f ts) k → IsPairOf y k → ⊥
+  no_pair-titles f none ts k h p = let (t, there, is) = member-from_map f ts k h in none t (subst (IsPairOf y) (sym is) p)
+
+  no_pair-descriptions : (k : FeatureKey) → Contains (description_keys x.titles x.dates x.names) k → IsPairOf y k → ⊥
+  no_pair-descriptions k h p =
+      let (t, d, n, ct, cd, cn, is) = description-from_member x.titles x.dates x.names k h in
+      subst (IsPairOf y) (sym is) p
+
+  no_pair-titled : (k : FeatureKey) → Contains (sought_by_title x) k → IsPairOf y k → ⊥
+  no_pair-titled k h =
+      let many = map TitleOfMany x.titles in
+      let descriptions = description_keys x.titles x.dates x.names in
+      elim (has_few x) as (λ b. Contains (cond b (many ++ descriptions) (map Title x.titles)) k → IsPairOf y k → ⊥) [
+        | true ↦ λ c p. elim (Contains-append_cases many descriptions k c) [
+          | inl e ↦ no_pair-titles TitleOfMany (λ t q. q) x.titles k e p
+          | inr e ↦ no_pair-descriptions k e p
+        ]
+        | false ↦ λ c p. no_pair-titles Title (λ t q. q) x.titles k c p
+      ] h
+
+  no_pair-new : (k : FeatureKey) → Contains new_control k → IsPairOf y k → ⊥
+  no_pair-new k h p =
+      let (pair, there, is) = member-from_map Control (beside pairs_cmp x.control y.control) k h in
+      (member-from_beside pairs_total pairs_tie x.control y.control pair there).1 (subst (IsPairOf y) (sym is) p)
+
+  no_pair-beside : (k : FeatureKey) → Contains (sought_beside x y) k → IsPairOf y k → ⊥
+  no_pair-beside k h p =
+      elim (Contains-append_cases (new_control ++ isbns ++ issns) (sought_by_title x) k h) [
+        | inr titled ↦ no_pair-titled k titled p
+        | inl number ↦ elim (Contains-append_cases (new_control ++ isbns) issns k number) [
+          | inr e ↦ (let (issn, there, is) = member-from_map Issn x.issns k e in subst (IsPairOf y) (sym is) p)
+          | inl e ↦ elim (Contains-append_cases new_control isbns k e) [
+            | inr f ↦ (let (isbn, there, is) = member-from_map Isbn x.isbns k f in subst (IsPairOf y) (sym is) p)
+            | inl f ↦ no_pair-new k f p
+          ]
+        ]
+      ]
+
+  -- all else that x seeks is
 
   number-beside : (k : FeatureKey) → Contains (new_control ++ isbns ++ issns) k → Contains (sought_beside x y) k
   number-beside k h = Contains-append_left (new_control ++ isbns ++ issns) (sought_by_title x) k h
@@ -440,21 +483,37 @@ module _ (x y : Features) where
   titled-beside : (k : FeatureKey) → Contains (sought_by_title x) k → Contains (sought_beside x y) k
   titled-beside k h = Contains-append_right (new_control ++ isbns ++ issns) (sought_by_title x) k h
 
-  found-beside : (z : Features) (k : FeatureKey) → meet y z ≡ false → Seeks x k → IsPosted z k → Contains (sought_beside x y) k
-  found-beside z (Control pair) apart s p =
+  beside-from_sought : (k : FeatureKey) → SeeksBeside x y k → Contains (sought_beside x y) k
+  beside-from_sought (Control pair) (s, none) =
       elim (has pairs_cmp y.control pair) as (λ b. has pairs_cmp y.control pair ≡ b → Contains (sought_beside x y) (Control pair)) [
-        | true ↦ λ e. absurd (let clash : true ≡ false = sym (met-from_control z pair (member-from_has pairs_total pairs_tie y.control pair e) p) ∙ apart in cc)
+        | true ↦ λ e. absurd (none (member-from_has pairs_total pairs_tie y.control pair e))
         | false ↦ λ e. number-beside (Control pair) (Contains-append_left (new_control ++ isbns) issns (Control pair) (Contains-append_left new_control isbns (Control pair)
             (member-map Control (beside pairs_cmp x.control y.control) pair (beside-from_member pairs_cmp x.control y.control pair s e))))
       ] refl
-  found-beside z (Isbn isbn) apart s p =
+  beside-from_sought (Isbn isbn) (s, none) =
       number-beside (Isbn isbn) (Contains-append_left (new_control ++ isbns) issns (Isbn isbn) (Contains-append_right new_control isbns (Isbn isbn) (member-map Isbn x.isbns isbn s)))
-  found-beside z (Issn issn) apart s p = number-beside (Issn issn) (Contains-append_right (new_control ++ isbns) issns (Issn issn) (member-map Issn x.issns issn s))
-  found-beside z (Title title) apart s p = titled-beside (Title title) (title-sought x title s)
-  found-beside z (Description key) apart s p = titled-beside (Description key) (description-sought x key s)
-  found-beside z (TitleOfMany title) apart s p = titled-beside (TitleOfMany title) (many-sought x title s)
+  beside-from_sought (Issn issn) (s, none) = number-beside (Issn issn) (Contains-append_right (new_control ++ isbns) issns (Issn issn) (member-map Issn x.issns issn s))
+  beside-from_sought (Title title) (s, none) = titled-beside (Title title) (title-sought x title s)
+  beside-from_sought (Description key) (s, none) = titled-beside (Description key) (description-sought x key s)
+  beside-from_sought (TitleOfMany title) (s, none) = titled-beside (TitleOfMany title) (many-sought x title s)
+
+  pub features_sought_beside : (k : FeatureKey) → Contains (sought_beside x y) k ↔ SeeksBeside x y k
+  features_sought_beside k = (λ h. (sought-from_beside k h, no_pair-beside k h), beside-from_sought k)
+
+  -- what has a control pair of y's meets y
+  met-from_control : (z : Features) (pair : List ℕ × List ℕ) → Contains y.control pair → Contains z.control pair → meet y z ≡ true
+  met-from_control z pair mine its =
+      or_left _ (meet_by_title y z) (or_left _ (meet_by_issn y z) (or_left _ (meet_by_isbn y z) (common-from_member pairs_total pairs_tie y.control z.control pair mine its)))
+
+  met-from_pair : (z : Features) (k : FeatureKey) → IsPairOf y k → IsPosted z k → meet y z ≡ true
+  met-from_pair z (Control pair) mine its = met-from_control z pair mine its
+  met-from_pair z (Isbn isbn) mine its = absurd mine
+  met-from_pair z (Issn issn) mine its = absurd mine
+  met-from_pair z (Title title) mine its = absurd mine
+  met-from_pair z (Description key) mine its = absurd mine
+  met-from_pair z (TitleOfMany title) mine its = absurd mine
 
   pub features_found_beside : (z : Features) → meet x z ≡ true → meet y z ≡ false → (k : FeatureKey) × Contains (sought_beside x y) k × IsPosted z k
   features_found_beside z met apart =
       let (k, s, p) = features_seeking_laws.matching x z met in
-      (k, found-beside z k apart s p, p)
+      (k, beside-from_sought k (s, λ mine. let clash : true ≡ false = sym (met-from_pair z k mine p) ∙ apart in cc), p)

@@ -8,7 +8,8 @@ use Rattle.std.specs.FinMap.{IsAntisymmetric}
 use Rattle.std.specs.List.{list_all}
 use Rattle.union_base.specs.Both.{both_true, true_both}
 use Rattle.union_base.specs.SortedLists.{is_ascending, has}
-use Rattle.match_features.specs.Posted.{beside, has_each}
+use Rattle.match_features.specs.Posted.{has_each}
+use Rattle.match_features.specs.KeyLists.{beside}
 
 lt_is : (r : Ordering) → is_lt r ≡ true → r ≡ Less
 lt_is Less h = refl

@@ -16,7 +16,11 @@ use Rattle.match_features.specs.JoinLaws.{parts}
 use Rattle.match_features.specs.Meeting.{meet_by_control, meet_by_isbn, meet_by_issn, have_common_but_serials, meet_by_title, meet}
 use Rattle.match_features.proofs.MeetLaws.{or_more}
 use Rattle.match_features.proofs.MemberLaws.{or_cases, or_left, or_right, member-from_common, common-from_member, member-from_union, union-from_member, member-map, member-from_map, once-from_ascending, once-append, apart_maps}
-use Rattle.match_features.specs.Keys.{keys, HasKey, share_key, key_eq}
+use Rattle.match_features.specs.Keys.{HasKey, share_key, key_eq}
+
+-- each control pair, each ISBN, each ISSN, each title
+abbrev pub keys : Features → List FeatureKey
+keys x = map Control x.control ++ map Isbn x.isbns ++ map Issn x.issns ++ map Title x.titles
 
 -- those that meet share a key: a control pair, an ISBN, an ISSN or a title
 share-from_meet : (x y : Features) → IsTrue (meet x y) → IsTrue (share_key x y)

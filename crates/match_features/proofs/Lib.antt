@@ -5,3 +5,4 @@ pub mod MeetLaws
 pub mod KeyLaws
 pub mod PostedLaws
 pub mod TitledLaws
+pub mod FindingLaws

@@ -14,10 +14,11 @@ use Rattle.match_features.specs.Kept.{texts_cmp}
 use Rattle.match_features.specs.KeptLaws.{pairs_total, pairs_tie}
 use Rattle.match_features.specs.JoinLaws.{parts}
 use Rattle.match_features.specs.Meeting.{meet_by_control, meet_by_isbn, meet_by_issn, have_common_but_serials, meet_by_title, meet}
-use Rattle.match_features.specs.Keys.{keys, HasKey, share_key}
-use Rattle.match_features.specs.Posted.{has_few, IsPosted, is_posted, Seeks, dated_keys, description_keys, number_keys, posted, sought, sought_by_title}
+use Rattle.match_features.specs.Keys.{HasKey, share_key}
+use Rattle.match_features.specs.Posted.{has_few, IsPosted, is_posted, Seeks}
+use Rattle.match_features.specs.KeyLists.{dated_keys, description_keys, number_keys, posted, sought, sought_by_title}
 use Rattle.match_features.proofs.MemberLaws.{or_cases, has-from_member, member-from_has, member-from_common, member-map, member-from_map, member-flat_map, member-from_flat_map, once-flat_map, once-from_ascending, once-append}
-use Rattle.match_features.proofs.KeyLaws.{share-from_key, features_keys, features_keys_once}
+use Rattle.match_features.proofs.KeyLaws.{keys, share-from_key, features_keys, features_keys_once}
 
 -- ---- those that meet find one another
 
@@ -149,7 +150,7 @@ module _ (titles dates names : List (List ℕ)) where
       dates (once-from_ascending nat_list_cmp_total texts_apart (λ x. x) (λ p q e. e) dates ad))
       titles (once-from_ascending nat_list_cmp_total texts_apart (λ x. x) (λ p q e. e) titles at)
 
-none-few : (b : Bool) → not b ≡ true → b ≡ false
+pub none-few : (b : Bool) → not b ≡ true → b ≡ false
 none-few true h = cc
 none-few false h = refl
 

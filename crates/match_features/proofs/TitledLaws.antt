@@ -6,7 +6,8 @@ use Rattle.std.proofs.lemmas.List.Concat.{flat_map-cons}
 use Rattle.match_features.specs.declared.features.Features.{Features}
 use Rattle.match_features.specs.declared.keys.FeatureKey.{FeatureKey}
 use Rattle.match_features.specs.declared.keys.FeatureKey.TheVariants.{Control, Isbn, Issn, Title, Description, TitleOfMany}
-use Rattle.match_features.specs.Posted.{has_few, dated_keys, description_keys, number_keys, posted, sought, title_alone}
+use Rattle.match_features.specs.Posted.{has_few}
+use Rattle.match_features.specs.KeyLists.{dated_keys, description_keys, number_keys, posted, sought, title_alone}
 
 -- keys of one kind, as keys of the kind that each becomes
 each-title_alone : {A : Type 0} (f g : A → FeatureKey) → ((a : A) → title_alone (f a) ≡ g a) → (xs : List A) → map title_alone (map f xs) ≡ map g xs

@@ -1,5 +1,5 @@
 -- The keys of features: control pairs, ISBNs, ISSNs and titles. Features that meet have one in common.
-use Rattle.std.specs.Prelude.{Bool, false, nat_eq, ◌&&◌, ◌||◌, List, [], ◌∷◌, ◌++◌, map, Contains}
+use Rattle.std.specs.Prelude.{Bool, false, nat_eq, ◌&&◌, ◌||◌, [], ◌∷◌, ◌++◌, Contains}
 use Rattle.std.specs.Hash.{HashWrites, u8, str}
 use Rattle.std.specs.Cmp.Lexicographic.{pointwise}
 use Rattle.union_base.specs.SortedLists.{have_common}
@@ -8,11 +8,7 @@ use Rattle.match_features.specs.declared.keys.FeatureKey.{FeatureKey}
 use Rattle.match_features.specs.declared.keys.FeatureKey.TheVariants.{Control, Isbn, Issn, Title, Description, TitleOfMany}
 use Rattle.match_features.specs.Kept.{texts_cmp, pairs_cmp}
 
--- each control pair, each ISBN, each ISSN, each title
-abbrev pub keys : Features → List FeatureKey
-keys x = map Control x.control ++ map Isbn x.isbns ++ map Issn x.issns ++ map Title x.titles
-
--- the other kinds are for an index alone: see Posted.antt
+-- the features have the key; the last two kinds are for an index alone: see Posted.antt
 abbrev pub HasKey : Features → FeatureKey → Type 0
 HasKey x (Control pair) = Contains x.control pair
 HasKey x (Isbn isbn) = Contains x.isbns isbn

@@ -5,3 +5,5 @@ pub mod JoinLaws
 pub mod Meeting
 pub mod Keys
 pub mod Posted
+pub mod KeyLists
+pub mod Finding

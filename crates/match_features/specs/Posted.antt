@@ -1,19 +1,19 @@
 -- The keys under which an index has features, and the keys by which it is asked for features that may meet them; and of both,
--- those that features have beside others.
+-- those that features have beside others. The lists of these keys are in KeyLists.antt.
 --
 -- By title alone a common title would find all that have it, though features meet by title only where a date and a name are
 -- common too. So features with few titles, dates and names are posted under each title with each date and each name, and seek
 -- these. Features with many are posted under each title as that of many, which the others seek too, and seek all that have one
 -- of their titles.
-use Rattle.std.specs.Prelude.{Bool, nat_le, not, ◌&&◌, IsTrue, ◌*◌, ◌++◌, if◌then◌else◌, ℕ, List, length, map, filter, Contains}
+use Rattle.std.specs.Prelude.{Bool, nat_le, not, ◌&&◌, IsTrue, ◌*◌, if◌then◌else◌, List, length, Contains}
 use Rattle.std.specs.declared.cmp.Ordering.{Ordering}
-use Rattle.std.specs.List.{flat_map, list_all}
+use Rattle.std.specs.List.{list_all}
 use Rattle.union_base.specs.SortedLists.{has}
 use Rattle.match_features.specs.Kept.{texts_cmp, pairs_cmp}
 use Rattle.match_features.specs.declared.features.Features.{Features}
 use Rattle.match_features.specs.declared.keys.FeatureKey.{FeatureKey}
 use Rattle.match_features.specs.declared.keys.FeatureKey.TheVariants.{Control, Isbn, Issn, Title, Description, TitleOfMany}
-use Rattle.match_features.specs.Keys.{keys, HasKey}
+use Rattle.match_features.specs.Keys.{HasKey}
 
 -- at most 64 triples of a title, a date and a name
 abbrev pub has_few : Features → Bool
@@ -44,43 +44,15 @@ Seeks x (Description key) = IsTrue (has_few x) × Contains x.titles key.0 × Con
 Seeks x (TitleOfMany title) = IsTrue (has_few x) × Contains x.titles title
 Seeks x key = HasKey x key
 
--- a title with each date and each name
-abbrev pub dated_keys : List ℕ → List (List ℕ) → List (List ℕ) → List FeatureKey
-dated_keys title dates names = flat_map (λ date. map (λ name. Description (title, date, name)) names) dates
+-- the key is a control pair of the features
+abbrev pub IsPairOf : Features → FeatureKey → Type 0
+IsPairOf x (Control pair) = Contains x.control pair
+IsPairOf x key = ⊥
 
--- each title with each date and each name
-abbrev pub description_keys : List (List ℕ) → List (List ℕ) → List (List ℕ) → List FeatureKey
-description_keys titles dates names = flat_map (λ title. dated_keys title dates names) titles
-
--- each control pair, each ISBN, each ISSN
-abbrev pub number_keys : Features → List FeatureKey
-number_keys x = map Control x.control ++ map Isbn x.isbns ++ map Issn x.issns
-
--- each title with each date and each name where there are few, and else each title as that of many
-abbrev pub posted_by_title : Features → List FeatureKey
-posted_by_title x = if has_few x then description_keys x.titles x.dates x.names else map TitleOfMany x.titles
-
--- each title as that of many and each title with each date and each name where there are few, and else each title
-abbrev pub sought_by_title : Features → List FeatureKey
-sought_by_title x =
-    if has_few x then map TitleOfMany x.titles ++ description_keys x.titles x.dates x.names else map Title x.titles
-
--- the keys under which features are posted, in order
-abbrev pub posted : Features → List FeatureKey
-posted x = keys x ++ posted_by_title x
-
--- the keys that features seek, in order
-abbrev pub sought : Features → List FeatureKey
-sought x = number_keys x ++ sought_by_title x
-
--- a title as that of many, as a title alone; any other key, as it is
-abbrev pub title_alone : FeatureKey → FeatureKey
-title_alone (TitleOfMany title) = Title title
-title_alone key = key
-
--- the values of one list that the other has not
-abbrev pub beside : {K : Type 0} → (K → K → Ordering) → List K → List K → List K
-beside cmp xs ys = filter (λ x. not (has cmp ys x)) xs
+-- features look for others under the key, where it is known that y does not meet what they look for: all features that have a
+-- control pair of y meet y
+abbrev pub SeeksBeside : Features → Features → FeatureKey → Type 0
+SeeksBeside x y key = Seeks x key × (IsPairOf y key → ⊥)
 
 -- whether one list has each value of the other
 abbrev pub has_each : {K : Type 0} → (K → K → Ordering) → List K → List K → Bool
@@ -100,33 +72,3 @@ has_keys_of x y =
     && has_each texts_cmp x.titles y.titles
     && has_each texts_cmp x.dates y.dates
     && has_each texts_cmp x.names y.names
-
--- the keys of x's numbers that y has not
-abbrev pub numbers_beside : Features → Features → List FeatureKey
-numbers_beside x y =
-    map Control (beside pairs_cmp x.control y.control)
-    ++ map Isbn (beside texts_cmp x.isbns y.isbns)
-    ++ map Issn (beside texts_cmp x.issns y.issns)
-
--- each title of x with each date and each name of x, where the title is one of these, or the date or the name is none of y's
-abbrev pub descriptions_beside : Features → Features → List (List ℕ) → List FeatureKey
-descriptions_beside x y titles =
-    description_keys titles x.dates x.names
-    ++ description_keys y.titles (beside texts_cmp x.dates y.dates) x.names
-    ++ description_keys y.titles y.dates (beside texts_cmp x.names y.names)
-
--- those where there are few, and else each of the titles as that of many
-abbrev pub beside_by_title : Features → Features → List (List ℕ) → List FeatureKey
-beside_by_title x y titles = if has_few x then descriptions_beside x y titles else map TitleOfMany titles
-
--- the keys under which x is posted beside those of y, in order, where x has the keys of y
-abbrev pub posted_beside : Features → Features → List FeatureKey
-posted_beside x y =
-    numbers_beside x y
-    ++ map Title (beside texts_cmp x.titles y.titles)
-    ++ beside_by_title x y (beside texts_cmp x.titles y.titles)
-
--- the keys that x seeks, in order, but for the control pairs that y has: y meets all features with one of these
-abbrev pub sought_beside : Features → Features → List FeatureKey
-sought_beside x y =
-    map Control (beside pairs_cmp x.control y.control) ++ map Isbn x.isbns ++ map Issn x.issns ++ sought_by_title x

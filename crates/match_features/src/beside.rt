@@ -2,7 +2,8 @@
 //!
 //! Each call walks both lists once, side by side.
 ghost use Rattle.std.specs.Prelude.{◌≡◌, ◌++◌, IfOk, OnOk};
-ghost use Rattle.match_features.specs.Posted.{beside, has_each};
+ghost use Rattle.match_features.specs.Posted.{has_each};
+ghost use Rattle.match_features.specs.KeyLists.{beside};
 
 use std::alloc::Global;
 use std::cmp::Ordering;

@@ -1,9 +1,14 @@
 //! The keys that features have, as `specs/Keys.antt` has them, and those of an index, as `specs/Posted.antt` has them.
+//!
+//! Guarantee: each call answers exactly the keys that the definition names. The order is fixed for `posted_keys` and
+//! `sought_keys` alone, by `specs/KeyLists.antt`. Cost: each key is made once; memory for all of them is taken at once where
+//! their number is known before.
 ghost use Rattle.std.specs.Prelude.{◌≡◌, ◌≢◌, ◌↔◌, ◌++◌, IfOk, IfSome, OnOk, IsTrue, is_some, false, Contains, AllPairs, map, min, length, ◌*◌, ◌-◌, ◌^◌, []};
 ghost use Rattle.match_features.specs.Meeting.{meet};
-ghost use Rattle.match_features.specs.Keys.{keys, HasKey};
-ghost use Rattle.match_features.specs.Posted.{has_few, IsPosted, Seeks, number_keys, description_keys, dated_keys, posted, posted_by_title, sought, sought_by_title, title_alone};
-ghost use Rattle.match_features.specs.Posted.{are_alike, has_keys_of, numbers_beside, descriptions_beside, beside_by_title, posted_beside, sought_beside};
+ghost use Rattle.match_features.specs.Keys.{HasKey};
+ghost use Rattle.match_features.specs.Posted.{has_few, IsPosted, Seeks, SeeksBeside, are_alike, has_keys_of};
+ghost use Rattle.match_features.specs.KeyLists.{number_keys, description_keys, dated_keys, posted, posted_by_title, sought, sought_by_title, title_alone};
+ghost use Rattle.match_features.specs.KeyLists.{numbers_beside, descriptions_beside, beside_by_title};
 
 use crate::beside::{has_each_of, values_beside};
 use crate::control_pair::ControlPair;
@@ -105,11 +110,10 @@ impl Copied for FeatureKey {
     }
 }
 
-/// The keys of the features, each once: those of the control pairs, then of the ISBNs, of the ISSNs, and of the titles.
+/// The keys of the features, each once, in any order: those of the control pairs, of the ISBNs, of the ISSNs, and of the titles.
 ///
 /// Returns `Memory` if allocation fails.
 pub fn feature_keys(alloc: Global, features: &Features) -> Result<Vec<FeatureKey>, Memory>
-    ensures value { IfOk result (λ found. found.items ≡ keys features.now) }
     ensures had { IfOk result (λ found. (k : FeatureKey)
         → Contains found.items k ↔ HasKey features.now k) }
     ensures once { IfOk result (λ found. AllPairs (λ j k. j ≢ k) found.items) }
@@ -162,7 +166,6 @@ pub fn posted_of_sought(
     keys: Vec<FeatureKey>,
 ) -> Result<Vec<FeatureKey>, Memory>
     requires { keys.items ≡ sought features.now }
-    ensures value { IfOk result (λ found. found.items ≡ posted features.now) }
     ensures had { IfOk result (λ found. (k : FeatureKey)
         → Contains found.items k ↔ IsPosted features.now k) }
     ensures once { IfOk result (λ found. AllPairs (λ j k. j ≢ k) found.items) }
@@ -176,9 +179,9 @@ pub fn posted_of_sought(
     Ok(keys)
 }
 
-/// The keys under which an index has the features beside those under which it has `base`, each once. None where `base` has a
-/// control pair, an ISBN, an ISSN, a title, a date or a name that the features have not, or where one of the two has more than
-/// 64 triples of a title, a date and a name and the other has not.
+/// The keys under which an index has the features beside those under which it has `base`, each once, in any order. None exactly
+/// where `base` has a control pair, an ISBN, an ISSN, a title, a date or a name that the features have not, or where one of the
+/// two has more than 64 triples of a title, a date and a name and the other has not.
 ///
 /// Returns `Memory` if allocation fails.
 pub fn posted_beside(
@@ -187,8 +190,6 @@ pub fn posted_beside(
     base: &Features,
 ) -> Result<Option<Vec<FeatureKey>>, Memory>
     ensures told { IfOk result (λ found. is_some found ≡ has_keys_of features.now base.now) }
-    ensures value { IfOk result (λ found. IfSome found (λ keys. keys.items
-        ≡ posted_beside features.now base.now)) }
     ensures kept { IfOk result (λ found. IfSome found (λ keys. (k : FeatureKey)
         → IsPosted base.now k → IsPosted features.now k)) }
     ensures had { IfOk result (λ found. IfSome found (λ keys. (k : FeatureKey)
@@ -203,7 +204,7 @@ pub fn posted_beside(
 }
 
 /// The keys by which an index is asked for features that may meet these where `base` does not meet them: those of
-/// `sought_keys`, but for the control pairs that `base` has.
+/// `sought_keys`, in any order, but for the control pairs that `base` has.
 ///
 /// Returns `Memory` if allocation fails.
 pub fn sought_beside(
@@ -211,9 +212,8 @@ pub fn sought_beside(
     features: &Features,
     base: &Features,
 ) -> Result<Vec<FeatureKey>, Memory>
-    ensures value { IfOk result (λ found. found.items ≡ sought_beside features.now base.now) }
     ensures sought { IfOk result (λ found. (k : FeatureKey)
-        → Contains found.items k → Seeks features.now k) }
+        → Contains found.items k ↔ SeeksBeside features.now base.now k) }
     ensures whole { IfOk result (λ found. (x : Features) → IsTrue (meet features.now x)
         → meet base.now x ≡ false → (k : FeatureKey) × Contains found.items k × IsPosted x k) }
 {
@@ -256,7 +256,10 @@ fn keys_beside(
     features: &Features,
     base: &Features,
 ) -> Result<Vec<FeatureKey>, Memory>
-    ensures { IfOk result (λ found. found.items ≡ posted_beside features.now base.now) }
+    requires { IsTrue (has_keys_of features.now base.now) }
+    ensures had { IfOk result (λ found. (k : FeatureKey) → Contains found.items k
+        ↔ (IsPosted features.now k × (IsPosted base.now k → ⊥))) }
+    ensures once { IfOk result (λ found. AllPairs (λ j k. j ≢ k) found.items) }
 {
     let titles = values_beside(alloc, &features.titles, &base.titles)?;
     let mut found = Vec::new(alloc);

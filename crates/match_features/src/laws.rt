@@ -3,13 +3,13 @@
 //!
 //! Each function here does nothing when it runs: its contract is the law. The same laws are the lemmas
 //! `features_join_laws` in `specs/`, where the type's own laws cite it, and `features_match_laws`, `features_key_laws`,
-//! `features_seeking_laws`, `features_keys`, `features_keys_once` and `features_keys_exact` in `proofs/`.
-ghost use Rattle.std.specs.Prelude.{◌≡◌, ◌≢◌, ◌↔◌, ◌⊎◌, IsTrue, Contains, AllPairs};
+//! `features_seeking_laws` and `features_keys_exact` in `proofs/`.
+ghost use Rattle.std.specs.Prelude.{◌≡◌, ◌↔◌, ◌⊎◌, IsTrue};
 ghost use Rattle.match_features.specs.declared.features.Features.{Features};
 ghost use Rattle.match_features.specs.declared.keys.FeatureKey.{FeatureKey};
 ghost use Rattle.match_features.specs.Joining.{join};
 ghost use Rattle.match_features.specs.Meeting.{meet};
-ghost use Rattle.match_features.specs.Keys.{keys, HasKey, share_key, key_eq};
+ghost use Rattle.match_features.specs.Keys.{HasKey, share_key, key_eq};
 ghost use Rattle.match_features.specs.Posted.{IsPosted, is_posted, Seeks};
 
 /// Merging is idempotent, commutative and associative.
@@ -64,16 +64,6 @@ pub fn merging_keeps_keys()
 pub fn shared_keys_are_told()
     ensures { (x y : Features) → IsTrue (share_key x y)
         ↔ ((k : FeatureKey) × HasKey x k × HasKey y k) }
-{}
-
-/// The keys that `feature_keys` answers are those that features have.
-pub fn keys_are_had()
-    ensures { (x : Features) (k : FeatureKey) → Contains (keys x) k ↔ HasKey x k }
-{}
-
-/// None of them stands twice.
-pub fn keys_stand_once()
-    ensures { (x : Features) → AllPairs (λ j k. j ≢ k) (keys x) }
 {}
 
 /// Keys that compare as equal are one key.

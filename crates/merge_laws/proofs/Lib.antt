@@ -1,5 +1,6 @@
 mod Existing
 pub mod Inserting
+pub mod InsertingAll
 pub mod Places
 pub mod Resolutions
 pub mod Resolving

@@ -1,12 +1,12 @@
 -- How many match tests the insertion of one value into a list of values may take.
 use Rattle.std.specs.Prelude.{ℕ, ◌+◌, ◌*◌, Bool, List, count_by}
 
--- How many members of the list share an index key with x.
+-- How many members of the list are near to x, by a test of two values: an index finds the first for the second, or they share a key.
 abbrev pub near : {A : Type 0} → (A → A → Bool) → List A → A → ℕ
-near shares list x = count_by (λ w. shares w x) list
+near is_near list x = count_by (λ w. is_near w x) list
 
 -- The reach of an insertion into a list of which no two members match, where x is the member of the new resolution that
--- dominates the inserted value: one more than the members that x dominates, times the members that share an index key
--- with x. Of the list's members x dominates those that match it, and these are counted.
+-- dominates the inserted value: one more than the members that x dominates, times the members that are near to x. Of the list's
+-- members x dominates those that match it, and these are counted.
 abbrev pub reach : {A : Type 0} → (A → A → Bool) → (A → A → Bool) → List A → A → ℕ
-reach match shares list x = (count_by (λ w. match w x) list + 1) * near shares list x
+reach match is_near list x = (count_by (λ w. match w x) list + 1) * near is_near list x

@@ -2,8 +2,9 @@
 //! contract is a fact that follows from the laws of the two traits alone. Callers and crates above cite it by a call.
 //!
 //! Cost: none. The definitions are in specs/Resolution.antt and specs/Reach.antt.
-ghost use Rattle.std.specs.Prelude.{◌≡◌, ◌↔◌, List, [], ◌∷◌, ◌++◌, IsTrue, Contains};
+ghost use Rattle.std.specs.Prelude.{◌≡◌, ◌≤◌, ◌↔◌, List, [], ◌∷◌, ◌++◌, IsTrue, Contains};
 ghost use Rattle.std.specs.List.Sorted.{IsPermutation};
+ghost use Rattle.merge_laws.specs.Reach.{reach};
 ghost use Rattle.merge_laws.specs.Resolution.{IsDominated, IsResolution, AreApart, IsDominatedOnce};
 
 use crate::resolvable::Resolvable;
@@ -62,4 +63,11 @@ pub fn dominated_is_matching<R: Resolvable>()
     ensures { (list resolution : List R) → IsResolution R.meets R.join list resolution → (w x : R)
         → Contains list w
         → Contains resolution x → IsDominated R.meets R.join w x ↔ IsTrue (R.meets w x) }
+{}
+
+/// The reach of an insertion that counts the values which an index finds is within the one that counts all values with a key in
+/// common.
+pub fn reach_is_within_shared_keys<R: Resolvable>()
+    ensures { (list : List R) (x : R) → reach R.meets R.is_found list x
+        ≤ reach R.meets R.shares list x }
 {}

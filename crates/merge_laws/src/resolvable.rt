@@ -1,7 +1,7 @@
 //! Values that match or do not, and merge where they do.
 ghost use Rattle.std.specs.Prelude.{◌≡◌, ◌≢◌, ◌+◌, ◌↔◌, Bool, true, false, List, IfOk, IfSome, Contains, AllPairs};
 ghost use Rattle.merge_laws.specs.Resolution.{MatchLaws, KeyLaws};
-ghost use Rattle.merge_laws.specs.Candidates.{SeekingLaws};
+ghost use Rattle.merge_laws.specs.Candidates.{SeekingLaws, FindingLaws};
 
 use crate::join::Join;
 use crate::steps::Steps;
@@ -34,6 +34,9 @@ pub trait Resolvable: Join {
 
     /// What a value can match is looked up under a key.
     ghost seeks: { Self → Self.Key → Type 0 };
+
+    /// Whether the first value is posted under a key that the second seeks.
+    ghost is_found: { Self → Self → Bool };
 
     /// A list has the keys that a value seeks, as `sought_keys` tells them.
     ghost is_sought: { Self → List Self.Key → Type 0 };
@@ -98,6 +101,9 @@ pub trait Resolvable: Join {
 
     /// Where two values match, the one seeks a key under which the other is posted. Those that are found so share a key.
     ghost seeking_laws: { SeekingLaws meets is_posted seeks shares };
+
+    /// What a value finds it finds too once it is merged with another.
+    ghost finding_laws: { FindingLaws Self.join is_posted seeks is_found };
 
     /// Keys that compare as equal are one key, so what is found under a key has that key.
     ghost exact_keys: { (j k : Self.Key) → Self.Key.eq j k ≡ true → j ≡ k };

@@ -1,7 +1,7 @@
 -- Sets that all have one key, 0, so that each two of them share it, whether they meet or not.
 use Rattle.std.specs.Prelude.{◌≡◌, ◌≢◌, ◌↔◌, ℕ, Bool, true, refl, List, Contains, AllPairs}
 use Rattle.std.proofs.Common.{inl, inr}
-use Rattle.merge_laws.specs.Candidates.{SeekingLaws}
+use Rattle.merge_laws.specs.Candidates.{SeekingLaws, FindingLaws}
 use Rattle.merge_laws.specs.Resolution.{KeyLaws}
 use Rattle.merge_tests.specs.SmallSets.{union, meet}
 
@@ -28,3 +28,10 @@ one_key_laws = record {
 -- a set is found by the key, as all are
 pub one_key_found : SeekingLaws meet IsTheKey IsTheKey always
 one_key_found = record { matching = λ m n h. (0, refl, refl); near = λ m n k p q. refl }
+
+-- and each finds all
+pub one_key_finds : FindingLaws union IsTheKey IsTheKey always
+one_key_finds = record {
+  found = λ m n. (λ h. (0, refl, refl), λ found. refl);
+  grows = λ w m n h. refl;
+}

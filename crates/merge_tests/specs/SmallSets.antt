@@ -7,7 +7,7 @@ use Rattle.std.proofs.Common.{sym, ◌∙◌, ap, inl, inr, arith}
 use Rattle.std.proofs.Math.Decide.{dec_lt}
 use Rattle.std.proofs.lemmas.Nat.Bits.{bit_at_and, bit_at_or, bit_at-lt, bit_at-zero, bit_at-suc, bit_at_lowest, same_from_bits}
 use Rattle.std.proofs.lemmas.Bool.Decides.{nat_tests}
-use Rattle.merge_laws.specs.Candidates.{SeekingLaws}
+use Rattle.merge_laws.specs.Candidates.{SeekingLaws, FindingLaws}
 use Rattle.merge_laws.specs.Resolution.{JoinLaws, MatchLaws, KeyLaws}
 
 -- The number k is in the set.
@@ -128,6 +128,13 @@ number_laws = record {
 -- a set is found by its members
 pub seeking_laws : SeekingLaws meet HasNumber HasNumber meet
 seeking_laws = record { matching = number-from_meet; near = λ m n k p q. meet-from_number n m k q p }
+
+-- what finds a set by its members finds it by those of a union
+pub finding_laws : FindingLaws union HasNumber HasNumber meet
+finding_laws = record {
+  found = λ m n. (λ h. (let (k, p, q) = number-from_meet m n h in (k, q, p)), λ (k, q, p). meet-from_number m n k p q);
+  grows = λ w m n h. let (k, p, q) = number-from_meet w m h in meet-from_number w (union m n) k p ((HasNumber-union m n k).1 (inl q));
+}
 
 -- numbers that compare as equal are one
 pub numbers_exact : (j k : ℕ) → nat_eq j k ≡ true → j ≡ k

@@ -2,7 +2,7 @@
 //!
 //! Guarantee: the laws of both traits, by specs/CountedSets.antt. Cost: that of the sets.
 ghost use Rattle.std.specs.Prelude.{◌≡◌, ◌≢◌, ◌↔◌, ℕ, AllPairs, Contains, IfOk};
-ghost use Rattle.merge_tests.specs.CountedSets.{IsTheKey, AreTheKey, always, one_key_laws, one_key_found};
+ghost use Rattle.merge_tests.specs.CountedSets.{IsTheKey, AreTheKey, always, one_key_laws, one_key_found, one_key_finds};
 ghost use Rattle.merge_tests.specs.SmallSets.{union, meet, union_laws, meet_laws, numbers_exact};
 
 use crate::small_sets::SmallSet;
@@ -72,6 +72,8 @@ impl<'a> Resolvable for CountedSet<'a> {
 
     ghost seeks = { IsTheKey };
 
+    ghost is_found = { always };
+
     ghost is_sought = { λ _ keys. AreTheKey keys };
 
     fn matches<L: Ledger>(&self, other: &CountedSet<'a>, steps: &mut Steps<L>) -> bool {
@@ -116,6 +118,8 @@ impl<'a> Resolvable for CountedSet<'a> {
     ghost key_laws = { one_key_laws };
 
     ghost seeking_laws = { one_key_found };
+
+    ghost finding_laws = { one_key_finds };
 
     ghost exact_keys = { numbers_exact };
 }

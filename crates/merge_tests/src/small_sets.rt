@@ -5,7 +5,7 @@
 //! those that make keys. An index has a set under each of its numbers, which are also what it seeks.
 ghost use Rattle.std.specs.Prelude.{◌≡◌, ◌≢◌, ◌+◌, ◌-◌, ◌<◌, ◌↔◌, ℕ, true, AllPairs, Contains, IfOk, IfSome, IsNone};
 ghost use Rattle.std.specs.Int.{bit_at};
-ghost use Rattle.merge_tests.specs.SmallSets.{HasNumber, AreNumbers, union, meet, union_laws, meet_laws, number_laws, seeking_laws, numbers_exact};
+ghost use Rattle.merge_tests.specs.SmallSets.{HasNumber, AreNumbers, union, meet, union_laws, meet_laws, number_laws, seeking_laws, finding_laws, numbers_exact};
 
 use merge_laws::join::Join;
 use merge_laws::resolvable::Resolvable;
@@ -115,6 +115,8 @@ impl Resolvable for SmallSet {
 
     ghost seeks = { HasNumber };
 
+    ghost is_found = { meet };
+
     ghost is_sought = { AreNumbers };
 
     fn matches<L: Ledger>(&self, other: &SmallSet, steps: &mut Steps<L>) -> bool {
@@ -161,6 +163,8 @@ impl Resolvable for SmallSet {
     ghost key_laws = { number_laws };
 
     ghost seeking_laws = { seeking_laws };
+
+    ghost finding_laws = { finding_laws };
 
     ghost exact_keys = { numbers_exact };
 }

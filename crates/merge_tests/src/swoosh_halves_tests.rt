@@ -151,6 +151,73 @@ fn groups_of_many_sizes(rt: HostRuntime) -> Result<(), Fail> {
     Ok(())
 }
 
+/// Adds `count` masks of two neighbours among the ten numbers from `first` on, each such pair in turn.
+fn add_pairs(masks: &mut Vec<u64>, first: u64, count: u64) -> Result<(), Memory>
+    requires { first ≤ 50 }
+{
+    for place in 0..count {
+        masks.push(3u64 << (first + place % 9))?;
+    }
+    Ok(())
+}
+
+#[test]
+fn groups_dealt_out_to_workers(rt: HostRuntime) -> Result<(), Fail> {
+    // Six groups of 180 sets each, and a stranger.
+    let mut masks = Vec::new(rt.alloc());
+    for _ in 0..20 {
+        for ten in 0u64..6 {
+            add_pairs(&mut masks, ten * 10, 9)?;
+        }
+    }
+    masks.push(1u64 << 63)?;
+    let ten = 0x3FF_u64;
+    let want = [
+        ten,
+        ten << 10,
+        ten << 20,
+        ten << 30,
+        ten << 40,
+        ten << 50,
+        1 << 63,
+    ];
+    for workers in [1, 2, 4, 64] {
+        let found = resolved(&rt, rt.alloc(), masks.as_slice(), workers)?;
+        assert_eq!(rt; found.as_slice(), want.as_slice());
+    }
+    Ok(())
+}
+
+#[test]
+fn one_giant_group(rt: HostRuntime) -> Result<(), Fail> {
+    // So large that several workers take its halves, beside a group for one.
+    let mut masks = Vec::new(rt.alloc());
+    add_pairs(&mut masks, 0, 1500)?;
+    add_pairs(&mut masks, 10, 300)?;
+    masks.push(1u64 << 63)?;
+    for workers in [1, 2, 4, 64] {
+        let found = resolved(&rt, rt.alloc(), masks.as_slice(), workers)?;
+        assert_eq!(rt;
+            found.as_slice(),
+            [0x3FF, 0x3FF_u64 << 10, 1u64 << 63].as_slice()
+        );
+    }
+    Ok(())
+}
+
+#[test]
+fn strangers_alone(rt: HostRuntime) -> Result<(), Fail> {
+    let mut masks = Vec::new(rt.alloc());
+    for place in 0u64..64 {
+        masks.push(1u64 << place)?;
+    }
+    for workers in [1, 4, 64] {
+        let found = resolved(&rt, rt.alloc(), masks.as_slice(), workers)?;
+        assert_eq!(rt; found.as_slice(), masks.as_slice());
+    }
+    Ok(())
+}
+
 /// The sets of the masks, with the count.
 fn counted<'a>(
     alloc: Global,

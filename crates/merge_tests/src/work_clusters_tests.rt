@@ -24,7 +24,7 @@ fn pairs(alloc: Global, text: &str) -> Result<Vec<(Bytes, RecordId)>, Fail> {
 
 /// One change: the gone pairs leave, then the come pairs enter.
 fn turn(alloc: Global, works: &mut Works, gone: &str, come: &str) -> Result<(), Fail> {
-    let change = works.plan(alloc, pairs(alloc, gone)?, pairs(alloc, come)?)?;
+    let change = works.plan(pairs(alloc, gone)?, pairs(alloc, come)?);
     works.make_room(alloc, &change)?;
     works.install(change);
     Ok(())

@@ -16,17 +16,17 @@ module _ {X : Type 0} {is_seen : X → Type 0} (blocks : List (Option X)) (close
   abbrev left : List (Option X)
   left = without blocks closed
 
-  module _ (near : X → Bool) (shares : (e : X) (n : ℕ) → block_at blocks n ≡ Some e → is_seen e → near e ≡ true) where
+  module _ (near : X → Bool) (found : (e : X) (n : ℕ) → block_at blocks n ≡ Some e → is_seen e → near e ≡ true) where
     cost-at : (n : ℕ) → Contains numbers n → cond {A = ℕ} (is_some (block_at left n)) 1 0 ≤ cond (passes near (block_at left n)) 1 0
-    cost-at n c = go (block_at left n) (λ e at. shares-at e at)
+    cost-at n c = go (block_at left n) (λ e at. found-at e at)
       where
         -- the open block under one of the numbers is near
-        shares-at : (e : X) → block_at left n ≡ Some e → near e ≡ true
-        shares-at e at =
+        found-at : (e : X) → block_at left n ≡ Some e → near e ≡ true
+        found-at e at =
             let (f, there, seen) = (look.members n).0 c in
             let here = block-from_open closed blocks n e at in
             let same : f ≡ e = cc in
-            shares e n here (subst is_seen same seen)
+            found e n here (subst is_seen same seen)
 
         go : (o : Option X) → ((e : X) → o ≡ Some e → near e ≡ true) → cond {A = ℕ} (is_some o) 1 0 ≤ cond (passes near o) 1 0
         go None h = omega arith

@@ -76,22 +76,22 @@ module _ {R K : Type 0} (blocks : List (Option (Entry R K))) (closed : List ℕ)
       alone = AllPairs-rest StandApart e rest (alone-taken e rest taken);
     }
 
-  -- the members of the view that share a key are blocks, or opened values
-  pub near-view : (shares : R → R → Bool) (x : R) → near shares (view_of blocks closed opened) x ≡ count_by (λ e. shares e.value x) (blocks_in (without blocks closed)) + count_by (λ e. shares e.value x) opened
-  near-view shares x =
-      count-map (λ w. shares w x) (blocks_in (without blocks closed) ++ opened)
-      ∙ sum_by-append (λ (e : Entry R K). cond (shares e.value x) 1 0) (blocks_in (without blocks closed)) opened
+  -- the members of the view that are near to a value are blocks, or opened values
+  pub near-view : (is_near : R → R → Bool) (x : R) → near is_near (view_of blocks closed opened) x ≡ count_by (λ e. is_near e.value x) (blocks_in (without blocks closed)) + count_by (λ e. is_near e.value x) opened
+  near-view is_near x =
+      count-map (λ w. is_near w x) (blocks_in (without blocks closed) ++ opened)
+      ∙ sum_by-append (λ (e : Entry R K). cond (is_near e.value x) 1 0) (blocks_in (without blocks closed)) opened
 
-  -- the tests among the blocks, and then those among the opened values, are at most as many as members of the view share a key
-  pub spent-kept : (shares : R → R → Bool) (x : R) (start now : ℕ) → now ≤ start + count_by (λ e. shares e.value x) (blocks_in (without blocks closed)) → now ≤ start + near shares (view_of blocks closed opened) x
-  spent-kept shares x start now paid = rw (near-view shares x) (front start now (count_by (λ e. shares e.value x) (blocks_in (without blocks closed))) (count_by (λ e. shares e.value x) opened) paid)
+  -- the tests among the blocks, and then those among the opened values, are at most as many as members of the view are near
+  pub spent-kept : (is_near : R → R → Bool) (x : R) (start now : ℕ) → now ≤ start + count_by (λ e. is_near e.value x) (blocks_in (without blocks closed)) → now ≤ start + near is_near (view_of blocks closed opened) x
+  spent-kept is_near x start now paid = rw (near-view is_near x) (front start now (count_by (λ e. is_near e.value x) (blocks_in (without blocks closed))) (count_by (λ e. is_near e.value x) opened) paid)
     where
       front : (start now a b : ℕ) → now ≤ start + a → now ≤ start + (a + b)
       front start now a b paid = omega arith
 
-  pub spent-fresh : (shares : R → R → Bool) (x : R) (start now then' : ℕ) → now ≤ start + count_by (λ e. shares e.value x) (blocks_in (without blocks closed)) → then' ≤ now + count_by (λ e. shares e.value x) opened → then' ≤ start + near shares (view_of blocks closed opened) x
-  spent-fresh shares x start now then' paid more =
-      rw (near-view shares x) (both start now then' (count_by (λ e. shares e.value x) (blocks_in (without blocks closed))) (count_by (λ e. shares e.value x) opened) paid more)
+  pub spent-fresh : (is_near : R → R → Bool) (x : R) (start now then' : ℕ) → now ≤ start + count_by (λ e. is_near e.value x) (blocks_in (without blocks closed)) → then' ≤ now + count_by (λ e. is_near e.value x) opened → then' ≤ start + near is_near (view_of blocks closed opened) x
+  spent-fresh is_near x start now then' paid more =
+      rw (near-view is_near x) (both start now then' (count_by (λ e. is_near e.value x) (blocks_in (without blocks closed))) (count_by (λ e. is_near e.value x) opened) paid more)
     where
       both : (start now then' a b : ℕ) → now ≤ start + a → then' ≤ now + b → then' ≤ start + (a + b)
       both start now then' a b paid more = omega arith

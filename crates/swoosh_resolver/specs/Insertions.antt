@@ -2,7 +2,7 @@
 use Rattle.std.specs.Prelude.{◌≡◌, ℕ, ◌⊎◌, ◌++◌, ◌∷◌, Bool, false, IsTrue, List, [], Option, None, Some, Contains}
 use Rattle.std.specs.List.Sorted.{IsPermutation}
 use Rattle.merge_laws.specs.Resolution.{IsDominated}
-use Rattle.swoosh_resolver.specs.Tables.{Base, Entry, block_at}
+use Rattle.swoosh_resolver.specs.Tables.{Entry, block_at}
 use Rattle.swoosh_resolver.specs.Changes.{view_of}
 
 -- whether a block stands there and passes the test
@@ -52,11 +52,3 @@ pub record Inserts {R K : Type 0} (match : R → R → Bool) (merge : R → R �
   pub last : opened' ≡ before ++ by ∷ []
   pub dominates : IsDominated match merge value by.value
   pub others : KeepsUnmerged match merge blocks closed opened closed' before by.value
-
--- the value is opened last, on the base or on none, and nothing is closed
-pub record OpensLast {R K : Type 0} (closed : List ℕ) (opened : List (Entry R K)) (value : R) (base : Option (Base R)) (closed' : List ℕ) (opened' : List (Entry R K)) : Type 0 where
-  pub by : Entry R K
-  pub stays : closed' ≡ closed
-  pub last : opened' ≡ opened ++ by ∷ []
-  pub is : by.value ≡ value
-  pub stands : (by.base ≡ None) ⊎ (by.base ≡ base)

@@ -81,7 +81,7 @@ impl<R: Resolvable> Blocks<R> {
             (without self.now.blocks closed.now) value.now.value p.0 p.1.now) }
         ensures none { IfNone result (All (λ e. R.meets value.now.value e.value ≡ false) (blocks_in
             (without self.now.blocks closed.now))) }
-        ensures cost { steps.new ≤ steps.old + count_by (λ e. R.shares e.value value.now.value)
+        ensures cost { steps.new ≤ steps.old + count_by (λ e. R.is_found e.value value.now.value)
             (blocks_in (without self.now.blocks closed.now)) }
     {
         let _ = &value.sought;
@@ -198,7 +198,7 @@ impl<R: Resolvable> Blocks<R> {
             × (change.new.opened.items ≡ change.old.opened.items)
             × All (λ e. R.meets value.now.value e.value ≡ false) (blocks_in
             (without self.now.blocks change.old.closed.items)))) }
-        ensures cost { steps.new ≤ steps.old + count_by (λ e. R.shares e.value value.now.value)
+        ensures cost { steps.new ≤ steps.old + count_by (λ e. R.is_found e.value value.now.value)
             (blocks_in (without self.now.blocks change.old.closed.items)) }
     {
         match self.first_kept(change.closed.as_slice(), numbers, value, steps) {
@@ -239,7 +239,7 @@ impl<R: Resolvable> Blocks<R> {
             ((change.new.closed.items ≡ change.old.closed.items)
             × (change.new.opened.items ≡ change.old.opened.items)
             × All (λ e. R.meets value.now.value e.value ≡ false) change.old.opened.items)) }
-        ensures cost { steps.new ≤ steps.old + count_by (λ e. R.shares e.value value.now.value)
+        ensures cost { steps.new ≤ steps.old + count_by (λ e. R.is_found e.value value.now.value)
             change.old.opened.items }
     {
         let _ = &value.sought;
@@ -282,7 +282,7 @@ impl<R: Resolvable> Blocks<R> {
             (change.new.opened.items ≡ change.old.opened.items)
             × All (λ w. R.meets value.now.value w ≡ false)
             (view_of self.now.blocks change.old.closed.items change.old.opened.items))) }
-        ensures cost { steps.new ≤ steps.old + near R.shares
+        ensures cost { steps.new ≤ steps.old + near R.is_found
             (view_of self.now.blocks change.old.closed.items change.old.opened.items)
             value.now.value }
     {
@@ -315,7 +315,7 @@ impl<R: Resolvable> Blocks<R> {
         ensures cost { (all : List R) (x : R) → IsResolution R.meets R.join
             (view_of self.now.blocks change.closed.items change.opened.items ++ value ∷ []) all
             → Contains all x → IsDominated R.meets R.join value x
-            → steps.new ≤ steps.old + reach R.meets R.shares
+            → steps.new ≤ steps.old + reach R.meets R.is_found
             (view_of self.now.blocks change.closed.items change.opened.items) x }
     {
         let mut change = change;

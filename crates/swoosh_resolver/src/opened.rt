@@ -234,7 +234,7 @@ impl<R: Resolvable> Opened<R> {
             (slice_index_or self.now.items i d).value))) }
         ensures none { IfOk result (λ o. IfNone o (All (λ e. IsFound R.is_posted value.now.keys
             numbers.now e → R.meets value.now.value e.value ≡ false) self.now.items)) }
-        ensures cost { steps.new ≤ steps.old + count_by (λ e. R.shares e.value value.now.value)
+        ensures cost { steps.new ≤ steps.old + count_by (λ e. R.is_found e.value value.now.value)
             self.now.items }
     {
         let places = self.found(alloc, value.sought.as_slice(), numbers)?;
@@ -266,7 +266,7 @@ impl<R: Resolvable> Opened<R> {
         ensures none { IfOk result (λ o. IfNone o ((self.new.items ≡ self.old.items)
             × All (λ e. IsFound R.is_posted value.now.keys numbers.now e
             → R.meets value.now.value e.value ≡ false) self.old.items)) }
-        ensures cost { steps.new ≤ steps.old + count_by (λ e. R.shares e.value value.now.value)
+        ensures cost { steps.new ≤ steps.old + count_by (λ e. R.is_found e.value value.now.value)
             self.old.items }
     {
         match self.first_match(alloc, numbers, value, steps)? {
@@ -289,7 +289,7 @@ impl<R: Resolvable> Opened<R> {
             self.old.items value.now.value self.new.items merged)) }
         ensures none { IfOk result (λ o. IfNone o ((self.new.items ≡ self.old.items)
             × All (λ e. R.meets value.now.value e.value ≡ false) self.old.items)) }
-        ensures cost { steps.new ≤ steps.old + count_by (λ e. R.shares e.value value.now.value)
+        ensures cost { steps.new ≤ steps.old + count_by (λ e. R.is_found e.value value.now.value)
             self.old.items }
     {
         match self.take_match(alloc, &[], value, steps)? {

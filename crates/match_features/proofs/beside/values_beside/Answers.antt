@@ -1,6 +1,6 @@
 use Rattle.std.proofs.Common.{◌≡◌, ◌++◌, ◌∙◌, ap}
 use Rattle.std.proofs.lemmas.List.{nil_from_length}
-use Rattle.match_features.specs.Posted.{beside}
+use Rattle.match_features.specs.KeyLists.{beside}
 use Rattle.match_features.proofs.BesideSteps.{left_rest, right_rest, found_less, found_equal, found_greater, beside-left_ended, beside-right_ended}
 use Rattle.match_features.proofs.beside.values_beside.Goals as goal
 use Rattle.match_features.proofs.beside.values_beside.Goals.{in_default, in_default-2}

@@ -1,6 +1,6 @@
 use Rattle.std.proofs.Common.{◌≡◌, ◌++◌, ◌+◌, IsTrue, length}
 use Rattle.union_base.specs.SortedLists.{is_ascending}
-use Rattle.match_features.specs.Posted.{beside}
+use Rattle.match_features.specs.KeyLists.{beside}
 use Rattle.match_features.proofs.beside.values_beside.Given as goal
 
 -- what was found, and what is left of the one beside what is left of the other

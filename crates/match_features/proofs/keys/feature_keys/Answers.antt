@@ -1,7 +1,7 @@
 use Rattle.std.proofs.Common.{rules, ◌≡◌, ◌≢◌, ◌↔◌, List, AllPairs, Contains, subst, sym}
 use Rattle.match_features.specs.declared.keys.FeatureKey.{FeatureKey}
-use Rattle.match_features.specs.Keys.{keys, HasKey}
-use Rattle.match_features.proofs.KeyLaws.{features_keys, features_keys_once}
+use Rattle.match_features.specs.Keys.{HasKey}
+use Rattle.match_features.proofs.KeyLaws.{keys, features_keys, features_keys_once}
 use Rattle.match_features.proofs.keys.feature_keys.Goals as goal
 
 -- the list is that of the keys

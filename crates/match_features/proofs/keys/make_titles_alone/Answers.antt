@@ -1,5 +1,5 @@
 use Rattle.std.proofs.Common.{◌∙◌, ap, slice_index_or, slice_set}
-use Rattle.match_features.specs.Posted.{title_alone}
+use Rattle.match_features.specs.KeyLists.{title_alone}
 use Rattle.match_features.proofs.TitledLaws.{one-more}
 use Rattle.match_features.proofs.keys.make_titles_alone.Goals as goal
 

@@ -1,5 +1,5 @@
 use Rattle.std.proofs.Common.{◌≡◌, ◌++◌, map, take, drop}
-use Rattle.match_features.specs.Posted.{title_alone}
+use Rattle.match_features.specs.KeyLists.{title_alone}
 use Rattle.match_features.proofs.keys.make_titles_alone.Given as goal
 
 abbrev pub invariant-loop-key : goal.invariant-loop-key

@@ -1,6 +1,7 @@
 use Rattle.std.proofs.Common.{rules, ◌≡◌, ◌≢◌, ◌↔◌, List, AllPairs, Contains, subst, sym}
 use Rattle.match_features.specs.declared.keys.FeatureKey.{FeatureKey}
-use Rattle.match_features.specs.Posted.{posted, IsPosted}
+use Rattle.match_features.specs.Posted.{IsPosted}
+use Rattle.match_features.specs.KeyLists.{posted}
 use Rattle.match_features.proofs.PostedLaws.{features_posted, features_posted_once}
 use Rattle.match_features.proofs.keys.posted_keys.Goals as goal
 

@@ -1,6 +1,6 @@
 use Rattle.std.proofs.Common.{◌≡◌, ◌+◌, ◌∷◌, ◌++◌, [], take, sym, ◌∙◌, ap, arith}
 use Rattle.std.proofs.lemmas.List.{take_more, flat_map_more}
-use Rattle.match_features.specs.Posted.{dated_keys}
+use Rattle.match_features.specs.KeyLists.{dated_keys}
 use Rattle.match_features.proofs.keys.push_all_keys.Goals as goal
 
 pub loop-title-preserved : goal.loop-title-preserved

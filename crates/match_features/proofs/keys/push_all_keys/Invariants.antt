@@ -1,5 +1,5 @@
 use Rattle.std.proofs.Common.{◌≡◌, ◌++◌, take}
-use Rattle.match_features.specs.Posted.{description_keys}
+use Rattle.match_features.specs.KeyLists.{description_keys}
 use Rattle.match_features.proofs.keys.push_all_keys.Given as goal
 
 abbrev pub invariant-loop-title : goal.invariant-loop-title

@@ -1,5 +1,5 @@
 use Rattle.std.proofs.Common.{◌≡◌, ◌++◌, take}
-use Rattle.match_features.specs.Posted.{dated_keys}
+use Rattle.match_features.specs.KeyLists.{dated_keys}
 use Rattle.match_features.proofs.keys.push_dated_keys.Given as goal
 
 abbrev pub invariant-loop-date : goal.invariant-loop-date

@@ -1,6 +1,7 @@
 use Rattle.std.proofs.Common.{rules, ◌≡◌, ◌↔◌, List, Contains, subst, sym}
 use Rattle.match_features.specs.declared.keys.FeatureKey.{FeatureKey}
-use Rattle.match_features.specs.Posted.{sought, Seeks}
+use Rattle.match_features.specs.Posted.{Seeks}
+use Rattle.match_features.specs.KeyLists.{sought}
 use Rattle.match_features.proofs.PostedLaws.{features_sought}
 use Rattle.match_features.proofs.keys.sought_keys.Goals as goal
 

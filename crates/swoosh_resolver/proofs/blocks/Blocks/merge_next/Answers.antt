@@ -49,17 +49,17 @@ returns-clause-none g c =
     )))
     c.merge_opened.ensures.none
 
--- each way out has made no more tests than members of the view share a key with the value
+-- each way out has made no more tests than members of the view are found for the value
 pub returns-in_err-merged-clause-cost : goal.returns-in_err-merged-clause-cost
 returns-in_err-merged-clause-cost g c =
-    spent-kept c.args.self.now.blocks c.args.change.now.closed.items c.args.change.now.opened.items g.R.Resolvable.shares c.args.value.now.value c.args.steps.now c.merge_kept.new.steps c.merge_kept.ensures.cost
+    spent-kept c.args.self.now.blocks c.args.change.now.closed.items c.args.change.now.opened.items g.R.Resolvable.is_found c.args.value.now.value c.args.steps.now c.merge_kept.new.steps c.merge_kept.ensures.cost
 
 pub returns-in-Some-clause-cost : goal.returns-in-Some-clause-cost
 returns-in-Some-clause-cost g c =
-    spent-kept c.args.self.now.blocks c.args.change.now.closed.items c.args.change.now.opened.items g.R.Resolvable.shares c.args.value.now.value c.args.steps.now c.merge_kept.new.steps c.merge_kept.ensures.cost
+    spent-kept c.args.self.now.blocks c.args.change.now.closed.items c.args.change.now.opened.items g.R.Resolvable.is_found c.args.value.now.value c.args.steps.now c.merge_kept.new.steps c.merge_kept.ensures.cost
 
 pub returns-clause-cost : goal.returns-clause-cost
 returns-clause-cost g c =
     let none = rw c.in-None.is at c.in_ok-merged.ensures.none in
-    spent-fresh c.args.self.now.blocks c.args.change.now.closed.items c.args.change.now.opened.items g.R.Resolvable.shares c.args.value.now.value c.args.steps.now c.merge_kept.new.steps c.merge_opened.new.steps
+    spent-fresh c.args.self.now.blocks c.args.change.now.closed.items c.args.change.now.opened.items g.R.Resolvable.is_found c.args.value.now.value c.args.steps.now c.merge_kept.new.steps c.merge_opened.new.steps
     c.merge_kept.ensures.cost (rw none.1 at c.merge_opened.ensures.cost)

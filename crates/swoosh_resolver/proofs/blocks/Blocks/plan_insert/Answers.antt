@@ -16,7 +16,7 @@ loop-value-init g c = record {
   fits = c.requires;
   stands = rw c.in_ok-value.ensures.base (can-none g.R.Resolvable.meets c.args.self.now.blocks c.args.change.closed.items c.args.change.opened.items);
   inserting = rw c.in_ok-value.ensures.value
-      (inserting_none g.met.R.Join.join_laws g.met.R.Resolvable.match_laws g.met.R.Resolvable.key_laws (view_of c.args.self.now.blocks c.args.change.closed.items c.args.change.opened.items)
+      (inserting_none g.met.R.Join.join_laws g.met.R.Resolvable.match_laws g.met.R.Resolvable.finding_laws.grows (view_of c.args.self.now.blocks c.args.change.closed.items c.args.change.opened.items)
       c.args.value c.args.steps.now c.requires.apart);
   others = unmerged_none c.args.self.now.blocks c.args.change.closed.items c.args.change.opened.items c.in_ok-value.value.value;
 }
@@ -34,7 +34,7 @@ loop-value-preserved g c =
       fits = c.in_ok-merged.ensures.fits;
       stands = rw c.in-Some.is at c.in_ok-merged.ensures.stands;
       inserting = rw merges.is
-          (inserting_joined g.met.R.Join.join_laws g.met.R.Resolvable.match_laws g.met.R.Resolvable.key_laws (view_of c.args.self.now.blocks c.args.change.closed.items c.args.change.opened.items)
+          (inserting_joined g.met.R.Join.join_laws g.met.R.Resolvable.match_laws g.met.R.Resolvable.finding_laws.grows (view_of c.args.self.now.blocks c.args.change.closed.items c.args.change.opened.items)
           c.args.value c.args.steps.now c.loop-value.steps c.loop-value.value.value (view_of c.args.self.now.blocks c.loop-value.change.closed.items c.loop-value.change.opened.items) c.merge_next.new.steps merges.by
           (view_of c.args.self.now.blocks c.merge_next.new.change.closed.items c.merge_next.new.change.opened.items) c.loop-value.invariant.inserting c.merge_next.ensures.cost merges.taken merges.matches);
       others =
@@ -47,12 +47,12 @@ pub returns-clause-inserts : goal.returns-clause-inserts
 returns-clause-inserts g c =
     let none = rw c.in_default.is at c.in_ok-merged.ensures.none in
     IfOk-weaker c.with_last.result _ _
-    (λ new o. rw (o.stays, none.0) (record {
-      by = o.by;
+    (λ new (stays, (by, last, is, stands)). rw (stays, none.0) (record {
+      by = by;
       before = c.loop-value.change.opened.items;
-      last = o.last ∙ ap (λ es. es ++ o.by ∷ []) none.1;
-      dominates = rw o.is c.loop-value.invariant.inserting.above;
-      others = rw o.is c.loop-value.invariant.others;
+      last = last ∙ ap (λ es. es ++ by ∷ []) none.1;
+      dominates = rw is c.loop-value.invariant.inserting.above;
+      others = rw is c.loop-value.invariant.others;
     }))
     c.with_last.ensures
 
@@ -66,10 +66,10 @@ returns-clause-fits g c =
     let kept : IsResolving g.R.Resolvable.meets g.R.Join.join list [] (view ++ c.loop-value.value.value ∷ []) =
     resolving_kept g.met.R.Join.join_laws g.met.R.Resolvable.match_laws list [] view c.loop-value.value.value c.loop-value.invariant.inserting.resolving none.2 in
     IfOk-weaker c.with_last.result _ _
-    (λ new o. rw (o.last, o.stays, none.0, none.1)
-    (fits-push blocks change.closed.items change.opened.items c.loop-value.invariant.fits o.by
-    (can-either g.R.Resolvable.meets blocks change.closed.items change.opened.items o.stands c.loop-value.invariant.stands)
-    (rw o.is kept.apart)))
+    (λ new (stays, (by, last, is, stands)). rw (last, stays, none.0, none.1)
+    (fits-push blocks change.closed.items change.opened.items c.loop-value.invariant.fits by
+    (can-either g.R.Resolvable.meets blocks change.closed.items change.opened.items stands c.loop-value.invariant.stands)
+    (rw is kept.apart)))
     c.with_last.ensures
 
 pub returns-clause-resolved : goal.returns-clause-resolved
@@ -82,18 +82,18 @@ returns-clause-resolved g c =
     let kept : IsResolving g.R.Resolvable.meets g.R.Join.join list [] (view ++ c.loop-value.value.value ∷ []) =
     resolving_kept g.met.R.Join.join_laws g.met.R.Resolvable.match_laws list [] view c.loop-value.value.value c.loop-value.invariant.inserting.resolving none.2 in
     IfOk-weaker c.with_last.result _ _
-    (λ new o. rw (o.last, o.stays, none.0, none.1, view-push blocks change.closed.items change.opened.items o.by, o.is)
+    (λ new (stays, (by, last, is, stands)). rw (last, stays, none.0, none.1, view-push blocks change.closed.items change.opened.items by, is)
     (IsResolution-from_resolving g.met.R.Join.join_laws g.met.R.Resolvable.match_laws list (view ++ c.loop-value.value.value ∷ []) kept))
     c.with_last.ensures
 
 pub returns-in_err-merged-clause-cost : goal.returns-in_err-merged-clause-cost
 returns-in_err-merged-clause-cost g c all x r cx d =
     let view = view_of c.args.self.now.blocks c.loop-value.change.closed.items c.loop-value.change.opened.items in
-    inserting_bound g.met.R.Join.join_laws g.met.R.Resolvable.match_laws g.met.R.Resolvable.key_laws (view_of c.args.self.now.blocks c.args.change.closed.items c.args.change.opened.items) c.args.value
+    inserting_bound g.met.R.Join.join_laws g.met.R.Resolvable.match_laws g.met.R.Resolvable.finding_laws.grows (view_of c.args.self.now.blocks c.args.change.closed.items c.args.change.opened.items) c.args.value
     c.args.steps.now c.loop-value.steps c.loop-value.value.value view c.merge_next.new.steps c.loop-value.invariant.inserting c.merge_next.ensures.cost all x r cx d
 
 pub returns-clause-cost : goal.returns-clause-cost
 returns-clause-cost g c all x r cx d =
     let view = view_of c.args.self.now.blocks c.loop-value.change.closed.items c.loop-value.change.opened.items in
-    inserting_bound g.met.R.Join.join_laws g.met.R.Resolvable.match_laws g.met.R.Resolvable.key_laws (view_of c.args.self.now.blocks c.args.change.closed.items c.args.change.opened.items) c.args.value
+    inserting_bound g.met.R.Join.join_laws g.met.R.Resolvable.match_laws g.met.R.Resolvable.finding_laws.grows (view_of c.args.self.now.blocks c.args.change.closed.items c.args.change.opened.items) c.args.value
     c.args.steps.now c.loop-value.steps c.loop-value.value.value view c.merge_next.new.steps c.loop-value.invariant.inserting c.merge_next.ensures.cost all x r cx d

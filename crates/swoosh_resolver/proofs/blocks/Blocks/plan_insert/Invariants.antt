@@ -9,7 +9,7 @@ abbrev pub invariant-loop-value : goal.invariant-loop-value
 invariant-loop-value g l = record {
   fits : Fits g.R.Resolvable.meets l.self.blocks l.change.closed.items l.change.opened.items;
   stands : CanStand g.R.Resolvable.meets l.self.blocks l.change.closed.items l.change.opened.items l.value.base;
-  inserting : IsInserting g.R.Resolvable.meets g.R.Join.join g.R.Resolvable.shares (view_of l.self.blocks l.fn.change.closed.items l.fn.change.opened.items) l.fn.value
+  inserting : IsInserting g.R.Resolvable.meets g.R.Join.join g.R.Resolvable.is_found (view_of l.self.blocks l.fn.change.closed.items l.fn.change.opened.items) l.fn.value
       l.initial.steps l.steps l.value.value (view_of l.self.blocks l.change.closed.items l.change.opened.items);
   others : KeepsUnmerged g.R.Resolvable.meets g.R.Join.join l.self.blocks l.fn.change.closed.items l.fn.change.opened.items l.change.closed.items l.change.opened.items l.value.value;
 }

@@ -5,11 +5,7 @@ use Rattle.swoosh_resolver.proofs.change.Change.with_last.Goals as goal
 
 pub returns : goal.returns
 returns g c =
-    let (last, items, value, base) = c.in_ok-opened.ensures in
-    record {
-      by = last;
-      stays = refl;
-      last = items;
-      is = value ∙ c.in_ok-keyed.ensures.value;
-      stands = elim c.in_ok-keyed.ensures.base as (λ _. (last.base ≡ None) ⊎ (last.base ≡ c.args.value.base)) [ inl none ↦ inl (base ∙ none) | inr its ↦ inr (base ∙ its) ];
-    }
+    let (last, items, value, base) = c.in_ok-opened.ensures in (
+      refl,
+      (last, items, value ∙ c.in_ok-keyed.ensures.value, elim c.in_ok-keyed.ensures.base as (λ _. (last.base ≡ None) ⊎ (last.base ≡ c.args.value.base)) [ inl none ↦ inl (base ∙ none) | inr its ↦ inr (base ∙ its) ]),
+    )

@@ -19,19 +19,19 @@ returns-then-matches_at-clause-cost g c =
     let sound : (k : g.row.R-Key.Denot) → Contains keys k → g.R.Resolvable.seeks value k = seeks.sound in
     let look : IsLook (IsFound g.R.Resolvable.is_posted keys numbers) (map Some items) places =
     rw (c.deref-place-items.ensures.value, ← sought) c.in_ok-places.ensures.look in
-    let shares : (e : Entry g.row.R.Denot ℕ) (n : ℕ) → block_at (map Some items) n ≡ Some e → IsFound g.R.Resolvable.is_posted keys numbers e → g.R.Resolvable.shares e.value value ≡ true =
-    λ e n at seen. elim seen as (λ _. g.R.Resolvable.shares e.value value ≡ true) [
-      | inl (k, ck, own) ↦ g.met.R.Resolvable.seeking_laws.near value e.value k (sound k ck) own.0
+    let found : (e : Entry g.row.R.Denot ℕ) (n : ℕ) → block_at (map Some items) n ≡ Some e → IsFound g.R.Resolvable.is_posted keys numbers e → g.R.Resolvable.is_found e.value value ≡ true =
+    λ e n at seen. elim seen as (λ _. g.R.Resolvable.is_found e.value value ≡ true) [
+      | inl (k, ck, own) ↦ (g.met.R.Resolvable.finding_laws.found e.value value).1 (k, (sound k ck), own.0)
       | inr (b, is, stands) ↦
           (let there = there-from_listed items n e at in
           let (k, ck, had) = c.requires.led e b there is stands in
           let based = c.in_ok-places.ensures.based e there in
-          g.met.R.Resolvable.seeking_laws.near value e.value k (sound k ck) ((rw is at based.keeps) k had))
+          (g.met.R.Resolvable.finding_laws.found e.value value).1 (k, (sound k ck), ((rw is at based.keeps) k had)))
     ] in
-    let near = λ (e : Entry g.row.R.Denot ℕ). g.R.Resolvable.shares e.value value in
+    let near = λ (e : Entry g.row.R.Denot ℕ). g.R.Resolvable.is_found e.value value in
     let i = c.loop-place.place-index in
-    rw blocks-listed at (paid-all (map Some items) [] places look near shares c.args.steps.now c.matches_at.new.steps (i + 1)
-    (paid-next (map Some items) [] places look near shares c.args.steps.now c.loop-place.steps c.matches_at.new.steps i (omega arith) c.loop-place.invariant.cost c.matches_at.ensures.cost))
+    rw blocks-listed at (paid-all (map Some items) [] places look near found c.args.steps.now c.matches_at.new.steps (i + 1)
+    (paid-next (map Some items) [] places look near found c.args.steps.now c.loop-place.steps c.matches_at.new.steps i (omega arith) c.loop-place.invariant.cost c.matches_at.ensures.cost))
 
 pub loop-place-preserved : goal.loop-place-preserved
 loop-place-preserved g c =
@@ -46,20 +46,20 @@ loop-place-preserved g c =
     let sound : (k : g.row.R-Key.Denot) → Contains keys k → g.R.Resolvable.seeks value k = seeks.sound in
     let look : IsLook (IsFound g.R.Resolvable.is_posted keys numbers) (map Some items) places =
     rw (c.deref-place-items.ensures.value, ← sought) c.in_ok-places.ensures.look in
-    let shares : (e : Entry g.row.R.Denot ℕ) (n : ℕ) → block_at (map Some items) n ≡ Some e → IsFound g.R.Resolvable.is_posted keys numbers e → g.R.Resolvable.shares e.value value ≡ true =
-    λ e n at seen. elim seen as (λ _. g.R.Resolvable.shares e.value value ≡ true) [
-      | inl (k, ck, own) ↦ g.met.R.Resolvable.seeking_laws.near value e.value k (sound k ck) own.0
+    let found : (e : Entry g.row.R.Denot ℕ) (n : ℕ) → block_at (map Some items) n ≡ Some e → IsFound g.R.Resolvable.is_posted keys numbers e → g.R.Resolvable.is_found e.value value ≡ true =
+    λ e n at seen. elim seen as (λ _. g.R.Resolvable.is_found e.value value ≡ true) [
+      | inl (k, ck, own) ↦ (g.met.R.Resolvable.finding_laws.found e.value value).1 (k, (sound k ck), own.0)
       | inr (b, is, stands) ↦
           (let there = there-from_listed items n e at in
           let (k, ck, had) = c.requires.led e b there is stands in
           let based = c.in_ok-places.ensures.based e there in
-          g.met.R.Resolvable.seeking_laws.near value e.value k (sound k ck) ((rw is at based.keeps) k had))
+          (g.met.R.Resolvable.finding_laws.found e.value value).1 (k, (sound k ck), ((rw is at based.keeps) k had)))
     ] in
-    let near = λ (e : Entry g.row.R.Denot ℕ). g.R.Resolvable.shares e.value value in
+    let near = λ (e : Entry g.row.R.Denot ℕ). g.R.Resolvable.is_found e.value value in
     let i = c.loop-place.place-index in
     record {
       none = none-next (map Some items) [] places look (λ (e : Entry g.row.R.Denot ℕ). g.R.Resolvable.meets value e.value) i (omega arith) c.loop-place.invariant.none (sym c.matches_at.ensures.answer ∙ c.if-matches_at.false);
-      cost = paid-next (map Some items) [] places look near shares c.args.steps.now c.loop-place.steps c.matches_at.new.steps i (omega arith) c.loop-place.invariant.cost c.matches_at.ensures.cost;
+      cost = paid-next (map Some items) [] places look near found c.args.steps.now c.loop-place.steps c.matches_at.new.steps i (omega arith) c.loop-place.invariant.cost c.matches_at.ensures.cost;
     }
 
 pub returns-clause-none : goal.returns-clause-none
@@ -75,16 +75,16 @@ returns-clause-none g c =
     let sound : (k : g.row.R-Key.Denot) → Contains keys k → g.R.Resolvable.seeks value k = seeks.sound in
     let look : IsLook (IsFound g.R.Resolvable.is_posted keys numbers) (map Some items) places =
     rw (c.deref-place-items.ensures.value, ← sought) c.in_ok-places.ensures.look in
-    let shares : (e : Entry g.row.R.Denot ℕ) (n : ℕ) → block_at (map Some items) n ≡ Some e → IsFound g.R.Resolvable.is_posted keys numbers e → g.R.Resolvable.shares e.value value ≡ true =
-    λ e n at seen. elim seen as (λ _. g.R.Resolvable.shares e.value value ≡ true) [
-      | inl (k, ck, own) ↦ g.met.R.Resolvable.seeking_laws.near value e.value k (sound k ck) own.0
+    let found : (e : Entry g.row.R.Denot ℕ) (n : ℕ) → block_at (map Some items) n ≡ Some e → IsFound g.R.Resolvable.is_posted keys numbers e → g.R.Resolvable.is_found e.value value ≡ true =
+    λ e n at seen. elim seen as (λ _. g.R.Resolvable.is_found e.value value ≡ true) [
+      | inl (k, ck, own) ↦ (g.met.R.Resolvable.finding_laws.found e.value value).1 (k, (sound k ck), own.0)
       | inr (b, is, stands) ↦
           (let there = there-from_listed items n e at in
           let (k, ck, had) = c.requires.led e b there is stands in
           let based = c.in_ok-places.ensures.based e there in
-          g.met.R.Resolvable.seeking_laws.near value e.value k (sound k ck) ((rw is at based.keeps) k had))
+          (g.met.R.Resolvable.finding_laws.found e.value value).1 (k, (sound k ck), ((rw is at based.keeps) k had)))
     ] in
-    let near = λ (e : Entry g.row.R.Denot ℕ). g.R.Resolvable.shares e.value value in
+    let near = λ (e : Entry g.row.R.Denot ℕ). g.R.Resolvable.is_found e.value value in
     let i = c.loop-place.place-index in
     rw blocks-listed at (none-matches (map Some items) [] places look (λ (e : Entry g.row.R.Denot ℕ). g.R.Resolvable.meets value e.value) i (omega arith) c.loop-place.invariant.none)
 
@@ -101,18 +101,18 @@ returns-clause-cost g c =
     let sound : (k : g.row.R-Key.Denot) → Contains keys k → g.R.Resolvable.seeks value k = seeks.sound in
     let look : IsLook (IsFound g.R.Resolvable.is_posted keys numbers) (map Some items) places =
     rw (c.deref-place-items.ensures.value, ← sought) c.in_ok-places.ensures.look in
-    let shares : (e : Entry g.row.R.Denot ℕ) (n : ℕ) → block_at (map Some items) n ≡ Some e → IsFound g.R.Resolvable.is_posted keys numbers e → g.R.Resolvable.shares e.value value ≡ true =
-    λ e n at seen. elim seen as (λ _. g.R.Resolvable.shares e.value value ≡ true) [
-      | inl (k, ck, own) ↦ g.met.R.Resolvable.seeking_laws.near value e.value k (sound k ck) own.0
+    let found : (e : Entry g.row.R.Denot ℕ) (n : ℕ) → block_at (map Some items) n ≡ Some e → IsFound g.R.Resolvable.is_posted keys numbers e → g.R.Resolvable.is_found e.value value ≡ true =
+    λ e n at seen. elim seen as (λ _. g.R.Resolvable.is_found e.value value ≡ true) [
+      | inl (k, ck, own) ↦ (g.met.R.Resolvable.finding_laws.found e.value value).1 (k, (sound k ck), own.0)
       | inr (b, is, stands) ↦
           (let there = there-from_listed items n e at in
           let (k, ck, had) = c.requires.led e b there is stands in
           let based = c.in_ok-places.ensures.based e there in
-          g.met.R.Resolvable.seeking_laws.near value e.value k (sound k ck) ((rw is at based.keeps) k had))
+          (g.met.R.Resolvable.finding_laws.found e.value value).1 (k, (sound k ck), ((rw is at based.keeps) k had)))
     ] in
-    let near = λ (e : Entry g.row.R.Denot ℕ). g.R.Resolvable.shares e.value value in
+    let near = λ (e : Entry g.row.R.Denot ℕ). g.R.Resolvable.is_found e.value value in
     let i = c.loop-place.place-index in
-    rw blocks-listed at (paid-all (map Some items) [] places look near shares c.args.steps.now c.loop-place.steps i c.loop-place.invariant.cost)
+    rw blocks-listed at (paid-all (map Some items) [] places look near found c.args.steps.now c.loop-place.steps i c.loop-place.invariant.cost)
 
 pub returns-then-matches_at-clause-within : goal.returns-then-matches_at-clause-within
 returns-then-matches_at-clause-within g c =
