@@ -2,6 +2,7 @@ mod HousedLaws
 pub mod Looking
 mod StayLaws
 mod InstallLaws
+mod Naming
 mod NamedLaws
 mod Strangers
 pub mod SameEditions

@@ -29,7 +29,7 @@ use Rattle.authority_names.specs.Leads.{Table}
 use Rattle.edition_blocks.specs.Grouping.{WorkList, KeptWorks}
 use Rattle.turn_plans.specs.Histories.{MapOf, at_id, is_current, bases, current, AreEditionsOf}
 use Rattle.turn_plans.specs.Homes.{Block, has_contributor, places_in}
-use Rattle.catalogue_core.specs.Housing.{named, named_in}
+use Rattle.catalogue_core.proofs.Naming.{named, named_in}
 use Rattle.catalogue_editions.specs.Ids.{least, edition_cmp}
 use Rattle.catalogue_editions.specs.JoinLaws.{edition_join_laws}
 use Rattle.turn_plans.specs.Keeping.{batches, loaded_at}

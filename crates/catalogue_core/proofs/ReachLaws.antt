@@ -13,7 +13,7 @@ use Rattle.field_merge.specs.Kept.{id_cmp}
 use Rattle.catalogue_editions.specs.Batches.{is_own_op}
 use Rattle.catalogue_editions.specs.Ids.{least}
 use Rattle.catalogue_editions.specs.Joining.{join}
-use Rattle.catalogue_editions.specs.Matching.{match, share}
+use Rattle.catalogue_editions.specs.Matching.{match, is_found}
 use Rattle.catalogue_editions.specs.declared.batch.Batch.{Batch}
 use Rattle.catalogue_editions.specs.declared.edition.Edition.{Edition}
 use Rattle.catalogue_editions.specs.declared.op.Op.{Op}
@@ -33,7 +33,7 @@ module _ (resolution_of : (list : List Edition) → (resolution : List Edition) 
       let before = resolution_of list in
       let after = resolution_of (before.0 ++ e ∷ []) in
       let by = after.1.covered e (member (Contains-append_right before.0 (e ∷ []) e (Contains-head e []))) in (
-        reach match share before.0 by.0,
+        reach match is_found before.0 by.0,
         record { before = before.0; resolved = before.1; after = after.0; grown = after.1; by = by.0; stands = by.1; dominates = by.2; is = refl },
       )
 

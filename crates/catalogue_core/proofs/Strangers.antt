@@ -13,8 +13,8 @@ use Rattle.union_base.specs.IdLaws.{ids_apart}
 use Rattle.field_merge.specs.KeptLaws.{id_total}
 use Rattle.catalogue_editions.specs.Joining.{join}
 use Rattle.catalogue_editions.specs.JoinLaws.{edition_join_laws}
-use Rattle.catalogue_editions.specs.Matching.{match, share}
-use Rattle.catalogue_editions.specs.MatchLaws.{edition_match_laws, edition_key_laws}
+use Rattle.catalogue_editions.specs.Matching.{match, share, is_found}
+use Rattle.catalogue_editions.specs.MatchLaws.{edition_match_laws, edition_key_laws, edition_seeking_laws, edition_finding_laws}
 use Rattle.turn_plans.specs.Reaches.{IsReachOfInsertion, IsReachOfWithdrawal}
 use Rattle.catalogue_editions.specs.declared.edition.Edition.{Edition}
 use Rattle.catalogue_editions.proofs.Apart.{match-from_contributor}
@@ -27,6 +27,11 @@ clash b p q = let both : true ≡ false = sym p ∙ q in cc
 
 share-from_match : (x y : Edition) → IsTrue (match x y) → IsTrue (share x y)
 share-from_match x y m = (edition_key_laws.shared x y).1 (edition_key_laws.matching x y m)
+
+-- what shares no key is not found
+unfound : (w e : Edition) → share w e ≡ false → is_found w e ≡ false
+unfound w e none =
+    false-from_never (is_found w e) (λ f. let (key, sought, posted) = (edition_finding_laws.found w e).0 f in clash (share w e) (edition_seeking_laws.near e w key sought posted) none)
 
 share-joined : (x y e : Edition) → share x e ≡ false → share y e ≡ false → share (join x y) e ≡ false
 share-joined x y e p q =
@@ -72,8 +77,8 @@ stranger-comes list e number only r =
       | inr new ↦ elim (Contains-cases e [] x new) [ inl is ↦ inl (sym is) | inr (k, kl, is) ↦ absurd (omega arith) ]
     ]) r.by (whole.derived r.by r.stands) in
     elim by-is [
-      | inl is ↦ (let none : near share r.before r.by ≡ 0 =
-          ap (near share r.before) is ∙ count-none (λ w. share w e) r.before (λ w c. apart-derived list e only w (r.resolved.derived w c)) in
+      | inl is ↦ (let none : near is_found r.before r.by ≡ 0 =
+          ap (near is_found r.before) is ∙ count-none (λ w. is_found w e) r.before (λ w c. unfound w e (apart-derived list e only w (r.resolved.derived w c))) in
           r.is ∙ ap (λ n. (count_by (λ w. match w r.by) r.before + 1) * n) none ∙ omega arith)
       | inr apart ↦ absurd (clash (share e r.by) (share-from_match e r.by r.dominates.matches) (share-turned r.by e apart))
     ]

@@ -346,6 +346,13 @@ impl Catalogue {
         }
     }
 
+    /// The table of names by which work keys are made. Takes no memory.
+    pub fn names(&self) -> &NameTable
+        ensures { result.now ≡ self.now.names }
+    {
+        &self.works.names
+    }
+
     /// The work key of an edition, by the catalogue's table of names. It is UTF-8, and has none of 0x1D, 0x1E and 0x1F.
     ///
     /// Returns `Memory` if allocation fails.

@@ -6,7 +6,7 @@
 //!
 //! Guarantee: whatever was loaded, corrected and withdrawn, the editions of a catalogue are those to which its current records
 //! resolve, from scratch.
-//! Cost: a turn tests, for a record that comes, the editions that share an index key with it, and for one that goes, the other
+//! Cost: a turn tests, for a record that comes, the editions that are posted under a key which it seeks, and for one that goes, the other
 //! records of its edition: at most the reach of its batch (specs/Reaches.antt of turn_plans), whatever the size of the catalogue. No edition
 //! that is not merged is copied. The editions in order are sorted for whoever asks for them.
 #![tactic(auto)]

@@ -2,6 +2,7 @@ pub mod FieldLaws
 pub mod StableLaws
 pub mod TagOrderLaws
 pub mod FittingLaws
+pub mod LongestLaws
 pub mod SoundLaws
 pub mod CountLaws
 pub mod ClassNumbers

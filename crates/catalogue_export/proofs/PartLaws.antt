@@ -13,19 +13,19 @@ use Rattle.catalogue_export.specs.declared.export_fail.ExportFail.{ExportFail}
 abbrev pub AreParts : {E : Type 0} → (Edition → List ℕ) → (Edition → List (RecordId × ℕ)) → List (Bor Edition) → List (Result Part E) → Type 0
 AreParts told noted editions [] = editions ≡ []
 AreParts told noted editions (made ∷ more) =
-    IfOk made (IsPartOf told noted (map (λ e. e.now) (take 256 editions))) × AreParts told noted (drop 256 editions) more
+    IfOk made (IsPartOf told noted (map (λ e. e.now) (take 2048 editions))) × AreParts told noted (drop 2048 editions) more
 
 -- so it is where that is known of each by its place
 pub are-parts : {E : Type 0} (told : Edition → List ℕ) (noted : Edition → List (RecordId × ℕ)) (editions : List (Bor Edition)) (made : List (Result Part E))
-    → length editions ≤ length made * 256
-    → ((n : ℕ) (d : Result Part E) → n < length made → IfOk (get_or made n d) (IsPartOf told noted (map (λ e. e.now) (take 256 (drop (n * 256) editions)))))
+    → length editions ≤ length made * 2048
+    → ((n : ℕ) (d : Result Part E) → n < length made → IfOk (get_or made n d) (IsPartOf told noted (map (λ e. e.now) (take 2048 (drop (n * 2048) editions)))))
     → AreParts told noted editions made
 are-parts told noted editions [] few each = nil_from_length editions (omega (arith, few))
 are-parts told noted editions (one ∷ more) few each = (
   each 0 one (omega arith),
-  are-parts told noted (drop 256 editions) more (omega (arith, few, length-drop 256 editions))
-      (λ n d within. subst (λ es. IfOk (get_or more n d) (IsPartOf told noted (map (λ e. e.now) (take 256 es))))
-      (sym (drop-drop (n * 256) 256 editions ∙ ap (λ k. drop k editions) (omega arith))) (each (suc n) d (omega (arith, within)))),
+  are-parts told noted (drop 2048 editions) more (omega (arith, few, length-drop 2048 editions))
+      (λ n d within. subst (λ es. IfOk (get_or more n d) (IsPartOf told noted (map (λ e. e.now) (take 2048 es))))
+      (sym (drop-drop (n * 2048) 2048 editions ∙ ap (λ k. drop k editions) (omega arith))) (each (suc n) d (omega (arith, within)))),
 )
 
 -- the writing of a part is the export of its editions

@@ -2,6 +2,7 @@ pub mod Fitting
 pub mod TagOrder
 pub mod Exported
 pub mod OwnFields
+pub mod Longest
 pub mod ExportedLaws
 pub mod Editions
 pub mod Writing

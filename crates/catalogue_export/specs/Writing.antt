@@ -15,6 +15,10 @@ pub record Output : Type 0 where
   pub before : ℕ
   pub after : ℕ
 
+-- by what is told of an output
+abbrev pub outflow : {O : Type 0} → (O → Option (List ℕ)) → (O → ℕ) → O → O → Output
+outflow written faults old new = record { old = written old; new = written new; before = faults old; after = faults new }
+
 -- a prefix of the text was written, and this rest of it is still to be written
 pub record IsWrittenTo (text rest : List ℕ) (old new : Option (List ℕ)) : Type 0 where
   pub front : List ℕ

@@ -9,15 +9,17 @@ ghost use Rattle.catalogue_core.specs.Histories.{AreEditionsOf};
 ghost use Rattle.catalogue_editions.specs.declared.edition.Edition.{Edition as EditionModel};
 ghost use Rattle.catalogue_export.specs.Editions.{left_of_one, left_of};
 ghost use Rattle.catalogue_export.specs.Parts.{IsPartOf};
-ghost use Rattle.catalogue_export.specs.Writing.{GainsFront, HasWritten, IsExport};
+ghost use Rattle.catalogue_export.specs.Writing.{GainsFront, HasWritten, IsExport, outflow};
 
 use crate::editions::append_editions;
 use crate::export::write_editions;
 use crate::export_fail::ExportFail;
 use crate::form::ExportForm;
+use crate::listing::Listing;
 use crate::pending::hand_on_rest;
-use catalogue_core::catalogue::Catalogue;
+use authority_names::name_table::NameTable;
 use catalogue_core::edition::Edition;
+use gathered_catalogue::finished::Finished;
 use std::alloc::Global;
 use std::thread;
 use std::thread::Threads;
@@ -26,7 +28,7 @@ use union_base::record_id::RecordId;
 use union_io::sink::Sink;
 
 /// How many editions a worker makes the records of in a round.
-const SHARE: usize = 256;
+const SHARE: usize = 2_048;
 
 /// The records of neighbouring editions, and those of the editions of which fields were left out.
 #[derive(Drop)]
@@ -35,7 +37,7 @@ struct Part {
     left: Vec<(RecordId, usize)>,
 }
 
-/// Writes the export of a catalogue in this form, as `export` does, its records made by `workers` workers, 1 to 64. One worker
+/// Writes the export of a catalogue when all is loaded in this form, as `export` does, its records made by `workers` workers, 1 to 64. One worker
 /// makes no thread.
 ///
 /// Returns `WriteFault` only where a write of `out` failed, and `Memory` if allocation fails. A prefix of the export was
@@ -43,7 +45,7 @@ struct Part {
 pub fn export_by_workers<R: Threads + Sync, F: ExportForm + Send, O: Sink>(
     rt: &R,
     alloc: Global,
-    catalogue: &Catalogue,
+    catalogue: &Finished,
     workers: u32,
     out: &mut O,
     left: &mut Vec<(RecordId, usize)>,
@@ -52,57 +54,53 @@ pub fn export_by_workers<R: Threads + Sync, F: ExportForm + Send, O: Sink>(
     requires most { workers ≤ 64 }
     ensures { (all : List EditionModel) × AreEditionsOf catalogue.now.history all
         × HasWritten (flat_map (F.shown catalogue.now.names) all)
-        (record {
-          old = O.written out.old;
-          new = O.written out.new;
-          before = O.faults out.old;
-          after
-              = O.faults out.new;
-        }) result
+        (outflow O.written O.faults out.old out.new) result
         × OnOk result (left.new.items ≡ left.old.items ++ left_of catalogue.now.names all)
         × OnErr result (GainsFront left.old.items left.new.items
         (left_of catalogue.now.names all)) }
 {
     match catalogue.editions(alloc) {
         Ok(editions) => {
-            let all = editions.as_slice();
-            write_by_workers::<R, F, O>(rt, alloc, catalogue, all, workers, out, left)
+            let listing = Listing {
+                names: catalogue.names(),
+                editions: editions.as_slice(),
+            };
+            write_by_workers::<R, F, O>(rt, alloc, &listing, workers, out, left)
         }
         Err(Memory) => Err(ExportFail::Memory),
     }
 }
 
-/// Writes the records of the editions, by `workers` workers, and notes those of which fields were left out.
-fn write_by_workers<R: Threads + Sync, F: ExportForm + Send, O: Sink>(
+/// Writes the records of the editions in this form, one after the other, made by `workers` workers, 1 to 64, as `export_by_workers` does of
+/// a catalogue.
+///
+/// Returns `WriteFault` only where a write of `out` failed, and `Memory` if allocation fails. A prefix of the records was written
+/// then, and `left` has gained a prefix of what it would have.
+pub fn write_by_workers<R: Threads + Sync, F: ExportForm + Send, O: Sink>(
     rt: &R,
     alloc: Global,
-    catalogue: &Catalogue,
-    editions: &[&Edition],
+    listing: &Listing<'_>,
     workers: u32,
     out: &mut O,
     left: &mut Vec<(RecordId, usize)>,
 ) -> Result<(), ExportFail>
     requires least { 1 ≤ workers }
     requires most { workers ≤ 64 }
-    ensures { IsExport (F.shown catalogue.now.names) (left_of_one catalogue.now.names)
-        (map (λ e. e.now) editions.now)
-        (record {
-          old = O.written out.old;
-          new = O.written out.new;
-          before = O.faults out.old;
-          after
-              = O.faults out.new;
-        }) left.old.items left.new.items result }
+    ensures { IsExport (F.shown listing.now.names.now) (left_of_one listing.now.names.now)
+        (map (λ e. e.now) listing.now.editions.now)
+        (outflow O.written O.faults out.old out.new) left.old.items left.new.items result }
 {
+    let names = listing.names;
+    let editions = listing.editions;
     if workers == 1 {
-        return write_editions::<F, O>(alloc, catalogue, editions, out, left);
+        return write_editions::<F, O>(alloc, names, editions, out, left);
     }
     let most = workers as usize * SHARE;
     let mut done = 0;
     'rounds: while done < editions.len() {
         let end = done + most.min(editions.len() - done);
         let round = &editions[done..end];
-        match write_round::<R, F, O>(rt, alloc, catalogue, round, out, left) {
+        match write_round::<R, F, O>(rt, alloc, names, round, out, left) {
             Ok(()) => done = end,
             Err(fail) => return Err(fail),
         }
@@ -114,25 +112,19 @@ fn write_by_workers<R: Threads + Sync, F: ExportForm + Send, O: Sink>(
 fn write_round<R: Threads + Sync, F: ExportForm + Send, O: Sink>(
     rt: &R,
     alloc: Global,
-    catalogue: &Catalogue,
+    names: &NameTable,
     editions: &[&Edition],
     out: &mut O,
     left: &mut Vec<(RecordId, usize)>,
 ) -> Result<(), ExportFail>
-    ensures { IsExport (F.shown catalogue.now.names) (left_of_one catalogue.now.names)
+    ensures { IsExport (F.shown names.now) (left_of_one names.now)
         (map (λ e. e.now) editions.now)
-        (record {
-          old = O.written out.old;
-          new = O.written out.new;
-          before = O.faults out.old;
-          after
-              = O.faults out.new;
-        }) left.old.items left.new.items result }
+        (outflow O.written O.faults out.old out.new) left.old.items left.new.items result }
 {
     let make = |_start: usize, share: &[&Edition]| -> Result<Part, Memory>
-        ensures { IfOk result (IsPartOf (F.shown catalogue.entry.now.names)
-            (left_of_one catalogue.entry.now.names) (map (λ e. e.now) share.now)) }
-    { part_of::<F>(alloc, catalogue, share) };
+        ensures { IfOk result (IsPartOf (F.shown names.entry.now)
+            (left_of_one names.entry.now) (map (λ e. e.now) share.now)) }
+    { part_of::<F>(alloc, names, share) };
     let parts = thread::map_chunks(rt, alloc, editions, SHARE, &make)?;
     for made in parts {
         let part = made?;
@@ -147,17 +139,17 @@ fn write_round<R: Threads + Sync, F: ExportForm + Send, O: Sink>(
 /// Makes the records of the editions, and notes those of which fields were left out. Returns `Memory` if allocation fails.
 fn part_of<F: ExportForm>(
     alloc: Global,
-    catalogue: &Catalogue,
+    names: &NameTable,
     editions: &[&Edition],
 ) -> Result<Part, Memory>
-    ensures { IfOk result (IsPartOf (F.shown catalogue.now.names)
-        (left_of_one catalogue.now.names) (map (λ e. e.now) editions.now)) }
+    ensures { IfOk result (IsPartOf (F.shown names.now)
+        (left_of_one names.now) (map (λ e. e.now) editions.now)) }
 {
     let mut part = Part {
         text: Vec::new(alloc),
         left: Vec::new(alloc),
     };
-    append_editions::<F>(alloc, catalogue, editions, &mut part.text, &mut part.left)?;
+    append_editions::<F>(alloc, names, editions, &mut part.text, &mut part.left)?;
     Ok(part)
 }
 
@@ -168,13 +160,7 @@ fn write_part<O: Sink>(
     left: &mut Vec<(RecordId, usize)>,
 ) -> Result<(), ExportFail>
     ensures written { HasWritten part.text.items
-        (record {
-          old = O.written out.old;
-          new = O.written out.new;
-          before = O.faults out.old;
-          after
-              = O.faults out.new;
-        }) result }
+        (outflow O.written O.faults out.old out.new) result }
     ensures left { OnOk result (left.new.items ≡ left.old.items ++ part.left.items) }
     ensures stopped { OnErr result (GainsFront left.old.items left.new.items part.left.items) }
 {

@@ -5,32 +5,33 @@ ghost use Rattle.catalogue_export.specs.Editions.{edition_text, fields_left, lef
 
 use crate::edition::edition_bytes;
 use crate::form::ExportForm;
-use catalogue_core::catalogue::Catalogue;
+use authority_names::name_table::NameTable;
 use catalogue_core::edition::Edition;
+use record_editions::work_key::work_key_of;
 use std::alloc::Global;
 use union_base::copied::Copied;
 use union_base::memory::Memory;
 use union_base::record_id::RecordId;
 
-/// Appends the records of the editions in this form, one after the other, each under its own work key by the catalogue's names;
-/// and appends to `left`, for each edition of which fields were left out since a frame has no room for more, its least contributor
+/// Appends the records of the editions in this form, one after the other, each under its own work key by the names; and
+/// appends to `left`, for each edition of which fields were left out since a frame has no room for more, its least contributor
 /// and their number.
 ///
 /// Returns `Memory` if allocation fails.
 pub fn append_editions<F: ExportForm>(
     alloc: Global,
-    catalogue: &Catalogue,
+    names: &NameTable,
     editions: &[&Edition],
     into: &mut Vec<u8>,
     left: &mut Vec<(RecordId, usize)>,
 ) -> Result<(), Memory>
     ensures text { OnOk result (into.new.items ≡ into.old.items
-        ++ flat_map (F.shown catalogue.now.names) (map (λ e. e.now) editions.now)) }
+        ++ flat_map (F.shown names.now) (map (λ e. e.now) editions.now)) }
     ensures left { OnOk result (left.new.items ≡ left.old.items
-        ++ left_of catalogue.now.names (map (λ e. e.now) editions.now)) }
+        ++ left_of names.now (map (λ e. e.now) editions.now)) }
 {
     for edition in editions {
-        let count = F::append(alloc, catalogue, edition, into)?;
+        let count = F::append(alloc, names, edition, into)?;
         note_left(alloc, edition, count, left)?;
     }
     Ok(())
@@ -39,15 +40,15 @@ pub fn append_editions<F: ExportForm>(
 /// Appends the record of an edition under its own work key; answers how many of its fields were left out.
 pub fn append_edition(
     alloc: Global,
-    catalogue: &Catalogue,
+    names: &NameTable,
     edition: &Edition,
     into: &mut Vec<u8>,
 ) -> Result<usize, Memory>
     ensures text { OnOk result (into.new.items ≡ into.old.items
-        ++ edition_text catalogue.now.names edition.now) }
-    ensures left { IfOk result (λ n. n ≡ fields_left catalogue.now.names edition.now) }
+        ++ edition_text names.now edition.now) }
+    ensures left { IfOk result (λ n. n ≡ fields_left names.now edition.now) }
 {
-    let key = catalogue.key_of(alloc, edition)?;
+    let key = work_key_of(alloc, names, edition)?;
     edition_bytes(alloc, &edition.shown(), &key, into)
 }
 

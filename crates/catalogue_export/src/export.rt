@@ -3,12 +3,13 @@ ghost use Rattle.std.specs.Prelude.{◌≡◌, ◌++◌, map, OnOk, OnErr, List}
 ghost use Rattle.catalogue_core.specs.Histories.{AreEditionsOf};
 ghost use Rattle.catalogue_editions.specs.declared.edition.Edition.{Edition as EditionModel};
 ghost use Rattle.catalogue_export.specs.Editions.{export_text, left_of_one, left_of};
-ghost use Rattle.catalogue_export.specs.Writing.{GainsFront, HasMoved, HasWritten, IsExport};
+ghost use Rattle.catalogue_export.specs.Writing.{GainsFront, HasMoved, HasWritten, IsExport, outflow};
 
 use crate::editions::note_left;
 use crate::export_fail::ExportFail;
 use crate::form::{ExportForm, Iso2709};
 use crate::pending::{hand_on, hand_on_rest};
+use authority_names::name_table::NameTable;
 use catalogue_core::catalogue::Catalogue;
 use catalogue_core::edition::Edition;
 use std::alloc::Global;
@@ -30,20 +31,15 @@ pub fn export<O: Sink>(
 ) -> Result<(), ExportFail>
     ensures { (all : List EditionModel) × AreEditionsOf catalogue.now.history all
         × HasWritten (export_text catalogue.now.names all)
-        (record {
-          old = O.written out.old;
-          new = O.written out.new;
-          before = O.faults out.old;
-          after
-              = O.faults out.new;
-        }) result
+        (outflow O.written O.faults out.old out.new) result
         × OnOk result (left.new.items ≡ left.old.items ++ left_of catalogue.now.names all)
         × OnErr result (GainsFront left.old.items left.new.items
         (left_of catalogue.now.names all)) }
 {
     match catalogue.editions(alloc) {
         Ok(editions) => {
-            write_editions::<Iso2709, O>(alloc, catalogue, editions.as_slice(), out, left)
+            let names = catalogue.names();
+            write_editions::<Iso2709, O>(alloc, names, editions.as_slice(), out, left)
         }
         Err(Memory) => Err(ExportFail::Memory),
     }
@@ -52,24 +48,18 @@ pub fn export<O: Sink>(
 /// Writes the records of the editions in this form, one after the other, and notes those of which fields were left out.
 pub(crate) fn write_editions<F: ExportForm, O: Sink>(
     alloc: Global,
-    catalogue: &Catalogue,
+    names: &NameTable,
     editions: &[&Edition],
     out: &mut O,
     left: &mut Vec<(RecordId, usize)>,
 ) -> Result<(), ExportFail>
-    ensures { IsExport (F.shown catalogue.now.names) (left_of_one catalogue.now.names)
+    ensures { IsExport (F.shown names.now) (left_of_one names.now)
         (map (λ e. e.now) editions.now)
-        (record {
-          old = O.written out.old;
-          new = O.written out.new;
-          before = O.faults out.old;
-          after
-              = O.faults out.new;
-        }) left.old.items left.new.items result }
+        (outflow O.written O.faults out.old out.new) left.old.items left.new.items result }
 {
     let mut pending = Vec::new(alloc);
     for edition in editions {
-        match write_edition::<F, O>(alloc, catalogue, edition, &mut pending, left, out) {
+        match write_edition::<F, O>(alloc, names, edition, &mut pending, left, out) {
             Ok(()) => {}
             Err(fail) => return Err(fail),
         }
@@ -80,27 +70,21 @@ pub(crate) fn write_editions<F: ExportForm, O: Sink>(
 /// Writes the record of an edition after what is pending, and notes the edition where fields of it were left out.
 fn write_edition<F: ExportForm, O: Sink>(
     alloc: Global,
-    catalogue: &Catalogue,
+    names: &NameTable,
     edition: &Edition,
     pending: &mut Vec<u8>,
     left: &mut Vec<(RecordId, usize)>,
     out: &mut O,
 ) -> Result<(), ExportFail>
-    ensures text { HasMoved (pending.old.items ++ F.shown catalogue.now.names edition.now)
+    ensures text { HasMoved (pending.old.items ++ F.shown names.now edition.now)
         pending.new.items
-        (record {
-          old = O.written out.old;
-          new = O.written out.new;
-          before = O.faults out.old;
-          after
-              = O.faults out.new;
-        }) result }
+        (outflow O.written O.faults out.old out.new) result }
     ensures left { OnOk result (left.new.items ≡ left.old.items
-        ++ left_of_one catalogue.now.names edition.now) }
+        ++ left_of_one names.now edition.now) }
     ensures stopped { OnErr result (GainsFront left.old.items left.new.items
-        (left_of_one catalogue.now.names edition.now)) }
+        (left_of_one names.now edition.now)) }
 {
-    let count = F::append(alloc, catalogue, edition, pending)?;
+    let count = F::append(alloc, names, edition, pending)?;
     note_left(alloc, edition, count, left)?;
     hand_on(pending, out)
 }

@@ -5,7 +5,7 @@ ghost use Rattle.catalogue_editions.specs.declared.edition.Edition.{Edition as E
 ghost use Rattle.catalogue_export.specs.Editions.{edition_text, fields_left};
 
 use crate::editions::append_edition;
-use catalogue_core::catalogue::Catalogue;
+use authority_names::name_table::NameTable;
 use catalogue_core::edition::Edition;
 use std::alloc::Global;
 use union_base::memory::Memory;
@@ -15,18 +15,18 @@ pub trait ExportForm {
     /// What is written of an edition, under its own work key by a table of names.
     ghost shown: { Table → EditionModel → List ℕ };
 
-    /// Appends what is written of an edition under its own work key; answers how many of its fields were left out.
+    /// Appends what is written of an edition under its own work key by the names; answers how many of its fields were left out.
     ///
     /// Returns `Memory` if allocation fails.
     fn append(
         alloc: Global,
-        catalogue: &Catalogue,
+        names: &NameTable,
         edition: &Edition,
         into: &mut Vec<u8>,
     ) -> Result<usize, Memory>
         ensures text { OnOk result (into.new.items ≡ into.old.items
-            ++ shown catalogue.now.names edition.now) }
-        ensures left { IfOk result (λ n. n ≡ fields_left catalogue.now.names edition.now) };
+            ++ shown names.now edition.now) }
+        ensures left { IfOk result (λ n. n ≡ fields_left names.now edition.now) };
 }
 
 /// The form of a file of ISO 2709: each record by its bytes.
@@ -37,10 +37,10 @@ impl ExportForm for Iso2709 {
 
     fn append(
         alloc: Global,
-        catalogue: &Catalogue,
+        names: &NameTable,
         edition: &Edition,
         into: &mut Vec<u8>,
     ) -> Result<usize, Memory> {
-        append_edition(alloc, catalogue, edition, into)
+        append_edition(alloc, names, edition, into)
     }
 }

@@ -5,9 +5,10 @@ ghost use Rattle.catalogue_export.specs.JsonExport.{edition_line};
 
 use crate::edition::edition_record;
 use crate::form::ExportForm;
-use catalogue_core::catalogue::Catalogue;
+use authority_names::name_table::NameTable;
 use catalogue_core::edition::Edition;
 use marc_json::writing::to_json;
+use record_editions::work_key::work_key_of;
 use std::alloc::Global;
 use union_base::memory::Memory;
 
@@ -19,26 +20,26 @@ impl ExportForm for JsonLines {
 
     fn append(
         alloc: Global,
-        catalogue: &Catalogue,
+        names: &NameTable,
         edition: &Edition,
         into: &mut Vec<u8>,
     ) -> Result<usize, Memory> {
-        append_line(alloc, catalogue, edition, into)
+        append_line(alloc, names, edition, into)
     }
 }
 
 /// Appends the line of an edition's record under its own work key; answers how many of its fields were left out.
 pub fn append_line(
     alloc: Global,
-    catalogue: &Catalogue,
+    names: &NameTable,
     edition: &Edition,
     into: &mut Vec<u8>,
 ) -> Result<usize, Memory>
     ensures text { OnOk result (into.new.items ≡ into.old.items
-        ++ edition_line catalogue.now.names edition.now) }
-    ensures left { IfOk result (λ n. n ≡ fields_left catalogue.now.names edition.now) }
+        ++ edition_line names.now edition.now) }
+    ensures left { IfOk result (λ n. n ≡ fields_left names.now edition.now) }
 {
-    let key = catalogue.key_of(alloc, edition)?;
+    let key = work_key_of(alloc, names, edition)?;
     let (rec, left) = edition_record(alloc, &edition.shown(), &key)?;
     to_json(&rec, into)?;
     Ok(left)

@@ -1,6 +1,7 @@
 //! What holds of the record that is shown of an edition, for whoever reasons about one. Each function is empty, and its clause
 //! is the law.
 ghost use Rattle.catalogue_export.specs.ExportedLaws.{ExportedIsWhole, ExportedBreaksNoRule, ExportedIsAccepted, ExportedIsNumberedTooLong, NumbersEndInNoBlank, EditionIsAccepted, EditionIsNumberedTooLong, EditionIsUtf8};
+ghost use Rattle.catalogue_export.specs.Longest.{FrontIsLongest, FittingIsLongest};
 
 /// The bytes that are shown of an edition are a whole frame: no more than a frame may have, and the only record terminator
 /// among them is the last.
@@ -45,4 +46,15 @@ pub fn edition_is_numbered_too_long()
 /// The texts of the record that is shown of an edition, under its work key by a table of names, are UTF-8.
 pub fn edition_is_utf8()
     ensures { EditionIsUtf8 }
+{}
+
+/// What is shown of a work key is its longest prefix that has no more bytes than are shown and ends between two characters.
+pub fn shown_key_is_the_longest_front()
+    ensures { FrontIsLongest }
+{}
+
+/// The fields that are kept of an edition are the longest prefix of all its fields whose record has no more bytes than a frame
+/// may have: with one field more it would have too many.
+pub fn kept_fields_are_the_longest_prefix()
+    ensures { FittingIsLongest }
 {}

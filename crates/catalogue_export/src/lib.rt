@@ -21,6 +21,7 @@ mod fitting;
 pub mod form;
 pub mod json_export;
 pub mod laws;
+pub mod listing;
 mod own_fields;
 pub mod pending;
 mod shown_fields;

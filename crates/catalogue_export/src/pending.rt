@@ -1,5 +1,5 @@
 //! A text on its way to an output, in pieces.
-ghost use Rattle.catalogue_export.specs.Writing.{HasMoved, HasWritten};
+ghost use Rattle.catalogue_export.specs.Writing.{HasMoved, HasWritten, outflow};
 
 use crate::export_fail::ExportFail;
 use union_io::failed::Failed;
@@ -11,13 +11,7 @@ const PIECE: usize = 65_536;
 /// Writes what is pending, once there is enough of it.
 pub fn hand_on<O: Sink>(pending: &mut Vec<u8>, out: &mut O) -> Result<(), ExportFail>
     ensures { HasMoved pending.old.items pending.new.items
-        (record {
-          old = O.written out.old;
-          new = O.written out.new;
-          before = O.faults out.old;
-          after
-              = O.faults out.new;
-        }) result }
+        (outflow O.written O.faults out.old out.new) result }
 {
     if pending.len() < PIECE {
         return Ok(());
@@ -34,13 +28,7 @@ pub fn hand_on<O: Sink>(pending: &mut Vec<u8>, out: &mut O) -> Result<(), Export
 /// Writes the rest.
 pub fn hand_on_rest<O: Sink>(pending: &[u8], out: &mut O) -> Result<(), ExportFail>
     ensures { HasWritten pending.now
-        (record {
-          old = O.written out.old;
-          new = O.written out.new;
-          before = O.faults out.old;
-          after
-              = O.faults out.new;
-        }) result }
+        (outflow O.written O.faults out.old out.new) result }
 {
     match put_all(out, pending) {
         Ok(()) => Ok(()),

@@ -1,15 +1,22 @@
 //! The list of a catalogue's works.
-ghost use Rattle.std.specs.Prelude.{◌≡◌, ◌++◌, OnOk, List};
+ghost use Rattle.std.specs.Prelude.{◌≡◌, ◌++◌, map, OnOk, IfOk, List};
 ghost use Rattle.std.specs.List.{flat_map};
 ghost use Rattle.catalogue_core.specs.Histories.{AreEditionsOf};
 ghost use Rattle.catalogue_editions.specs.declared.edition.Edition.{Edition as EditionModel};
+ghost use Rattle.work_clusters.specs.Works.{works_of};
+ghost use Rattle.record_editions.specs.EditionKeys.{work_pairs};
 ghost use Rattle.catalogue_export.specs.WorkLists.{edition_line, work_text, works_text_of};
-ghost use Rattle.catalogue_export.specs.Writing.{HasMoved, HasWritten};
+ghost use Rattle.catalogue_export.specs.Writing.{HasMoved, HasWritten, outflow};
 
 use crate::export_fail::ExportFail;
 use crate::pending::{hand_on, hand_on_rest};
+use authority_names::name_table::NameTable;
 use catalogue_core::catalogue::Catalogue;
+use catalogue_editions::edition::Edition;
+use edition_blocks::grouping::work_pair;
+use gathered_catalogue::finished::Finished;
 use std::alloc::Global;
+use union_base::bytes::Bytes;
 use union_base::memory::Memory;
 use union_base::record_id::RecordId;
 use union_io::sink::Sink;
@@ -28,13 +35,7 @@ pub fn works_text<O: Sink>(
 ) -> Result<(), ExportFail>
     ensures { (all : List EditionModel) × AreEditionsOf catalogue.now.history all
         × HasWritten (works_text_of catalogue.now.names all)
-        (record {
-          old = O.written out.old;
-          new = O.written out.new;
-          before = O.faults out.old;
-          after
-              = O.faults out.new;
-        }) result }
+        (outflow O.written O.faults out.old out.new) result }
 {
     match catalogue.works(alloc) {
         Ok(grouping) => write_works(alloc, grouping.works(), out),
@@ -42,16 +43,60 @@ pub fn works_text<O: Sink>(
     }
 }
 
+/// Writes the works of the editions of a catalogue when all is loaded, as `works_text` does.
+///
+/// Answers `WriteFault` only where a write of `out` failed, and `Memory` where memory ran out. A prefix of the text was written
+/// then.
+pub fn finished_works_text<O: Sink>(
+    alloc: Global,
+    catalogue: &Finished,
+    out: &mut O,
+) -> Result<(), ExportFail>
+    ensures { (all : List EditionModel) × AreEditionsOf catalogue.now.history all
+        × HasWritten (works_text_of catalogue.now.names all)
+        (outflow O.written O.faults out.old out.new) result }
+{
+    match catalogue.editions(alloc) {
+        Ok(editions) => match works_of(alloc, catalogue.names(), editions.as_slice()) {
+            Ok(works) => write_works(alloc, &works, out),
+            Err(Memory) => Err(ExportFail::Memory),
+        },
+        Err(Memory) => Err(ExportFail::Memory),
+    }
+}
+
+/// The work keys of the editions by the names, each with its edition's least contributor. Returns `Memory` if allocation fails.
+fn pairs_of(
+    alloc: Global,
+    names: &NameTable,
+    editions: &[&Edition],
+) -> Result<Vec<(Bytes, RecordId)>, Memory>
+    ensures { IfOk result (λ pairs. pairs.items
+        ≡ work_pairs names.now (map (λ e. e.now) editions.now)) }
+{
+    let mut pairs = Vec::with_capacity(alloc, editions.len())?;
+    for edition in editions {
+        pairs.push(work_pair(alloc, names, edition)?)?;
+    }
+    Ok(pairs)
+}
+
+/// The works of the editions by the names. Returns `Memory` if allocation fails.
+fn works_of(alloc: Global, names: &NameTable, editions: &[&Edition]) -> Result<Works, Memory>
+    ensures { IfOk result (λ works. works.works
+        ≡ works_of (work_pairs names.now (map (λ e. e.now) editions.now))) }
+{
+    let mut works = Works::empty(alloc);
+    let change = works.plan(Vec::new(alloc), pairs_of(alloc, names, editions)?);
+    works.make_room(alloc, &change)?;
+    works.install(change);
+    Ok(works)
+}
+
 /// Writes the works, in order of their keys.
 fn write_works<O: Sink>(alloc: Global, works: &Works, out: &mut O) -> Result<(), ExportFail>
     ensures { HasWritten (flat_map work_text works.now.works)
-        (record {
-          old = O.written out.old;
-          new = O.written out.new;
-          before = O.faults out.old;
-          after
-              = O.faults out.new;
-        }) result }
+        (outflow O.written O.faults out.old out.new) result }
 {
     works.are_in_order();
     let mut pending = Vec::new(alloc);
@@ -78,13 +123,7 @@ fn write_work<O: Sink>(
     out: &mut O,
 ) -> Result<(), ExportFail>
     ensures { HasMoved (pending.old.items ++ work_text (key.now, editions.now)) pending.new.items
-        (record {
-          old = O.written out.old;
-          new = O.written out.new;
-          before = O.faults out.old;
-          after
-              = O.faults out.new;
-        }) result }
+        (outflow O.written O.faults out.old out.new) result }
 {
     add_work(alloc, key, editions, pending)?;
     hand_on(pending, out)

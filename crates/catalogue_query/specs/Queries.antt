@@ -32,11 +32,11 @@ first_word line = before_first is_blank line
 abbrev pub rest_of : List ℕ → List ℕ
 rest_of line = after_first is_blank line
 
--- the eight words
+-- the two texts are one, byte for byte
 abbrev pub is_text : List ℕ → List ℕ → Bool
 is_text a b = pointwise nat_eq a b
 
--- the word that begins a question
+-- the word that begins a question, one of eight
 abbrev pub word_of : List ℕ → Option Word
 word_of text =
     if is_text text (codes "id") then Some first.Id else

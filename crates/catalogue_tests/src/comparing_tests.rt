@@ -111,7 +111,7 @@ impl Draws {
     }
 
     /// A delivery of a library with `numbers` numbers, with system numbers out of `keys`; one in five is a withdrawal.
-    fn delivery(&mut self, place: u64, numbers: u64, keys: u64) -> Delivery
+    pub fn delivery(&mut self, place: u64, numbers: u64, keys: u64) -> Delivery
         requires place { place < 3 }
         requires numbers { 0 < numbers }
         requires few { numbers < 1000 }

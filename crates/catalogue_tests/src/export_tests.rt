@@ -29,7 +29,13 @@ fn two_editions_one_behind_the_other(rt: HostRuntime) -> Result<(), Fail> {
     let mut text = Vec::new(alloc);
     let mut left = Vec::new(alloc);
     let catalogue = Catalogue::empty(alloc, Hashing::fixed())?;
-    append_editions::<Iso2709>(alloc, &catalogue, &[&ships, &cat], &mut text, &mut left)?;
+    append_editions::<Iso2709>(
+        alloc,
+        catalogue.names(),
+        &[&ships, &cat],
+        &mut text,
+        &mut left,
+    )?;
     let mut expected = Vec::new(alloc);
     expected.extend_from_slice(SHIPS_EXPORTED)?;
     expected.extend_from_slice(ONE_EXPORTED)?;

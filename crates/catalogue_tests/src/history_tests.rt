@@ -17,14 +17,14 @@ use union_base::bytes::Bytes;
 use union_base::record_id::RecordId;
 
 /// The record `id` again: corrected, and withdrawn.
-const CORRECTED: &[u8] =
+pub const CORRECTED: &[u8] =
     b"00187cam a2200097 a 4500001000600000008004100006245000800047700001300055710000900068711001200077\x1E  id \x1E240101s1999    xx                  eng d\x1E00\x1FaCat\x1E1 \x1FaZed, Zoe\x1E2 \x1FaAcme\x1E2 \x1FaMeeting\x1E\x1D";
 
-const WITHDRAWN: &[u8] =
+pub const WITHDRAWN: &[u8] =
     b"00187dam a2200097 a 4500001000600000008004100006245000800047700001300055710000900068711001200077\x1E  id \x1E240101s1999    xx                  eng d\x1E00\x1FaCat\x1E1 \x1FaZed, Zoe\x1E2 \x1FaAcme\x1E2 \x1FaMeeting\x1E\x1D";
 
 /// The record `b1` withdrawn.
-const BLUE_WITHDRAWN: &[u8] =
+pub const BLUE_WITHDRAWN: &[u8] =
     b"00181dam a2200085 a 4500001000300000008004100003020002200044100001400066245001500080\x1Eb1\x1E240101s1991    xx                  eng d\x1E  \x1Fa978-0-306-40615-7\x1E1 \x1FaHill, Ann\x1E00\x1FaBlue ships\x1E\x1D";
 
 /// Applies the turn of one record, and answers what came of it.

@@ -1,5 +1,5 @@
-//! The tests of the catalogue: of catalogue_core, of what catalogue_export writes of its editions, and of the questions that
-//! catalogue_query reads and answers. Beside them is the plain catalogue, with which the catalogue is compared.
+//! The tests of the catalogue: of catalogue_core, of gathered_catalogue, of what catalogue_export writes of its editions, and of the
+//! questions that catalogue_query reads and answers. Beside them is the plain catalogue, with which the catalogue is compared.
 //!
 //! They are apart from the libraries, since a crate with tests is proved twice: so each library is proved once, and is not proved
 //! again after a change of a test.
@@ -15,6 +15,8 @@ mod comparing_tests;
 mod edition_tests;
 #[cfg(test)]
 mod export_tests;
+#[cfg(test)]
+mod gathered_tests;
 #[cfg(test)]
 mod history_tests;
 #[cfg(test)]

@@ -256,7 +256,7 @@ fn clustered(alloc: Global, editions: &[Edition]) -> Result<Works, Memory>
     ensures { IfOk result (λ works. works.works ≡ works_of (work_pairs empty editions.now)) }
 {
     let mut works = Works::empty(alloc);
-    let change = works.plan(alloc, Vec::new(alloc), paired(alloc, editions)?)?;
+    let change = works.plan(Vec::new(alloc), paired(alloc, editions)?);
     works.make_room(alloc, &change)?;
     works.install(change);
     Ok(works)

@@ -40,7 +40,12 @@ fn less_full_record_of_a_preferred_library(rt: HostRuntime) -> Result<(), Fail> 
     let later = edition_by(alloc, &prefer, "LIBB", LATER)?;
     let mut text = Vec::new(alloc);
     let catalogue = Catalogue::empty(alloc, Hashing::fixed())?;
-    append_edition(alloc, &catalogue, &full.joined(alloc, &later)?, &mut text)?;
+    append_edition(
+        alloc,
+        catalogue.names(),
+        &full.joined(alloc, &later)?,
+        &mut text,
+    )?;
     assert_eq!(rt; text.as_slice(), PREFERRED);
     Ok(())
 }

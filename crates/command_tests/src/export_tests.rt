@@ -7,6 +7,7 @@ use catalogue_export::export::export;
 use catalogue_export::export_fail::ExportFail;
 use catalogue_export::form::{ExportForm, Iso2709};
 use catalogue_export::json_export::JsonLines;
+use gathered_catalogue::finished::Finished;
 use key_hashing::hashing::Hashing;
 use load_sessions::crew::Crew;
 use merge_laws::steps::Steps;
@@ -38,6 +39,7 @@ fn filled<R: Threads + Sync, L: Ledger>(
     let crew = Crew {
         workers: 1,
         hashing: Hashing::fixed(),
+        prepares: true,
     };
     let mut catalogue = Catalogue::empty(alloc, crew.hashing)?;
     let mut steps: Steps<L> = Steps::open(blank);
@@ -54,7 +56,7 @@ fn sink(alloc: Global) -> Result<MemSink, Memory> {
 fn written_by<R: Threads + Sync, F: ExportForm + Send>(
     rt: &R,
     alloc: Global,
-    catalogue: &Catalogue,
+    catalogue: &Finished,
     workers: u32,
 ) -> Result<MemSink, ExportFail>
     requires some { 1 ≤ workers }
@@ -73,6 +75,7 @@ fn several_workers_write_what_one_writes(rt: HostRuntime) -> Result<(), Fail> {
     let mut out = sink(alloc)?;
     let mut left = Vec::new(alloc);
     export(alloc, &catalogue, &mut out, &mut left)?;
+    let catalogue = Finished::standing(catalogue);
     let lines = written_by::<HostRuntime, JsonLines>(&rt, alloc, &catalogue, 1)?;
     for workers in [1, 2, 5] {
         let records = written_by::<HostRuntime, Iso2709>(&rt, alloc, &catalogue, workers)?;

@@ -72,6 +72,7 @@ fn trial<R: Threads + Sync>(
     let crew = Crew {
         workers,
         hashing: Hashing::fixed(),
+        prepares: true,
     };
     let status = trial_run(rt, alloc, seed, count, crew, &mut out);
     Ok((status, out))

@@ -6,6 +6,8 @@ use catalogue_lock::machine::Machine;
 use catalogue_query::answer::Answer;
 use catalogue_query::query::Query;
 use field_merge::preference::Preference;
+use gathered_catalogue::change::Change;
+use gathered_catalogue::finished::Finished;
 use key_hashing::hashing::Hashing;
 use library_batches::batch_reader::BatchReader;
 use load_sessions::crew::Crew;
@@ -47,9 +49,10 @@ fn load<R: Threads + Sync>(
         let crew = Crew {
             workers: 1,
             hashing: Hashing::fixed(),
+            prepares: true,
         };
         let prepared = prepare(rt, alloc, batch, crew)?;
-        served.apply(alloc, number, prepared)?;
+        served.apply(alloc, number, Change::prepared(prepared))?;
     }
     Ok(())
 }
@@ -76,7 +79,7 @@ fn sink(alloc: Global, limit: usize) -> Result<MemSink, Memory> {
 #[test]
 fn lines_of_all_kinds_are_told(rt: HostRuntime) -> Result<(), Fail> {
     let alloc = rt.alloc();
-    let mut served = Served::open(alloc, NameTable::empty(alloc, Hashing::fixed()))?;
+    let mut served = Served::keeping_works(alloc, NameTable::empty(alloc, Hashing::fixed()))?;
     let bridge = joined(alloc, &BRIDGE)?;
     load(&rt, alloc, &mut served, 0, b"LIBA", bridge.as_slice())?;
     load(&rt, alloc, &mut served, 1, b"LIBB", ONE)?;
@@ -85,9 +88,10 @@ fn lines_of_all_kinds_are_told(rt: HostRuntime) -> Result<(), Fail> {
     let late = replies(alloc, &served, file.questions.as_slice(), 2)?;
     let mut out = sink(alloc, 4_096)?;
     let none = Vec::new(alloc);
+    let finished = Finished::of(&rt, alloc, served.engine, 1)?;
     write_watch(
         alloc,
-        &served.catalogue,
+        &finished,
         file.lines.as_slice(),
         none,
         late,
@@ -100,7 +104,7 @@ fn lines_of_all_kinds_are_told(rt: HostRuntime) -> Result<(), Fail> {
 #[test]
 fn replies_beside_stand_before_late_ones(rt: HostRuntime) -> Result<(), Fail> {
     let alloc = rt.alloc();
-    let mut served = Served::open(alloc, NameTable::empty(alloc, Hashing::fixed()))?;
+    let mut served = Served::keeping_works(alloc, NameTable::empty(alloc, Hashing::fixed()))?;
     let file = AskFile::read(alloc, b"count\ncount")?;
     assert!(rt; !file.has_refusals());
     let questions = divide(alloc, 2, file.questions)?;
@@ -108,9 +112,10 @@ fn replies_beside_stand_before_late_ones(rt: HostRuntime) -> Result<(), Fail> {
     load(&rt, alloc, &mut served, 0, b"LIBB", ONE)?;
     let late = replies(alloc, &served, questions.late.as_slice(), 1_234_567)?;
     let mut out = sink(alloc, 4_096)?;
+    let finished = Finished::of(&rt, alloc, served.engine, 1)?;
     write_watch(
         alloc,
-        &served.catalogue,
+        &finished,
         file.lines.as_slice(),
         beside,
         late,

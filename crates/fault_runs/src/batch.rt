@@ -6,6 +6,8 @@ use catalogue_export::export::export;
 use catalogue_export::works_text::works_text;
 use catalogue_lock::machine::Machine;
 use field_merge::preference::Preference;
+use gathered_catalogue::change::Change;
+use gathered_catalogue::engine::Kind;
 use key_hashing::hashing::Hashing;
 use library_batches::batch_reader::BatchReader;
 use load_sessions::crew::Crew;
@@ -47,9 +49,10 @@ fn load<R: Threads + Sync>(
             let crew = Crew {
                 workers: 1,
                 hashing: Hashing::fixed(),
+                prepares: true,
             };
             let prepared = prepare(rt, alloc, batch, crew)?;
-            Ok(served.apply(alloc, 0, prepared).is_ok())
+            Ok(served.apply(alloc, 0, Change::prepared(prepared)).is_ok())
         }
         Ok(None) => Ok(false),
         Err(_) => Err(Memory),
@@ -60,10 +63,13 @@ fn load<R: Threads + Sync>(
 fn shown(alloc: Global, served: &Served) -> Result<Vec<u8>, Memory> {
     let mut out = sink(alloc, &[])?;
     let mut left = Vec::new(alloc);
-    if export(alloc, &served.catalogue, &mut out, &mut left).is_err() {
+    let Kind::Standing(catalogue) = served.engine.kind() else {
+        return Err(Memory);
+    };
+    if export(alloc, catalogue, &mut out, &mut left).is_err() {
         return Err(Memory);
     }
-    if works_text(alloc, &served.catalogue, &mut out).is_err() {
+    if works_text(alloc, catalogue, &mut out).is_err() {
         return Err(Memory);
     }
     Ok(out.content().to_vec(alloc)?)
@@ -71,7 +77,7 @@ fn shown(alloc: Global, served: &Served) -> Result<Vec<u8>, Memory> {
 
 /// What a catalogue shows that loads all the records.
 fn shown_of_all<R: Threads + Sync>(rt: &R, alloc: Global) -> Result<Vec<u8>, Memory> {
-    let mut served = Served::open(alloc, NameTable::empty(alloc, Hashing::fixed()))?;
+    let mut served = Served::keeping_works(alloc, NameTable::empty(alloc, Hashing::fixed()))?;
     if !load(rt, alloc, &mut served, &FOUR)? || !load(rt, alloc, &mut served, &MORE)? {
         return Err(Memory);
     }

@@ -4,11 +4,12 @@ use crate::gates::{MeetingGate, Met, OrderGate};
 use crate::records::numbered;
 use crate::report::{add_ended, add_number};
 use authority_names::name_table::NameTable;
-use catalogue_core::catalogue::Catalogue;
-use catalogue_export::export::export;
+use catalogue_export::by_workers::export_by_workers;
 use catalogue_export::export_fail::ExportFail;
+use catalogue_export::form::Iso2709;
 use catalogue_query::questions::Questions;
 use field_merge::preference::Preference;
+use gathered_catalogue::finished::Finished;
 use key_hashing::hashing::Hashing;
 use std::alloc::Global;
 use std::sync::Wait;
@@ -56,7 +57,7 @@ pub fn what_of(word: &str) -> Option<What> {
 }
 
 /// The line of the sessions of the first two turns.
-fn turns_line(alloc: Global, catalogue: &Catalogue) -> Result<Vec<u8>, Memory> {
+fn turns_line(alloc: Global, catalogue: &Finished) -> Result<Vec<u8>, Memory> {
     let mut text = Vec::new(alloc);
     text.extend_from_slice(b"turns")?;
     for turn in 0..catalogue.turns() {
@@ -70,14 +71,15 @@ fn turns_line(alloc: Global, catalogue: &Catalogue) -> Result<Vec<u8>, Memory> {
 }
 
 /// Writes the export of the catalogue, and then the line of its turns on the second output.
-fn write_loaded<O: Sink, N: Sink>(
+fn write_loaded<R: Threads + Sync, O: Sink, N: Sink>(
+    rt: &R,
     alloc: Global,
-    catalogue: &Catalogue,
+    catalogue: &Finished,
     out: &mut O,
     notes: &mut N,
 ) -> Result<(), ExportFail> {
     let mut left = Vec::new(alloc);
-    export(alloc, catalogue, out, &mut left)?;
+    export_by_workers::<R, Iso2709, O>(rt, alloc, catalogue, 1, out, &mut left)?;
     let line = turns_line(alloc, catalogue)?;
     put_all(notes, line.as_slice())?;
     Ok(())
@@ -110,7 +112,7 @@ fn load_and_write<R: Threads + Wait + Sync, F: Shelf, O: Sink, N: Sink, G: Gate>
         questions: Questions::none(alloc),
     };
     match load_and_ask(rt, alloc, &loading, start, shelf, gate) {
-        Ok(watched) => match write_loaded(alloc, &watched.loaded.catalogue, out, notes) {
+        Ok(watched) => match write_loaded(rt, alloc, &watched.loaded.catalogue, out, notes) {
             Ok(()) => Status::Done,
             Err(ExportFail::WriteFault) => Status::WriteFault,
             Err(ExportFail::Memory) => Status::Memory,

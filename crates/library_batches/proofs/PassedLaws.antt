@@ -1,5 +1,5 @@
 -- What a reader that passed blocks without a batch answers next.
-use Rattle.std.proofs.Common.{◌≡◌, ℕ, ◌+◌, ◌≤◌, ◌<◌, Bool, true, false, List, [], ◌∷◌, ◌++◌, length, append_assoc, inl, inr, refl, sym, ap, subst, ◌∙◌, arith, length-append}
+use Rattle.std.proofs.Common.{◌≡◌, ℕ, ◌+◌, ◌≤◌, ◌<◌, Bool, true, false, List, [], ◌∷◌, ◌++◌, length, append_assoc, inl, inr, refl, sym, ap, subst, ◌∙◌, arith, add-zero, append-nil, length-append}
 use Rattle.std.specs.Prelude.{Option, Some, None, Ok, Err, ⊤, IsTrue, filter}
 use Rattle.std.proofs.lemmas.Bool.{le-leb}
 use Rattle.std.proofs.lemmas.List.{length-map}
@@ -13,8 +13,8 @@ use Rattle.catalogue_editions.specs.declared.op.Op.{Op}
 use Rattle.library_batches.specs.Streams.{Frame, is_accepted, accepted}
 use Rattle.library_batches.specs.Refused.{refused_from}
 use Rattle.library_batches.specs.Batches.{AreBatches, AreFirstBatches, IsBatchOf, IsOpOf, block_size}
-use Rattle.library_batches.specs.Reading.{Batching, AnswersBatch, KeepsFrames, ahead}
-use Rattle.library_batches.specs.Blocks.{IsBlock, IsChecked, IsFull, StopsBehind, BlockAnswers, AnswersCut}
+use Rattle.library_batches.specs.Reading.{Batching, AnswersBatch, KeepsFrames, Losses, ahead}
+use Rattle.library_batches.specs.Blocks.{IsBlock, IsChecked, IsFull, StopsBlock, BlockAnswers}
 use Rattle.library_batches.specs.declared.block.Block.{Block}
 use Rattle.library_batches.specs.declared.refused.RefusedFrame.{RefusedFrame}
 use Rattle.library_batches.specs.declared.stop.Stop.{Stop}
@@ -34,6 +34,10 @@ from_reader P a b prefer library is = subst (λ l. P a.prefer l) library (subst 
 -- blocks without a batch were passed: what the batches still to come are, the batches of what was coming are
 pub record PassesBlocks (before : Batching) (coming : List Frame) (now : Batching) (still : List Frame) : Type 0 where
   pub keeps : KeepsFrames before coming now still
+  pub passed : List Frame
+  pub are : coming ≡ passed ++ still
+  pub place : now.frames ≡ before.frames + length passed
+  pub refused : now.refused ≡ before.refused ++ refused_from (before.frames + 1) passed
   pub all : (later : List Batch) → AreBatches before.prefer before.library still later → AreBatches before.prefer before.library coming later
   pub first : (later : List Batch) → AreFirstBatches before.prefer before.library still later
       → AreFirstBatches before.prefer before.library coming later
@@ -48,8 +52,28 @@ Passes before (Some bytes) now (Some rest) =
 -- nothing is passed at first
 pub Passes-none : (a : Batching) (left : Option (List ℕ)) → Passes a left a left
 Passes-none a None = tt
-Passes-none a (Some bytes) =
-    (record { keeps = record { prefer = refl; library = refl; frames = refl; refused = refl }; all = λ later all. all; first = λ later first. first }, refl)
+Passes-none a (Some bytes) = (
+  record {
+    keeps = record { prefer = refl; library = refl; frames = refl; refused = refl };
+    passed = [];
+    are = refl;
+    place = sym (add-zero a.frames);
+    refused = sym (append-nil a.refused);
+    all = λ later all. all;
+    first = λ later first. first;
+  },
+  refl,
+)
+
+-- the refused ones of frames, and of more frames after them
+pub refused-more : (a b c : Batching) (xs ys : List Frame) → b.frames ≡ a.frames + length xs → b.refused ≡ a.refused ++ refused_from (a.frames + 1) xs
+    → c.refused ≡ b.refused ++ refused_from (b.frames + 1) ys → c.refused ≡ a.refused ++ refused_from (a.frames + 1) (xs ++ ys)
+refused-more a b c xs ys place first second =
+    let moved : b.frames + 1 ≡ (a.frames + 1) + length xs = omega arith in
+    second
+    ∙ (ap (λ r. r ++ refused_from (b.frames + 1) ys) first
+    ∙ (append_assoc a.refused (refused_from (a.frames + 1) xs) (refused_from (b.frames + 1) ys)
+    ∙ ap (λ r. a.refused ++ r) (ap (λ k. refused_from (a.frames + 1) xs ++ refused_from k ys) moved ∙ sym (refused_from-append (a.frames + 1) xs ys))))
 
 -- the frames that a block takes are kept
 KeepsFrames-block : (a b c : Batching) (coming between still : List Frame) (taken : List Frame) → KeepsFrames a coming b between → between ≡ taken ++ still
@@ -83,6 +107,10 @@ Passes-block a b c (Some x) (Some y) (Some z) block passes is prefer library non
     let before : IsBlockBefore is.taken (ahead c z) = is_before block.ended c z is.taken is.full is.most in (
       record {
         keeps = KeepsFrames-block a b c (ahead a x) (ahead b y) (ahead c z) is.taken passes.0.keeps is.takes.0 prefer library is.frames is.checked.refused;
+        passed = passes.0.passed ++ is.taken;
+        are = passes.0.are ∙ (ap (λ fs. passes.0.passed ++ fs) is.takes.0 ∙ sym (append_assoc passes.0.passed is.taken (ahead c z)));
+        place = omega (arith, passes.0.place, is.frames, length-append passes.0.passed is.taken);
+        refused = refused-more a b c passes.0.passed is.taken passes.0.place passes.0.refused is.checked.refused;
         all = λ later all. passes.0.all later (subst (λ fs. AreBatches a.prefer a.library fs later) (sym is.takes.0)
             (from_reader (λ p l. AreBatches p l (is.taken ++ ahead c z) later) a b passes.0.keeps.prefer passes.0.keeps.library
             (AreBatches-none b.prefer b.library is.taken (ahead c z) block.ops.items later before none is.checked.asked
@@ -134,42 +162,35 @@ Answers-end a b c (Some x) (Some y) (Some z) block passed is prefer library none
     )
 
 -- the source is too long
-pub Answers-long : (a b c : Batching) (one two three : Option (List ℕ)) → Passes a one b two → StopsBehind b.stream two c.stream three → c.stream ≡ stopped
+pub Answers-long : (Is : List Frame → Type 0) (a b c : Batching) (one two three : Option (List ℕ)) → Passes a one b two → StopsBlock Is b two c three → c.stream ≡ stopped
     → AnswersBatch (Err TooLong) a one c three
-Answers-long a b c None two three passes stops stands = tt
-Answers-long a b c (Some x) None three passes stops stands = absurd passes
-Answers-long a b c (Some x) (Some y) None passes stops stands = absurd stops.1
-Answers-long a b c (Some x) (Some y) (Some z) passes stops stands =
-    sym passes.1 ∙ stops.1.1 ∙ ap (λ stream. is_too_long stream z) stands
+Answers-long Is a b c None two three passes stops stands = tt
+Answers-long Is a b c (Some x) None three passes stops stands = absurd passes
+Answers-long Is a b c (Some x) (Some y) None passes stops stands = absurd stops.takes
+Answers-long Is a b c (Some x) (Some y) (Some z) passes stops stands =
+    sym passes.1 ∙ stops.takes.1 ∙ ap (λ stream. is_too_long stream z) stands
 
 -- the reading failed, or memory ran out
-pub Answers-failed : (a b c : Batching) (one two three : Option (List ℕ)) → Passes a one b two → StopsBehind b.stream two c.stream three
+pub Answers-failed : (Is : List Frame → Type 0) (a b c : Batching) (one two three : Option (List ℕ)) → Passes a one b two → StopsBlock Is b two c three
     → AnswersBatch (Err Failed) a one c three
-Answers-failed a b c None two three passes stops = tt
-Answers-failed a b c (Some x) None three passes stops = absurd passes
-Answers-failed a b c (Some x) (Some y) None passes stops = absurd stops.1
-Answers-failed a b c (Some x) (Some y) (Some z) passes stops = tt
+Answers-failed Is a b c None two three passes stops = tt
+Answers-failed Is a b c (Some x) None three passes stops = absurd passes
+Answers-failed Is a b c (Some x) (Some y) None passes stops = absurd stops.takes
+Answers-failed Is a b c (Some x) (Some y) (Some z) passes stops = tt
 
-pub Answers-memory : (a b c : Batching) (one two three : Option (List ℕ)) → Passes a one b two → StopsBehind b.stream two c.stream three
+pub Answers-memory : (Is : List Frame → Type 0) (a b c : Batching) (one two three : Option (List ℕ)) → Passes a one b two → StopsBlock Is b two c three
     → AnswersBatch (Err Memory) a one c three
-Answers-memory a b c None two three passes stops = tt
-Answers-memory a b c (Some x) None three passes stops = absurd passes
-Answers-memory a b c (Some x) (Some y) None passes stops = absurd stops.1
-Answers-memory a b c (Some x) (Some y) (Some z) passes stops = tt
+Answers-memory Is a b c None two three passes stops = tt
+Answers-memory Is a b c (Some x) None three passes stops = absurd passes
+Answers-memory Is a b c (Some x) (Some y) None passes stops = absurd stops.takes
+Answers-memory Is a b c (Some x) (Some y) (Some z) passes stops = tt
 
 -- the reading of a block stopped
-pub Answers-stopped : (stop : Stop) (a b c : Batching) (one two three : Option (List ℕ)) → Passes a one b two → BlockAnswers (Err stop) b two c three
-    → AnswersBatch (Err stop) a one c three
-Answers-stopped TooLong a b c one two three passed stops = Answers-long a b c one two three passed stops.0 stops.1
-Answers-stopped Failed a b c one two three passed stops = Answers-failed a b c one two three passed stops
-Answers-stopped Memory a b c one two three passed stops = Answers-memory a b c one two three passed stops
-
--- the cutting of a block stopped
-pub BlockAnswers-stopped : (stop : Stop) (a b : Batching) (one two : Option (List ℕ)) (taken : List Frame) → AnswersCut (Err stop) a.stream one b.stream two taken
-    → BlockAnswers (Err stop) a one b two
-BlockAnswers-stopped TooLong a b one two taken stops = stops
-BlockAnswers-stopped Failed a b one two taken stops = stops
-BlockAnswers-stopped Memory a b one two taken stops = stops
+pub Answers-stopped : (Are : Losses) (stop : Stop) (a b c : Batching) (one two three : Option (List ℕ)) → Passes a one b two
+    → BlockAnswers Are (Err stop) b two c three → AnswersBatch (Err stop) a one c three
+Answers-stopped Are TooLong a b c one two three passed stops = Answers-long (Are TooLong) a b c one two three passed stops.0 stops.1
+Answers-stopped Are Failed a b c one two three passed stops = Answers-failed (Are Failed) a b c one two three passed stops
+Answers-stopped Are Memory a b c one two three passed stops = Answers-memory (Are Memory) a b c one two three passed stops
 
 -- no fewer operations than one and no more than frames: they fit a batch
 pub is_batch-block : (prefer : List (List ℕ)) (library : List ℕ) (start : ℕ) (taken : List Frame) (ops : List Op) (before now : List RefusedFrame)

@@ -6,7 +6,7 @@ use Rattle.std.proofs.lemmas.Nat.{div-add-mod', mod_below}
 use Rattle.catalogue_editions.specs.declared.op.Op.{Op}
 use Rattle.library_batches.specs.Streams.{Frame}
 use Rattle.library_batches.specs.Blocks.{IsChecked}
-use Rattle.library_batches.specs.Shares.{IsShare, AreShares}
+use Rattle.library_batches.specs.Shares.{IsShare, AreShares, KeepsFront}
 use Rattle.library_batches.specs.declared.refused.RefusedFrame.{RefusedFrame}
 use Rattle.library_batches.specs.declared.shares.Checked.{Checked}
 use Rattle.library_batches.proofs.CheckedLaws.{IsChecked-none, IsChecked-more}
@@ -94,3 +94,17 @@ pub joined-all : {E : Type 0} (prefer : List (List ℕ)) (library : List ℕ) (s
 joined-all {E} prefer library size start frames still ops before now last joined =
     let none = subst (λ (list : List (Result Checked E)). AreShares prefer library size (start + length joined.done) joined.rest list) last joined.come in
     subst (λ fs. IsChecked prefer library start fs ops before now) (sym (joined.all ∙ ap (λ fs. joined.done ++ fs) none ∙ append-nil joined.done)) joined.checked
+
+-- the shares that were put together are those of the first of the frames
+pub joined-front : {E : Type 0} (prefer : List (List ℕ)) (library : List ℕ) (size start : ℕ) (frames : List Frame) (still : List (Result Checked E)) (ops : List Op)
+    (before now : List RefusedFrame) → IsJoined prefer library size start frames still ops before now → KeepsFront start frames before now
+joined-front {E} prefer library size start frames still ops before now joined = record {
+  checked = joined.done;
+  rest = joined.rest;
+  all = joined.all;
+  refused = joined.checked.refused;
+}
+
+-- none was checked
+pub front-none : (start : ℕ) (frames : List Frame) (before : List RefusedFrame) → KeepsFront start frames before before
+front-none start frames before = record { checked = []; rest = frames; all = refl; refused = sym (append-nil before) }

@@ -9,7 +9,7 @@ use Rattle.catalogue_editions.specs.declared.op.Op.{Op}
 use Rattle.library_batches.specs.Streams.{Frame, accepted}
 use Rattle.library_batches.specs.Refused.{refused_from}
 use Rattle.library_batches.specs.Batches.{IsOpOf, block_size}
-use Rattle.library_batches.specs.Reading.{Batching}
+use Rattle.library_batches.specs.Reading.{Batching, Losses, IsLost}
 use Rattle.library_batches.specs.declared.block.Block.{Block}
 use Rattle.library_batches.specs.declared.refused.RefusedFrame.{RefusedFrame}
 use Rattle.library_batches.specs.declared.stop.Stop.{Stop}
@@ -38,21 +38,29 @@ pub record IsBlock (before : Batching) (left : Option (List ℕ)) (now : Batchin
   pub full : IsFull block.ended now.stream (length taken)
   pub fewer : most_ahead now.stream + length taken ≤ most_ahead before.stream
 
--- frames were taken before the reading stopped
-abbrev pub StopsBehind : Streaming → Option (List ℕ) → Streaming → Option (List ℕ) → Type 0
-StopsBehind before left now left' = (taken : List Frame) × Takes before left now left' taken
+-- the reading of a block stopped behind frames that were taken: the first of them were checked, and the refused ones among those are kept
+pub record StopsBlock (IsLostThen : List Frame → Type 0) (before : Batching) (left : Option (List ℕ)) (now : Batching) (left' : Option (List ℕ)) : Type 0 where
+  pub checked : List Frame
+  pub lost : List Frame
+  pub takes : Takes before.stream left now.stream left' (checked ++ lost)
+  pub lost_are : IsLostThen lost
+  pub refused : now.refused ≡ before.refused ++ refused_from (before.frames + 1) checked
 
 -- what an answer on a block says
-abbrev pub BlockAnswers : Result Block Stop → Batching → Option (List ℕ) → Batching → Option (List ℕ) → Type 0
-BlockAnswers (Ok block) before left now left' = IsBlock before left now left' block
-BlockAnswers (Err TooLong) before left now left' = StopsBehind before.stream left now.stream left' × (now.stream ≡ stopped)
-BlockAnswers (Err Failed) before left now left' = StopsBehind before.stream left now.stream left'
-BlockAnswers (Err Memory) before left now left' = StopsBehind before.stream left now.stream left'
+abbrev pub BlockAnswers : Losses → Result Block Stop → Batching → Option (List ℕ) → Batching → Option (List ℕ) → Type 0
+BlockAnswers Are (Ok block) before left now left' = IsBlock before left now left' block
+BlockAnswers Are (Err TooLong) before left now left' = StopsBlock (Are TooLong) before left now left' × (now.stream ≡ stopped)
+BlockAnswers Are (Err Failed) before left now left' = StopsBlock (Are Failed) before left now left'
+BlockAnswers Are (Err Memory) before left now left' = StopsBlock (Are Memory) before left now left'
 
--- what an answer on the cutting of a block says of the frames that were cut: these were ahead, and the block is full, unless the
+-- the cutting of a block stopped behind frames that were kept, and those that were lost
+abbrev pub StopsCut : (List Frame → Type 0) → Streaming → Option (List ℕ) → Streaming → Option (List ℕ) → List Frame → Type 0
+StopsCut IsLostThen before left now left' kept = (lost : List Frame) × Takes before left now left' (kept ++ lost) × IsLostThen lost
+
+-- what an answer on the cutting of a block says of the frames that were kept: these were ahead, and the block is full, unless the
 -- source ended within it
 abbrev pub AnswersCut : Result Bool Stop → Streaming → Option (List ℕ) → Streaming → Option (List ℕ) → List Frame → Type 0
 AnswersCut (Ok ended) before left now left' taken = Takes before left now left' taken × IsFull ended now (length taken)
-AnswersCut (Err TooLong) before left now left' taken = StopsBehind before left now left' × (now ≡ stopped)
-AnswersCut (Err Failed) before left now left' taken = StopsBehind before left now left'
-AnswersCut (Err Memory) before left now left' taken = StopsBehind before left now left'
+AnswersCut (Err TooLong) before left now left' taken = StopsCut (IsLost TooLong) before left now left' taken × (now ≡ stopped)
+AnswersCut (Err Failed) before left now left' taken = StopsCut (IsLost Failed) before left now left' taken
+AnswersCut (Err Memory) before left now left' taken = StopsCut (IsLost Memory) before left now left' taken

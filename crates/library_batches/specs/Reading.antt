@@ -1,10 +1,11 @@
 -- What a reader of batches is, and what is ahead of it.
-use Rattle.std.specs.Prelude.{◌≡◌, ℕ, ◌+◌, ◌^◌, ⊤, false, true, List, [], ◌∷◌, ◌++◌, length, Option, Some, None, Result, Ok, Err}
+use Rattle.std.specs.Prelude.{◌≡◌, ◌≤◌, ◌⊎◌, ℕ, ◌+◌, ◌^◌, ⊤, false, true, List, [], ◌∷◌, ◌++◌, length, Option, Some, None, Result, Ok, Err}
+use Rattle.iso2709_frame.specs.declared.cut.Cut.TheVariants.{Truncated}
 use Rattle.library_stream.specs.Streaming.{Streaming, opened, frames_ahead, is_too_long}
 use Rattle.catalogue_editions.specs.declared.batch.Batch.{Batch}
 use Rattle.library_batches.specs.Streams.{Frame}
 use Rattle.library_batches.specs.Refused.{refused_from}
-use Rattle.library_batches.specs.Batches.{AreBatches, AreFirstBatches}
+use Rattle.library_batches.specs.Batches.{AreBatches, AreFirstBatches, block_size}
 use Rattle.library_batches.specs.declared.refused.RefusedFrame.{RefusedFrame}
 use Rattle.library_batches.specs.declared.stop.Stop.{Stop}
 use Rattle.library_batches.specs.declared.stop.Stop.TheVariants.{TooLong, Failed, Memory}
@@ -60,3 +61,45 @@ abbrev pub AnswersBatch : Result (Option Batch) Stop → Batching → Option (Li
 AnswersBatch answer before None now left = ⊤
 AnswersBatch answer before (Some bytes) now None = ⊥
 AnswersBatch answer before (Some bytes) now (Some rest) = AnswersTold answer before bytes now rest
+
+-- frames that were cut and not checked, by why the reading stopped
+abbrev pub Losses : Type 1
+Losses = Stop → List Frame → Type 0
+
+-- nothing, or a rest that the limit cuts off
+abbrev pub IsCutOff : List Frame → Type 0
+IsCutOff lost = (lost ≡ []) ⊎ (lost ≡ (Truncated, []) ∷ [])
+
+-- what one worker loses: of a source that is too long the rest that the limit cuts off; nothing where a read failed; and the frame at which
+-- memory ran out
+abbrev pub IsLost : Losses
+IsLost TooLong lost = IsCutOff lost
+IsLost Failed lost = lost ≡ []
+IsLost Memory lost = length lost ≡ 1
+
+-- what several lose, who check a block's frames when all are cut: the same of a source that is too long, and else some of the last frames, at
+-- most a block and one more, and only where memory ran out
+abbrev pub IsLostBySeveral : Losses
+IsLostBySeveral TooLong lost = IsCutOff lost
+IsLostBySeveral Failed lost = length lost ≤ block_size
+IsLostBySeveral Memory lost = length lost ≤ block_size + 1
+
+-- the frames that were coming: those that were checked, and the refused ones among them are kept; those that were lost; those still to come
+pub record KeepsRefused (IsLostThen : List Frame → Type 0) (before : Batching) (coming : List Frame) (now : Batching) (still : List Frame) : Type 0 where
+  pub checked : List Frame
+  pub lost : List Frame
+  pub all : coming ≡ checked ++ (lost ++ still)
+  pub lost_are : IsLostThen lost
+  pub refused : now.refused ≡ before.refused ++ refused_from (before.frames + 1) checked
+
+-- which refused frames are kept where the reading stopped. Nothing comes of a source that is too long
+abbrev pub StopsTold : Losses → Stop → Batching → List ℕ → Batching → List ℕ → Type 0
+StopsTold Are TooLong before bytes now rest = KeepsRefused (Are TooLong) before (ahead before bytes) now []
+StopsTold Are Failed before bytes now rest = KeepsRefused (Are Failed) before (ahead before bytes) now (ahead now rest)
+StopsTold Are Memory before bytes now rest = KeepsRefused (Are Memory) before (ahead before bytes) now (ahead now rest)
+
+-- the same where the source may not tell its bytes
+abbrev pub StopsReading : Losses → Stop → Batching → Option (List ℕ) → Batching → Option (List ℕ) → Type 0
+StopsReading Are stop before None now left = ⊤
+StopsReading Are stop before (Some bytes) now None = ⊥
+StopsReading Are stop before (Some bytes) now (Some rest) = StopsTold Are stop before bytes now rest

@@ -1,8 +1,7 @@
 -- What is told of a library's frames, and of what came of them.
 use Rattle.std.specs.Prelude.{◌≡◌, ℕ, Bool, not, List, [], ◌∷◌, ◌++◌, length, count_by, decimal, codes}
 use Rattle.std.specs.List.{flat_map}
-use Rattle.marc_fields.specs.declared.rules.Rule.{Rule}
-use Rattle.marc_fields.specs.declared.rules.Rule.TheVariants.{Truncated, TooLong, TooShort, LengthDigits, LengthDiffers, BaseAddress, LeaderCounts, EntryDigits, Tag, Tiling, Status, Coding, NotUtf8, ControlShape, DataShape, ControlNumber, Repeated, Fixed008, Title245}
+use Rattle.marc_fields.specs.RuleNames.{rule_name}
 use Rattle.marc_parts.specs.Loads.{is_deleted}
 use Rattle.marc_rules.specs.NineteenRules.{status_of}
 use Rattle.union_base.specs.declared.record_id.RecordId.{RecordId}
@@ -26,28 +25,6 @@ withdrawals all = count_by is_withdrawing (accepted all)
 -- how many of the accepted frames load one
 abbrev pub loads : List Frame → ℕ
 loads all = count_by (λ frame. not (is_withdrawing frame)) (accepted all)
-
--- the rules' names
-abbrev pub rule_name : Rule → List ℕ
-rule_name Truncated = codes "Truncated"
-rule_name TooLong = codes "TooLong"
-rule_name TooShort = codes "TooShort"
-rule_name LengthDigits = codes "LengthDigits"
-rule_name LengthDiffers = codes "LengthDiffers"
-rule_name BaseAddress = codes "BaseAddress"
-rule_name LeaderCounts = codes "LeaderCounts"
-rule_name EntryDigits = codes "EntryDigits"
-rule_name Tag = codes "Tag"
-rule_name Tiling = codes "Tiling"
-rule_name Status = codes "Status"
-rule_name Coding = codes "Coding"
-rule_name NotUtf8 = codes "NotUtf8"
-rule_name ControlShape = codes "ControlShape"
-rule_name DataShape = codes "DataShape"
-rule_name ControlNumber = codes "ControlNumber"
-rule_name Repeated = codes "Repeated"
-rule_name Fixed008 = codes "Fixed008"
-rule_name Title245 = codes "Title245"
 
 -- ` WORD N`
 unfoldable pub counted : List ℕ → ℕ → List ℕ

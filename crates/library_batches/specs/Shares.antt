@@ -1,7 +1,9 @@
 -- The shares of frames that several workers check.
-use Rattle.std.specs.Prelude.{◌≡◌, ℕ, ◌+◌, List, [], ◌∷◌, length, take, drop, Result, IfOk}
+use Rattle.std.specs.Prelude.{◌≡◌, ℕ, ◌+◌, List, [], ◌∷◌, ◌++◌, length, take, drop, Result, IfOk}
 use Rattle.library_batches.specs.Streams.{Frame}
+use Rattle.library_batches.specs.Refused.{refused_from}
 use Rattle.library_batches.specs.Blocks.{IsChecked}
+use Rattle.library_batches.specs.declared.refused.RefusedFrame.{RefusedFrame}
 use Rattle.library_batches.specs.declared.shares.Checked.{Checked}
 
 -- the frames of a share, numbered from that number on, were checked
@@ -15,3 +17,10 @@ AreShares prefer library size start frames [] = frames ≡ []
 AreShares prefer library size start frames (made ∷ more) =
     IfOk made (IsShare prefer library start (take size frames))
     × AreShares prefer library size (start + length (take size frames)) (drop size frames) more
+
+-- the first of the frames, numbered from that number on, were checked, and the refused ones among them were added
+pub record KeepsFront (start : ℕ) (frames : List Frame) (before now : List RefusedFrame) : Type 0 where
+  pub checked : List Frame
+  pub rest : List Frame
+  pub all : frames ≡ checked ++ rest
+  pub refused : now ≡ before ++ refused_from start checked

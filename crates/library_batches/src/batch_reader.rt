@@ -1,9 +1,9 @@
 //! The reader of batches.
-ghost use Rattle.std.specs.Prelude.{◌≡◌, ◌≢◌, ◌≤◌, ◌<◌, Err, IfOk, OnSome, IfSome};
+ghost use Rattle.std.specs.Prelude.{◌≡◌, ◌≢◌, ◌≤◌, ◌<◌, Err, IfOk, IfErr, OnSome, IfSome};
 ghost use Rattle.union_io.specs.Causes.{Rose};
 ghost use Rattle.library_stream.specs.Streaming.{most_ahead};
 ghost use Rattle.library_batches.specs.Blocks.{BlockAnswers};
-ghost use Rattle.library_batches.specs.Reading.{AnswersBatch, begun, most_bytes};
+ghost use Rattle.library_batches.specs.Reading.{AnswersBatch, IsLost, StopsReading, begun, most_bytes};
 
 use crate::block::Block;
 use crate::checking::{Origin, check_next};
@@ -78,7 +78,7 @@ impl BatchReader {
         ensures name { S.name source.new ≡ S.name source.old }
         ensures prefer { self.new.prefer ≡ self.old.prefer }
         ensures library { self.new.library ≡ self.old.library }
-        ensures answers { BlockAnswers result self.old (S.left source.old) self.new
+        ensures answers { BlockAnswers IsLost result self.old (S.left source.old) self.new
             (S.left source.new) }
         ensures failed { result ≡ Err Stop.Failed
             → Rose (S.faults source.old) (S.faults source.new) }
@@ -112,7 +112,8 @@ impl BatchReader {
 
     /// The next batch of the source, and None where it ended within the limit and each of its batches was handed out. Blocks
     /// of 256 frames without an accepted one have no batch. What is cut and checked on the way is counted, and kept where it
-    /// is refused.
+    /// is refused, also where the reading stops: of a source that is too long the refused ones of all frames that end within the limit,
+    /// after a failed read those of all frames before it, and where memory ran out those of the frames before the one at hand.
     ///
     /// Answers `TooLong` exactly where the source gave as many bytes as the limit allows and at least one more, and no read
     /// failed; `Failed` only where a read of the source failed; `Memory` if allocation fails. The operations of a block that
@@ -123,6 +124,8 @@ impl BatchReader {
         ensures library { self.new.library ≡ self.old.library }
         ensures answers { AnswersBatch result self.old (S.left source.old) self.new
             (S.left source.new) }
+        ensures kept { IfErr result (λ stop. StopsReading IsLost stop self.old
+            (S.left source.old) self.new (S.left source.new)) }
         ensures failed { result ≡ Err Stop.Failed
             → Rose (S.faults source.old) (S.faults source.new) }
         ensures calm { result ≢ Err Stop.Failed → S.faults source.new ≡ S.faults source.old }

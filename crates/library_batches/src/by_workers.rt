@@ -3,11 +3,11 @@
 //! The frames of a block are cut first, and each is copied, since the reader lends one at a time. Then the workers check them and
 //! make their operations, a share of neighbouring frames each, and what the shares gave is put together in order: the batches and
 //! the refused frames are those of one worker. Cost: the bytes of a block, and a thread for each worker but one in each block.
-ghost use Rattle.std.specs.Prelude.{◌≡◌, ◌≢◌, ◌≤◌, ◌<◌, Err, IfOk, OnSome, IfSome};
+ghost use Rattle.std.specs.Prelude.{◌≡◌, ◌≢◌, ◌≤◌, ◌<◌, Err, IfOk, IfErr, OnSome, IfSome};
 ghost use Rattle.union_io.specs.Causes.{Rose};
 ghost use Rattle.library_stream.specs.Streaming.{most_ahead};
 ghost use Rattle.library_batches.specs.Blocks.{BlockAnswers};
-ghost use Rattle.library_batches.specs.Reading.{AnswersBatch};
+ghost use Rattle.library_batches.specs.Reading.{AnswersBatch, IsLostBySeveral, StopsReading};
 
 use crate::batch_reader::BatchReader;
 use crate::block::Block;
@@ -35,7 +35,7 @@ impl BatchReader {
         ensures name { S.name source.new ≡ S.name source.old }
         ensures prefer { self.new.prefer ≡ self.old.prefer }
         ensures library { self.new.library ≡ self.old.library }
-        ensures answers { BlockAnswers result self.old (S.left source.old) self.new
+        ensures answers { BlockAnswers IsLostBySeveral result self.old (S.left source.old) self.new
             (S.left source.new) }
         ensures failed { result ≡ Err Stop.Failed
             → Rose (S.faults source.old) (S.faults source.new) }
@@ -62,14 +62,22 @@ impl BatchReader {
                 ops: checked?,
                 ended,
             }),
-            Err(stop) => Err(stop),
+            Err(stop) => match stop {
+                Stop::TooLong => {
+                    checked?;
+                    Err(Stop::TooLong)
+                }
+                Stop::Failed => Err(Stop::Failed),
+                Stop::Memory => Err(Stop::Memory),
+            },
         }
     }
 
     /// The next batch of the source, as `next` answers it, with the frames checked and their operations made by `workers` workers,
     /// 1 to 64. One worker makes no thread.
     ///
-    /// Stops as `next` does, and then too the refused frames before are kept unless allocation fails.
+    /// Stops as `next` does, and then too the refused frames before are kept, but where allocation fails: then those of the first
+    /// of these frames are, of all but a block and one more at most.
     pub fn next_by<R: Threads + Sync, S: Source>(
         &mut self,
         rt: &R,
@@ -84,6 +92,8 @@ impl BatchReader {
         ensures library { self.new.library ≡ self.old.library }
         ensures answers { AnswersBatch result self.old (S.left source.old) self.new
             (S.left source.new) }
+        ensures kept { IfErr result (λ stop. StopsReading IsLostBySeveral stop self.old
+            (S.left source.old) self.new (S.left source.new)) }
         ensures failed { result ≡ Err Stop.Failed
             → Rose (S.faults source.old) (S.faults source.new) }
         ensures calm { result ≢ Err Stop.Failed → S.faults source.new ≡ S.faults source.old }

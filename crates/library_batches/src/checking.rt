@@ -1,5 +1,5 @@
 //! The checking of one frame.
-ghost use Rattle.std.specs.Prelude.{◌≡◌, ◌+◌, ◌++◌, ◌∷◌, [], ℕ, List, length, OnOk};
+ghost use Rattle.std.specs.Prelude.{◌≡◌, ◌+◌, ◌++◌, ◌∷◌, [], ℕ, List, length, OnOk, OnErr};
 ghost use Rattle.iso2709_frame.specs.Frames.{IsWhole};
 ghost use Rattle.library_batches.specs.Streams.{Frame};
 ghost use Rattle.library_batches.specs.Blocks.{IsChecked};
@@ -36,7 +36,8 @@ pub fn check_next(
     refused: &mut Vec<RefusedFrame>,
 ) -> Result<(), Memory>
     requires whole { cut ≡ Cut.Whole → IsWhole frame.now }
-    ensures { OnOk result ((start : ℕ) (taken : List Frame) (before : List RefusedModel)
+    ensures kept { OnErr result (refused.new.items ≡ refused.old.items) }
+    ensures checked { OnOk result ((start : ℕ) (taken : List Frame) (before : List RefusedModel)
         → origin.now.number ≡ start + length taken
         → IsChecked origin.now.prefer.now origin.now.library.now start taken ops.old.items before
         refused.old.items

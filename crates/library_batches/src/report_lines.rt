@@ -2,39 +2,11 @@
 //!
 //! Each function appends its text to a buffer. The texts are those of specs/Reports.antt.
 ghost use Rattle.std.specs.Prelude.{◌≡◌, ◌++◌, OnOk};
-ghost use Rattle.library_batches.specs.Reports.{rule_name, counted, refused_line, refused_lines};
+ghost use Rattle.library_batches.specs.Reports.{counted, refused_line, refused_lines};
 
 use crate::refused::RefusedFrame;
 use itoa::Buffer;
-use marc_fields::rules::Rule;
 use std::alloc::AllocError;
-
-/// The rule's name. Takes no memory.
-pub fn rule_name(rule: Rule) -> &'static [u8]
-    ensures { result.now ≡ rule_name rule }
-{
-    match rule {
-        Rule::Truncated => b"Truncated",
-        Rule::TooLong => b"TooLong",
-        Rule::TooShort => b"TooShort",
-        Rule::LengthDigits => b"LengthDigits",
-        Rule::LengthDiffers => b"LengthDiffers",
-        Rule::BaseAddress => b"BaseAddress",
-        Rule::LeaderCounts => b"LeaderCounts",
-        Rule::EntryDigits => b"EntryDigits",
-        Rule::Tag => b"Tag",
-        Rule::Tiling => b"Tiling",
-        Rule::Status => b"Status",
-        Rule::Coding => b"Coding",
-        Rule::NotUtf8 => b"NotUtf8",
-        Rule::ControlShape => b"ControlShape",
-        Rule::DataShape => b"DataShape",
-        Rule::ControlNumber => b"ControlNumber",
-        Rule::Repeated => b"Repeated",
-        Rule::Fixed008 => b"Fixed008",
-        Rule::Title245 => b"Title245",
-    }
-}
 
 /// Adds ` WORD N`.
 pub fn add_counted(text: &mut Vec<u8>, word: &[u8], number: u64) -> Result<(), AllocError>
@@ -58,7 +30,7 @@ fn add_refused_line(
 {
     text.extend_from_slice(library)?;
     add_counted(text, b"refused", frame.frame)?;
-    add_counted(text, rule_name(frame.rule), u64::from(frame.place))?;
+    add_counted(text, frame.rule.name(), u64::from(frame.place))?;
     text.push(b'\n')?;
     Ok(())
 }

@@ -1,8 +1,8 @@
 //! The checking of frames by several workers, a share of neighbouring frames each.
-ghost use Rattle.std.specs.Prelude.{◌≡◌, ◌≤◌, ◌<◌, ◌+◌, ◌^◌, ◌++◌, [], ℕ, List, length, IfOk, OnOk};
+ghost use Rattle.std.specs.Prelude.{◌≡◌, ◌≤◌, ◌<◌, ◌+◌, ◌^◌, ◌++◌, [], ℕ, List, length, IfOk, OnOk, OnErr};
 ghost use Rattle.library_batches.specs.Streams.{Frame};
 ghost use Rattle.library_batches.specs.Blocks.{IsChecked};
-ghost use Rattle.library_batches.specs.Shares.{IsShare, AreShares};
+ghost use Rattle.library_batches.specs.Shares.{IsShare, AreShares, KeepsFront};
 
 use crate::checking::Origin;
 use crate::cut_frame::CutFrame;
@@ -26,7 +26,7 @@ pub struct Checked {
 /// frames, in a thread of its own where one can be made. Answers the operations that the accepted ones ask for, in order, and adds
 /// the refused ones to `refused`, as one worker would.
 ///
-/// Returns `Memory` if allocation fails.
+/// Returns `Memory` if allocation fails; of the refused ones the first are kept then.
 pub fn check_by_workers<R: Threads + Sync>(
     rt: &R,
     alloc: Global,
@@ -37,8 +37,9 @@ pub fn check_by_workers<R: Threads + Sync>(
 ) -> Result<Vec<Op>, Memory>
     requires least { 1 ≤ workers }
     requires room { origin.now.number + length frames.now < 2 ^ 64 }
-    ensures { IfOk result (λ ops. IsChecked origin.now.prefer.now origin.now.library.now
+    ensures checked { IfOk result (λ ops. IsChecked origin.now.prefer.now origin.now.library.now
         origin.now.number frames.now ops.items refused.old.items refused.new.items) }
+    ensures kept { KeepsFront origin.now.number frames.now refused.old.items refused.new.items }
 {
     let size = frames.len().div_ceil(workers as usize).max(1);
     let check = |start: usize, share: &[CutFrame]| -> Result<Checked, Memory>
@@ -83,10 +84,13 @@ fn join_shares(
     parts: Vec<Result<Checked, Memory>>,
     refused: &mut Vec<RefusedFrame>,
 ) -> Result<Vec<Op>, Memory>
-    ensures { (prefer : List (List ℕ)) (library : List ℕ) (size start : ℕ) (frames : List Frame)
-        → AreShares prefer library size start frames parts.items
+    ensures checked { (prefer : List (List ℕ)) (library : List ℕ) (size start : ℕ)
+        (frames : List Frame) → AreShares prefer library size start frames parts.items
         → IfOk result (λ ops. IsChecked prefer library start frames ops.items
         refused.old.items refused.new.items) }
+    ensures kept { (prefer : List (List ℕ)) (library : List ℕ) (size start : ℕ)
+        (frames : List Frame) → AreShares prefer library size start frames parts.items
+        → KeepsFront start frames refused.old.items refused.new.items }
 {
     let mut ops = Vec::new(alloc);
     for made in parts {
@@ -104,6 +108,7 @@ fn add_share(
 ) -> Result<(), Memory>
     ensures ops { OnOk result (ops.new.items ≡ ops.old.items ++ part.ops.items) }
     ensures refused { OnOk result (refused.new.items ≡ refused.old.items ++ part.refused.items) }
+    ensures kept { OnErr result (refused.new.items ≡ refused.old.items) }
 {
     let Checked {
         ops: mut more_ops,

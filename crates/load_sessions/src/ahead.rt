@@ -11,12 +11,12 @@ ghost use Rattle.load_sessions.specs.Turning.{stop_beside};
 
 use crate::crew::Crew;
 use crate::due::{Due, Turning, turn_due};
-use crate::reading::read_prepared;
+use crate::reading::read_change;
 use crate::served::Served;
 use crate::session::Session;
 use catalogue_core::outcome::Outcome;
-use catalogue_core::prepared::Prepared;
 use catalogue_lock::pass::Pass;
+use gathered_catalogue::change::Change;
 use library_batches::batch_reader::BatchReader;
 use library_batches::stop::Stop;
 use std::sync::Wait;
@@ -36,7 +36,7 @@ fn turn_in_hand<R: Wait, G: Gate>(
     ensures desk { IsPassOf pass.new turning.now.desk.now }
     ensures same { IsSamePass pass.old pass.new }
     ensures own { OnOk result (IfSome hand.old
-        (λ due. (view pass.new).own ≡ (view pass.old).own ++ due.prepared ∷ [])) }
+        (λ due. (view pass.new).own ≡ (view pass.old).own ++ due.change ∷ [])) }
     ensures found { IfOk result (λ outcomes. found (view pass.new).seen (view pass.new).number
         ≡ found (view pass.old).seen (view pass.old).number ++ outcomes.items) }
     ensures few { IfOk result (λ outcomes. length outcomes.items ≤ block_size) }
@@ -54,13 +54,13 @@ fn turn_beside<R: Threads + Wait + Sync, S: Source + Send, G: Gate>(
     reader: &mut BatchReader,
     source: &mut S,
     readers: Crew,
-) -> (Result<Vec<Outcome>, Memory>, Result<Option<Prepared>, Stop>)
+) -> (Result<Vec<Outcome>, Memory>, Result<Option<Change>, Stop>)
     requires some { 1 ≤ readers.workers }
     requires most { readers.workers ≤ 64 }
     requires desk { IsPassOf pass.old turning.now.desk.now }
     ensures desk { IsPassOf pass.new turning.now.desk.now }
     ensures same { IsSamePass pass.old pass.new }
-    ensures own { OnOk result.0 ((view pass.new).own ≡ (view pass.old).own ++ due.prepared ∷ []) }
+    ensures own { OnOk result.0 ((view pass.new).own ≡ (view pass.old).own ++ due.change ∷ []) }
     ensures found { IfOk result.0 (λ outcomes. found (view pass.new).seen (view pass.new).number
         ≡ found (view pass.old).seen (view pass.old).number ++ outcomes.items) }
     ensures few { IfOk result.0 (λ outcomes. length outcomes.items ≤ block_size) }
@@ -77,9 +77,9 @@ fn turn_beside<R: Threads + Wait + Sync, S: Source + Send, G: Gate>(
     let mut hand = Some(due);
     let (next, turned) = join_mut(
         turning.rt,
-        &mut || -> Result<Option<Prepared>, Stop>
+        &mut || -> Result<Option<Change>, Stop>
             requires { (1 ≤ readers.workers) × (readers.workers ≤ 64) }
-        { read_prepared(turning.rt, turning.alloc, reader, source, readers) },
+        { read_change(turning.rt, turning.alloc, reader, source, readers) },
         &mut || -> Result<Vec<Outcome>, Memory>
             requires { IsPassOf pass.now turning.now.desk.now × IsSome hand }
         { turn_in_hand(turning, pass, &mut hand) },
@@ -97,14 +97,14 @@ pub(crate) fn turn_and_read<R: Threads + Wait + Sync, S: Source + Send, G: Gate>
     due: Due,
     reader: &mut BatchReader,
     crew: Crew,
-) -> (Result<Vec<Outcome>, Memory>, Result<Option<Prepared>, Stop>)
+) -> (Result<Vec<Outcome>, Memory>, Result<Option<Change>, Stop>)
     requires some { 1 ≤ crew.workers }
     requires most { crew.workers ≤ 64 }
     requires desk { IsPassOf session.old.pass turning.now.desk.now }
     ensures keeps { IsSameSession S.name turning.now.desk.now.board.shared.table_id session.old
         session.new }
     ensures own { OnOk result.0 ((view session.new.pass).own
-        ≡ (view session.old.pass).own ++ due.prepared ∷ []) }
+        ≡ (view session.old.pass).own ++ due.change ∷ []) }
     ensures found { IfOk result.0 (λ outcomes.
         found (view session.new.pass).seen (view session.new.pass).number
         ≡ found (view session.old.pass).seen (view session.old.pass).number ++ outcomes.items) }
@@ -119,10 +119,11 @@ pub(crate) fn turn_and_read<R: Threads + Wait + Sync, S: Source + Send, G: Gate>
     ensures fewer { IfOk result.1 (λ next. OnSome next
         (most_ahead reader.new.stream < most_ahead reader.old.stream)) }
 {
-    if crew.workers > 1 {
+    if crew.workers > 1 && crew.prepares {
         let readers = Crew {
             workers: crew.workers - 1,
             hashing: crew.hashing,
+            prepares: crew.prepares,
         };
         return turn_beside(
             turning,
@@ -136,7 +137,7 @@ pub(crate) fn turn_and_read<R: Threads + Wait + Sync, S: Source + Send, G: Gate>
     match turn_due(turning, &mut session.pass, due) {
         Ok(outcomes) => (
             Ok(outcomes),
-            read_prepared(turning.rt, turning.alloc, reader, &mut session.source, crew),
+            read_change(turning.rt, turning.alloc, reader, &mut session.source, crew),
         ),
         Err(Memory) => (Err(Memory), Err(Stop::Memory)),
     }
@@ -144,7 +145,7 @@ pub(crate) fn turn_and_read<R: Threads + Wait + Sync, S: Source + Send, G: Gate>
 
 /// Why a session stops whose turn was refused memory, where this was read meanwhile: a read that failed is told first, since the
 /// source counted it.
-pub(crate) fn stop_of(next: Result<Option<Prepared>, Stop>) -> Stop
+pub(crate) fn stop_of(next: Result<Option<Change>, Stop>) -> Stop
     ensures { result ≡ stop_beside next }
 {
     match next {

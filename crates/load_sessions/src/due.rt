@@ -6,9 +6,9 @@ ghost use Rattle.library_batches.specs.Tallies.{found};
 
 use crate::served::Served;
 use catalogue_core::outcome::Outcome;
-use catalogue_core::prepared::Prepared;
 use catalogue_lock::desk::{Desk, Turned};
 use catalogue_lock::pass::Pass;
+use gathered_catalogue::change::Change;
 use std::alloc::Global;
 use std::sync::Wait;
 use union_base::memory::Memory;
@@ -28,7 +28,7 @@ pub(crate) struct Turning<'a, R, G> {
 #[derive(Drop)]
 pub(crate) struct Due {
     pub turn: u64,
-    pub prepared: Prepared,
+    pub change: Change,
 }
 
 /// Makes a turn of the pass, between two calls of the gate. Answers what came of the batch's operations.
@@ -42,15 +42,15 @@ pub(crate) fn turn_due<R: Wait, G: Gate>(
     requires desk { IsPassOf pass.old turning.now.desk.now }
     ensures desk { IsPassOf pass.new turning.now.desk.now }
     ensures same { IsSamePass pass.old pass.new }
-    ensures own { OnOk result ((view pass.new).own ≡ (view pass.old).own ++ due.prepared ∷ []) }
+    ensures own { OnOk result ((view pass.new).own ≡ (view pass.old).own ++ due.change ∷ []) }
     ensures found { IfOk result (λ outcomes. found (view pass.new).seen (view pass.new).number
         ≡ found (view pass.old).seen (view pass.old).number ++ outcomes.items) }
     ensures few { IfOk result (λ outcomes. length outcomes.items ≤ block_size) }
     ensures memory { OnErr result ((view pass.new).own ≡ (view pass.old).own) }
 {
-    let Due { turn, prepared } = due;
+    let Due { turn, change } = due;
     turning.gate.before_turn(pass.number(), turn);
-    let turned = turning.desk.turn(turning.alloc, turning.rt, pass, prepared);
+    let turned = turning.desk.turn(turning.alloc, turning.rt, pass, change);
     turning.gate.after_turn(pass.number(), turn);
     let Turned { turn: _, outcome } = turned?;
     Ok(outcome)

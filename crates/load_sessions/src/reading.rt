@@ -5,26 +5,26 @@ ghost use Rattle.library_stream.specs.Streaming.{most_ahead};
 ghost use Rattle.library_batches.specs.Reading.{AnswersBatch};
 
 use crate::crew::Crew;
-use crate::preparing::prepare;
-use catalogue_core::prepared::Prepared;
+use crate::preparing::change_of;
+use gathered_catalogue::change::Change;
 use library_batches::batch_reader::BatchReader;
 use library_batches::stop::Stop;
 use std::alloc::Global;
 use std::thread::Threads;
 use union_io::source::Source;
 
-/// The next batch of the source, read and prepared by the crew, and None where it ended within the limit and each of its batches
+/// The next batch of the source, read and made a change by the crew, and None where it ended within the limit and each of its batches
 /// was handed out.
 ///
 /// Answers `TooLong`, `Failed` and `Memory` as `BatchReader::next_by` does, and `Memory` also where the batch can't be prepared, which
 /// drops it.
-pub(crate) fn read_prepared<R: Threads + Sync, S: Source>(
+pub(crate) fn read_change<R: Threads + Sync, S: Source>(
     rt: &R,
     alloc: Global,
     reader: &mut BatchReader,
     source: &mut S,
     crew: Crew,
-) -> Result<Option<Prepared>, Stop>
+) -> Result<Option<Change>, Stop>
     requires some { 1 ≤ crew.workers }
     requires most { crew.workers ≤ 64 }
     ensures name { S.name source.new ≡ S.name source.old }
@@ -37,7 +37,7 @@ pub(crate) fn read_prepared<R: Threads + Sync, S: Source>(
         (most_ahead reader.new.stream < most_ahead reader.old.stream)) }
 {
     match reader.next_by(rt, alloc, source, crew.workers)? {
-        Some(batch) => Ok(Some(prepare(rt, alloc, batch, crew)?)),
+        Some(batch) => Ok(Some(change_of(rt, alloc, batch, crew)?)),
         None => Ok(None),
     }
 }

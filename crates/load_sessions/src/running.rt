@@ -110,6 +110,7 @@ fn preparers(crew: Crew, sessions: usize) -> Crew
     Crew {
         workers: share.max(1).min(64) as u32,
         hashing: crew.hashing,
+        prepares: crew.prepares,
     }
 }
 

@@ -1,85 +1,98 @@
 //! The machine of the desk: a catalogue.
-ghost use Rattle.std.specs.Prelude.{◌≡◌, ◌<◌, ◌^◌, ◌++◌, ◌∷◌, [], length, IfOk, OnOk, OnErr};
+ghost use Rattle.std.specs.Prelude.{◌≡◌, ◌<◌, ◌^◌, ◌++◌, ◌∷◌, [], length, List, IfOk, OnOk, OnErr};
 ghost use Rattle.std.proofs.Common.{sym, subst};
 ghost use Rattle.std.proofs.lemmas.List.{length-map};
 ghost use Rattle.std.specs.FinMap.{empty};
 ghost use Rattle.catalogue_core.specs.Catalogues.{by_names};
-ghost use Rattle.catalogue_core.specs.Histories.{current, outcomes};
+ghost use Rattle.catalogue_core.specs.Histories.{current, outcomes, AreEditionsOf};
 ghost use Rattle.catalogue_core.specs.Entries.{entries_of, gives};
+ghost use Rattle.catalogue_editions.specs.declared.edition.Edition.{Edition as EditionModel};
+ghost use Rattle.catalogue_query.specs.Answers.{answer_lines};
 ghost use Rattle.catalogue_query.specs.Replies.{tells};
 
 use authority_names::name_table::NameTable;
 use catalogue_core::catalogue::Catalogue;
 use catalogue_core::outcome::Outcome;
-use catalogue_core::prepared::Prepared;
 use catalogue_lock::machine::Machine;
 use catalogue_query::answer::Answer;
 use catalogue_query::answering::answer;
 use catalogue_query::query::Query;
-use merge_laws::steps::Steps;
+use gathered_catalogue::change::Change;
+use gathered_catalogue::engine::{Engine, Kind};
 use std::alloc::Global;
-use std::marker::Brand;
-use std::sync::ledger::{Blank, Ledger};
 use union_base::memory::Memory;
 
-/// A catalogue at a desk. Its entries are the catalogue's history, and its setting is the table of names. A change is a prepared
-/// batch, which contracts see as the batch.
+/// A catalogue at a desk, standing or gathered. Its entries are the catalogue's history, and its setting is the table of names.
 #[derive(Drop)]
 pub struct Served {
-    pub catalogue: Catalogue,
-    pub ghost few: { length catalogue.history < 2 ^ 63 },
+    pub engine: Engine,
+    pub ghost few: { length engine.history < 2 ^ 63 },
 }
 
 impl Served {
-    /// A catalogue without history, by these names, to open a desk with. Returns `Memory` if allocation fails.
-    pub fn open(alloc: Global, names: NameTable) -> Result<Served, Memory>
-        ensures { IfOk result (λ served. served.catalogue ≡ by_names names) }
+    /// A gathered catalogue without history, by these names, to open a desk with where nothing will be asked. Takes no memory.
+    pub fn gathered(alloc: Global, names: NameTable) -> Served
+        ensures { result.engine ≡ by_names names }
     {
-        let catalogue = Catalogue::with_names(alloc, names)?;
-        Ok(Served { catalogue })
+        Served {
+            engine: Engine::gathered(alloc, names),
+        }
     }
 
-    /// The same, where the catalogue keeps its works, so that questions on works need not make them. Returns `Memory` if
-    /// allocation fails.
+    /// A standing catalogue without history, by these names, which keeps its works, so that questions on works need not make them.
+    /// Returns `Memory` if allocation fails.
     pub fn keeping_works(alloc: Global, names: NameTable) -> Result<Served, Memory>
-        ensures { IfOk result (λ served. served.catalogue ≡ by_names names) }
+        ensures { IfOk result (λ served. served.engine ≡ by_names names) }
     {
         let mut catalogue = Catalogue::with_names(alloc, names)?;
         catalogue.keep_works(alloc)?;
-        Ok(Served { catalogue })
+        Ok(Served {
+            engine: Engine::standing(catalogue),
+        })
     }
 }
 
-/// Applies a prepared batch, with the match tests counted in a ledger of their own.
-fn apply_by<L: Ledger>(
+/// Applies a change, and tells that the history stays short.
+fn apply_within(
     alloc: Global,
-    catalogue: &mut Catalogue,
+    engine: &mut Engine,
     number: u32,
-    prepared: Prepared,
-    blank: Blank,
+    change: Change,
 ) -> Result<Vec<Outcome>, Memory>
-    requires name { blank.name ≡ L.name }
-    requires parts { blank.parts ≡ L.parts }
-    requires some { 0 < L.parts }
-    requires few { length catalogue.old.history < 2 ^ 63 }
-    ensures names { catalogue.new.names ≡ catalogue.old.names }
-    ensures appended { OnOk result (catalogue.new.history ≡ catalogue.old.history
-        ++ record { pass = number; batch = prepared } ∷ []) }
+    requires few { length engine.old.history < 2 ^ 63 }
+    ensures names { engine.new.names ≡ engine.old.names }
+    ensures appended { OnOk result (engine.new.history ≡ engine.old.history
+        ++ record { pass = number; batch = change } ∷ []) }
     ensures outcomes { IfOk result (λ found. found.items
-        ≡ outcomes prepared.library (current catalogue.old.history) prepared.ops) }
-    ensures kept { OnErr result (catalogue.new ≡ catalogue.old) }
-    ensures few { length catalogue.new.history < 2 ^ 63 }
+        ≡ outcomes change.library (current engine.old.history) change.ops) }
+    ensures kept { OnErr result (engine.new ≡ engine.old) }
+    ensures few { length engine.new.history < 2 ^ 63 }
 {
-    let mut steps: Steps<L> = Steps::open(blank);
-    let found = catalogue.apply_prepared(alloc, number, prepared, &mut steps)?;
-    let _turns = catalogue.turns();
+    let found = engine.apply(alloc, number, change)?;
+    let _turns = engine.turns();
     Ok(found)
+}
+
+/// The answer to a query. A gathered catalogue is made a standing one for it, since it is resolved only once: ask a standing one where
+/// more than one question is to be asked.
+fn answer_of(alloc: Global, engine: &Engine, query: &Query) -> Result<Answer, Memory>
+    ensures { IfOk result (λ found. (all : List EditionModel)
+        × AreEditionsOf engine.now.history all
+        × (found.lines ≡ answer_lines engine.now.names query.now (current engine.now.history) all)) }
+{
+    match engine.kind() {
+        Kind::Standing(catalogue) => answer(alloc, catalogue, query),
+        Kind::Gathered(gathered) => {
+            let catalogue = gathered.standing(alloc)?;
+            answer(alloc, &catalogue, query)
+        }
+    }
 }
 
 impl Machine for Served {
     type Setting = NameTable;
 
-    type Change = Prepared;
+    type Change = Change;
 
     type Question = Query;
 
@@ -87,9 +100,9 @@ impl Machine for Served {
 
     type Answer = Answer;
 
-    ghost setting = { λ m. m.catalogue.names };
+    ghost setting = { λ m. m.engine.names };
 
-    ghost entries = { λ m. entries_of m.catalogue.history };
+    ghost entries = { λ m. entries_of m.engine.history };
 
     ghost spare = { empty };
 
@@ -97,22 +110,22 @@ impl Machine for Served {
 
     ghost answers = { λ setting entries query told. tells setting entries query told };
 
-    ghost bounded = { λ m. subst (λ n. n < 2 ^ 63) (sym (length-map m.catalogue.history _)) m.few };
+    ghost bounded = { λ m. subst (λ n. n < 2 ^ 63) (sym (length-map m.engine.history _)) m.few };
 
     fn apply(
         &mut self,
         alloc: Global,
         number: u32,
-        prepared: Prepared,
+        change: Change,
     ) -> Result<Vec<Outcome>, Memory> {
-        apply_by::<Brand>(alloc, &mut self.catalogue, number, prepared, Blank::new(1))
+        apply_within(alloc, &mut self.engine, number, change)
     }
 
     fn ask(&self, alloc: Global, query: &Query) -> Result<Answer, Memory> {
-        answer(alloc, &self.catalogue, query)
+        answer_of(alloc, &self.engine, query)
     }
 
     fn turns(&self) -> u64 {
-        self.catalogue.turns()
+        self.engine.turns()
     }
 }

@@ -8,7 +8,7 @@ ghost use Rattle.load_sessions.specs.Turning.{Turns};
 use crate::ahead::{stop_of, turn_and_read};
 use crate::crew::Crew;
 use crate::due::{Due, Turning};
-use crate::reading::read_prepared;
+use crate::reading::read_change;
 use crate::session::Session;
 use library_batches::batch_reader::BatchReader;
 use library_batches::outcome_counts::OutcomeCounts;
@@ -39,9 +39,9 @@ pub(crate) fn turn_batches<R: Threads + Wait + Sync, S: Source + Send, G: Gate>(
         session.new reader.new counts.new result }
 {
     let mut turn: u64 = 0;
-    let mut next = read_prepared(turning.rt, turning.alloc, reader, &mut session.source, crew);
-    while let Some(prepared) = next? {
-        let due = Due { turn, prepared };
+    let mut next = read_change(turning.rt, turning.alloc, reader, &mut session.source, crew);
+    while let Some(change) = next? {
+        let due = Due { turn, change };
         let (turned, coming) = turn_and_read(turning, session, due, reader, crew);
         match turned {
             Ok(outcomes) => counts.count(outcomes.as_slice()),

@@ -66,6 +66,7 @@ fn crew_of(workers: u32) -> Crew
     Crew {
         workers,
         hashing: Hashing::fixed(),
+        prepares: true,
     }
 }
 
@@ -100,7 +101,7 @@ fn are_loaded<R: Threads + Wait + Sync>(
     requires most { crew.workers ≤ 64 }
 {
     let names = NameTable::empty(alloc, Hashing::fixed());
-    let (desk, mut root) = Desk::open(alloc, Served::open(alloc, names)?)?;
+    let (desk, mut root) = Desk::open(alloc, Served::keeping_works(alloc, names)?)?;
     let first = session_at(alloc, &desk, &mut root, libraries.0, STREAM, 1_000)?;
     let second = session_at(alloc, &desk, &mut root, libraries.1, STREAM, 1_000)?;
     let pass = desk.make_pass(&mut root);
@@ -142,7 +143,7 @@ fn run_alone<R: Threads + Wait + Sync>(
     requires few { workers ≤ 64 }
 {
     let names = NameTable::empty(alloc, Hashing::fixed());
-    let (desk, mut root) = Desk::open(alloc, Served::open(alloc, names)?)?;
+    let (desk, mut root) = Desk::open(alloc, Served::keeping_works(alloc, names)?)?;
     let session = session_at(alloc, &desk, &mut root, library, content, limit)?;
     let mut asker = silent_asker(alloc, &desk, &mut root);
     let mut sessions = [session];
@@ -255,7 +256,7 @@ fn told<R: Threads + Wait + Sync>(
         content.extend_from_slice(ONE)?;
     }
     let names = NameTable::empty(alloc, Hashing::fixed());
-    let (desk, mut root) = Desk::open(alloc, Served::open(alloc, names)?)?;
+    let (desk, mut root) = Desk::open(alloc, Served::keeping_works(alloc, names)?)?;
     let session = session_at(
         alloc,
         &desk,

@@ -128,7 +128,7 @@ fn run<R: Threads + Wait + Sync>(
 }
 
 #[test]
-fn a_view_during_a_held_publish_is_over_the_old_list(rt: HostRuntime) -> Result<(), Fail> {
+fn a_view_sees_what_is_published_and_not_what_is_pending(rt: HostRuntime) -> Result<(), Fail> {
     let alloc = rt.alloc();
     let first = entry_of(alloc, b"LIBA")?;
     let more = entry_of(alloc, b"LIBB")?;

@@ -13,7 +13,7 @@ use Rattle.marc_fields.specs.Spelling.{Spells}
 use Rattle.marc_parts.specs.declared.marc_record.Record.{Record}
 use Rattle.marc_fields.specs.declared.rules.Failure.{Failure}
 use Rattle.marc_fields.specs.declared.rules.Rule.TheVariants.{Truncated, TooLong}
-use Rattle.library_batches.specs.Reports.{rule_name}
+use Rattle.marc_fields.specs.RuleNames.{rule_name}
 use Rattle.names_file.specs.declared.fault.NameFault.{NameFault}
 use Rattle.names_file.specs.declared.fault.NameFault.TheVariants.{Rule, Kind, Coding, NotUtf8, Heading}
 

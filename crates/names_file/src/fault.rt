@@ -2,7 +2,6 @@
 ghost use Rattle.std.specs.Prelude.{◌≡◌};
 ghost use Rattle.names_file.specs.Judging.{fault_name, fault_place};
 
-use library_batches::report_lines::rule_name;
 use marc_fields::rules::Rule;
 
 /// Why a frame of a file of names is refused.
@@ -27,7 +26,7 @@ impl NameFault {
         ensures { result.now ≡ fault_name self }
     {
         match self {
-            NameFault::Rule { rule, place: _ } => rule_name(rule),
+            NameFault::Rule { rule, place: _ } => rule.name(),
             NameFault::Kind => b"Kind",
             NameFault::Coding => b"Coding",
             NameFault::NotUtf8 => b"NotUtf8",

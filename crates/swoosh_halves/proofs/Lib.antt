@@ -1,4 +1,2 @@
-mod Linking
-mod Grouping
 mod Joining
 mod Pairing

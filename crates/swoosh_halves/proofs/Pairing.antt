@@ -1,16 +1,16 @@
 -- Values in two rows of which no two match, and what one value more makes of them.
-use Rattle.std.proofs.Common.{◌≡◌, ℕ, ◌+◌, ◌≤◌, Bool, true, false, IsTrue, List, [], ◌∷◌, ◌++◌, Option, None, length, get_or, append_assoc, refl, sym, ◌∙◌, ap, subst, inl, inr, arith}
+use Rattle.std.proofs.Common.{◌≡◌, ℕ, ◌+◌, ◌≤◌, Bool, true, false, cond, IsTrue, List, [], ◌∷◌, ◌++◌, Option, None, length, get_or, append_assoc, refl, sym, ◌∙◌, ap, subst, inl, inr, arith}
 use Rattle.std.specs.Prelude.{◌⊎◌, All, Contains, count_by, sum_by}
 use Rattle.std.specs.List.Sorted.{IsPermutation}
 use Rattle.std.proofs.lemmas.List.{get_or_append_left, get_or_at, length-append, map-append}
 use Rattle.std.proofs.lemmas.List.Elements.{All-append, All-contains, Contains-append_left, Contains-append_right, Contains-append_cases, Contains-push_cases}
 use Rattle.std.proofs.lemmas.List.Sorted.{IsPermutation-sym, IsPermutation-trans, IsPermutation-map, IsPermutation-middle, IsPermutation-to_front, IsPermutation-append_left, IsPermutation-append_right, Contains-permutation}
 use Rattle.std.proofs.lemmas.List.Sums.{sum_by-append, sum_by-cons, sum_by_push}
-use Rattle.merge_laws.specs.Reach.{near}
-use Rattle.merge_laws.specs.Resolution.{JoinLaws, MatchLaws, IsResolution, member, DoNotMatch, AreApart}
+use Rattle.merge_laws.specs.Reach.{near, reach}
+use Rattle.merge_laws.specs.Resolution.{JoinLaws, MatchLaws, IsDominated, IsResolution, DoNotMatch, AreApart}
+use Rattle.merge_laws.proofs.InsertingAll.{resolved-itself, resolved-merged, joined-within}
 use Rattle.merge_laws.proofs.Places.{Contains-head, Contains-tail, AllPairs-permutation, AllPairs-rest}
-use Rattle.merge_laws.proofs.Resolutions.{IsDominated-refl, IsResolution-from_apart, IsResolution-through}
-use Rattle.merge_laws.proofs.Resolving.{IsResolving, resolving_inserted, resolving_joined, resolving_kept, IsResolution-from_resolving}
+use Rattle.merge_laws.proofs.Resolving.{resolving_inserted, resolving_kept, IsResolution-from_resolving}
 use Rattle.swoosh_resolver.specs.Tables.{AreFree, Base, Entry, values_of}
 use Rattle.swoosh_resolver.specs.Insertions.{MergesMatch}
 use Rattle.swoosh_resolver.proofs.Views.{count-map}
@@ -84,7 +84,7 @@ module _ {R K : Type 0} where
 module _ {A : Type 0} {match : A → A → Bool} {merge : A → A → A} (join : JoinLaws merge) (laws : MatchLaws match merge) where
   -- values of which no two match are their own resolution
   pub resolved_itself : (list : List A) → AreApart match list → IsResolution match merge list list
-  resolved_itself list apart = IsResolution-from_apart join laws list list (λ e c. member c) (λ x c. (x, c, IsDominated-refl join laws x)) apart
+  resolved_itself = resolved-itself join laws
 
   -- so are they with one more that matches none
   pub resolved_kept : (list : List A) (value : A) → AreApart match list → All (λ w. match value w ≡ false) list → IsResolution match merge (list ++ value ∷ []) (list ++ value ∷ [])
@@ -92,25 +92,20 @@ module _ {A : Type 0} {match : A → A → Bool} {merge : A → A → A} (join :
       IsResolution-from_resolving join laws (list ++ value ∷ []) (list ++ value ∷ [])
       (resolving_kept join laws (list ++ value ∷ []) [] list value (resolving_inserted join laws list value apart) none)
 
-  -- what resolves all that is done and left resolves the list
-  resolved_on : (list left done all : List A) → IsResolving match merge list left done → IsResolution match merge (done ++ left) all → IsResolution match merge list all
-  resolved_on list left done all s r =
-      IsResolution-through join laws list (done ++ left) all
-      (λ y c. elim (Contains-append_cases done left y c) [ inl d ↦ s.done_derives y d | inr l ↦ s.left_derives y l ])
-      (λ x c. elim (s.covered x c) [
-        | inl (y, cy, dy) ↦ (y, Contains-append_right done left y cy, dy)
-        | inr (y, cy, dy) ↦ (y, Contains-append_left done left y cy, dy)
-      ])
-      r
-
   -- what resolves the merge of a value and a member, and the other members, resolves all of them and the value
   pub resolved_merged : {K : Type 0} (row row' : List (Entry A K)) (value merged : A) (all : List A) → AreApart match (values_of row) → MergesMatch match merge row value row' merged → IsResolution match merge (values_of row' ++ merged ∷ []) all → IsResolution match merge (values_of row ++ value ∷ []) all
-  resolved_merged {K} row row' value merged all apart m r =
-      let list = values_of row ++ value ∷ [] in
-      resolved_on list (merge m.by.value value ∷ []) (values_of row') all
-      (resolving_joined join laws list [] (values_of row) value m.by.value (values_of row') (resolving_inserted join laws (values_of row) value apart)
-      (IsPermutation-map (λ (e : Entry A K). e.value) row (m.by ∷ row') m.taken) m.matches)
+  resolved_merged row row' value merged all apart m r =
+      resolved-merged join laws (values_of row) value m.by.value (values_of row') all apart (taken_values row row' value merged m) m.matches
       (subst (λ w. IsResolution match merge (values_of row' ++ w ∷ []) all) m.is r)
+
+  -- a look that finds a match, and then the insertion of the merge into the others, are within the reach of the insertion
+  module _ {is_near : A → A → Bool} (grows : (w x y : A) → IsTrue (is_near w x) → IsTrue (is_near w (merge x y))) where
+    pub merged_within : {K : Type 0} (row row' : List (Entry A K)) (value merged : A) (start now then' : ℕ) → AreApart match (values_of row) → MergesMatch match merge row value row' merged → now ≤ start + near is_near (values_of row) value
+        → ((all : List A) (x : A) → IsResolution match merge (values_of row' ++ merged ∷ []) all → Contains all x → IsDominated match merge merged x → then' ≤ now + reach match is_near (values_of row') x)
+        → (all : List A) (x : A) → IsResolution match merge (values_of row ++ value ∷ []) all → Contains all x → IsDominated match merge value x → then' ≤ start + reach match is_near (values_of row) x
+    merged_within row row' value merged start now then' apart m looked paid =
+        joined-within join laws grows (values_of row) (values_of row') value m.by.value start now then' apart (taken_values row row' value merged m) m.matches looked
+        (subst (λ w. (all : List A) (x : A) → IsResolution match merge (values_of row' ++ w ∷ []) all → Contains all x → IsDominated match merge w x → then' ≤ now + reach match is_near (values_of row') x) m.is paid)
 
 -- a test that does not pass fails
 fails : (b : Bool) → (IsTrue b → ⊥) → b ≡ false
@@ -151,10 +146,21 @@ free_second {R} {K} met apart e free none f c = elim (Contains-append_cases met 
   ]
 ]
 
+-- the tests of a value among the entries of both rows are those among their values, and those of the first row are among them
+near_both : {R K : Type 0} (is_near : R → R → Bool) (met apart : List (Entry R K)) (value : R) → near is_near (values_of (met ++ apart)) value ≡ count_by (λ e. is_near e.value value) met + count_by (λ e. is_near e.value value) apart
+near_both {R} {K} is_near met apart value = count-map (λ w. is_near w value) (met ++ apart) ∙ sum_by-append (λ (e : Entry R K). cond (is_near e.value value) 1 0) met apart
+
+pub paid_first : {R K : Type 0} (is_near : R → R → Bool) (met apart : List (Entry R K)) (value : R) (start now : ℕ) → now ≤ start + count_by (λ e. is_near e.value value) met → now ≤ start + near is_near (values_of (met ++ apart)) value
+paid_first is_near met apart value start now paid = rw (near_both is_near met apart value) (omega arith)
+
+pub paid_both : {R K : Type 0} (is_near : R → R → Bool) (met apart : List (Entry R K)) (value : R) (start now then' : ℕ) → now ≤ start + count_by (λ e. is_near e.value value) met → then' ≤ now + count_by (λ e. is_near e.value value) apart
+    → then' ≤ start + near is_near (values_of (met ++ apart)) value
+paid_both is_near met apart value start now then' paid more = rw (near_both is_near met apart value) (omega arith)
+
 -- the tests of a value, counted over a row, are those over the list that the row has the values of
-pub paid_near : {R K : Type 0} (shares : R → R → Bool) (met : List (Entry R K)) (list : List R) (value : R) (now then' : ℕ) → values_of met ≡ list → then' ≤ now + count_by (λ e. shares e.value value) met → then' ≤ now + near shares list value
-paid_near shares met list value now then' is paid =
-    subst (λ n. then' ≤ now + n) (sym (count-map (λ w. shares w value) met) ∙ ap (λ values. near shares values value) is) paid
+pub paid_near : {R K : Type 0} (is_near : R → R → Bool) (met : List (Entry R K)) (list : List R) (value : R) (now then' : ℕ) → values_of met ≡ list → then' ≤ now + count_by (λ e. is_near e.value value) met → then' ≤ now + near is_near list value
+paid_near is_near met list value now then' is paid =
+    subst (λ n. then' ≤ now + n) (sym (count-map (λ w. is_near w value) met) ∙ ap (λ values. near is_near values value) is) paid
 
 -- what each value so far may cost, with one value more
 pub spent_more : {A : Type 0} (f : A → ℕ) (front : List A) (value : A) (start now then' : ℕ) → now ≤ start + sum_by f front → then' ≤ now + f value → then' ≤ start + sum_by f (front ++ value ∷ [])

@@ -2,12 +2,14 @@
 //!
 //! Guarantee: the answer is the resolution of the values of both lists. Cost: a value of the second list is tested only against
 //! values of the first list, and against merges, that are posted under a key which it seeks: it is known to match no value of its own
-//! list. A merge may match any value, and is tested against those of both lists that are posted under a key which it seeks. Where no
-//! two values match, the tests are at most the pairs, one value of each list, that share a key. Values are moved and never copied.
-ghost use Rattle.std.specs.Prelude.{◌≡◌, ◌≤◌, ◌+◌, ◌++◌, ◌∷◌, [], None, false};
-ghost use Rattle.std.specs.Prelude.{IfOk, IfSome, IfNone, OnOk, All, Contains, count_by, sum_by};
-ghost use Rattle.merge_laws.specs.Resolution.{AreApart, IsResolution};
-ghost use Rattle.merge_laws.specs.Reach.{near};
+//! list. A merge may match any value, and is tested against those of both lists that are posted under a key which it seeks. The tests
+//! are at most the reach of inserting the values of the second list into the first (specs/Reaches.antt of merge_laws); and where no two
+//! values match, at most the pairs, one value of each list, of which the second finds the first. Values are moved and never copied.
+ghost use Rattle.std.specs.Prelude.{◌≡◌, ◌≤◌, ◌+◌, ◌++◌, ◌∷◌, ℕ, [], None, false};
+ghost use Rattle.std.specs.Prelude.{IfOk, IfSome, IfNone, List, OnOk, All, Contains, count_by, sum_by};
+ghost use Rattle.merge_laws.specs.Resolution.{AreApart, IsDominated, IsResolution};
+ghost use Rattle.merge_laws.specs.Reach.{near, reach};
+ghost use Rattle.merge_laws.specs.Reaches.{IsReachOfInsertions};
 ghost use Rattle.swoosh_resolver.specs.Tables.{AreFree, values_of};
 ghost use Rattle.swoosh_resolver.specs.Insertions.{MergesMatch};
 
@@ -77,6 +79,8 @@ impl<R: Resolvable> Both<R> {
             × (self.new.apart.items ≡ self.old.apart.items)
             × All (λ w. R.meets value.now.value w ≡ false)
             (values_of (self.old.met.items ++ self.old.apart.items)))) }
+        ensures cost { steps.new ≤ steps.old + near R.is_found
+            (values_of (self.old.met.items ++ self.old.apart.items)) value.now.value }
     {
         match self.met.merge_match(alloc, value, steps)? {
             Some(merged) => Ok(Some(merged)),
@@ -100,6 +104,11 @@ impl<R: Resolvable> Both<R> {
             (values_of (new.met.items ++ new.apart.items))) }
         ensures apart { IfOk result (λ new. (x : R) → Contains (values_of new.apart.items) x
             → Contains (values_of self.apart.items) x) }
+        ensures cost { (all : List R) (x : R) → IsResolution R.meets R.join
+            (values_of (self.met.items ++ self.apart.items) ++ merge ∷ []) all
+            → Contains all x → IsDominated R.meets R.join merge x
+            → steps.new ≤ steps.old + reach R.meets R.is_found
+            (values_of (self.met.items ++ self.apart.items)) x }
     {
         let mut both = self;
         let mut value = Seeker::of(alloc, merge)?;
@@ -130,8 +139,13 @@ impl<R: Resolvable> Both<R> {
             → Contains (values_of self.apart.items ++ value ∷ []) x) }
         ensures met { IfOk result (λ new. All (λ w. R.meets value w ≡ false)
             (values_of self.met.items) → new.met.items ≡ self.met.items) }
-        ensures cost { All (λ w. R.meets value w ≡ false) (values_of self.met.items)
-            → steps.new ≤ steps.old + count_by (λ e. R.shares e.value value) self.met.items }
+        ensures untested { All (λ w. R.meets value w ≡ false) (values_of self.met.items)
+            → steps.new ≤ steps.old + count_by (λ e. R.is_found e.value value) self.met.items }
+        ensures cost { (all : List R) (x : R) → IsResolution R.meets R.join
+            (values_of (self.met.items ++ self.apart.items) ++ value ∷ []) all
+            → Contains all x → IsDominated R.meets R.join value x
+            → steps.new ≤ steps.old + reach R.meets R.is_found
+            (values_of (self.met.items ++ self.apart.items)) x }
     {
         let mut both = self;
         let seeker = Seeker::of(alloc, value)?;
@@ -158,9 +172,10 @@ impl<R: Resolvable> Both<R> {
 }
 
 /// The resolution of two lists, of each of which no two values match, in an order that is not fixed. Values of one list are tested
-/// against one another only once one of them is merged with a value of the other. Where no value of one list matches one of the
-/// other, the tests are at most the pairs, one value of each list, that share a key, also where it answers Memory. Keys are hashed by
-/// these numbers. Returns `Memory` if allocation fails.
+/// against one another only once one of them is merged with a value of the other. The tests are at most the reach of inserting the
+/// values of the second list into the first, one after the other; and where no value of one list matches one of the other, at most the
+/// pairs, one value of each list, of which the second finds the first: both also where it answers Memory. Keys are hashed by these
+/// numbers. Returns `Memory` if allocation fails.
 pub fn resolve_both<R: Resolvable, L: Ledger>(
     hashing: Hashing,
     one: Vec<R>,
@@ -171,9 +186,12 @@ pub fn resolve_both<R: Resolvable, L: Ledger>(
     requires other { AreApart R.meets other.items }
     ensures resolved { IfOk result (λ all. IsResolution R.meets R.join
         (one.items ++ other.items) all.items) }
-    ensures cost { ((x y : R) → Contains one.items x → Contains other.items y
+    ensures cost { (number : ℕ)
+        → IsReachOfInsertions R.meets R.join R.is_found one.items other.items number
+        → steps.new ≤ steps.old + number }
+    ensures untested { ((x y : R) → Contains one.items x → Contains other.items y
         → R.meets y x ≡ false)
-        → steps.new ≤ steps.old + sum_by (λ y. near R.shares one.items y) other.items }
+        → steps.new ≤ steps.old + sum_by (λ y. near R.is_found one.items y) other.items }
 {
     let alloc = *one.allocator();
     let mut both = Both::of(alloc, hashing, one)?;

@@ -10,6 +10,7 @@ use Rattle.std.specs.Map.{remove_entry, keys_of, values_of}
 use Rattle.union_base.specs.declared.record_id.RecordId.{RecordId}
 use Rattle.field_merge.specs.Kept.{id_cmp}
 use Rattle.merge_laws.specs.Resolution.{IsResolution}
+use Rattle.merge_laws.proofs.InsertingAll.{resolved-by_members}
 use Rattle.merge_laws.proofs.Resolutions.{IsResolution-append}
 use Rattle.swoosh_resolver.specs.Changes.{Fits, view_of}
 use Rattle.turn_plans.specs.Histories.{MapOf, at_id, id_of, is_current, after_op, after_batch, outcome_of, outcomes}
@@ -34,7 +35,6 @@ use Rattle.catalogue_editions.specs.declared.outcome.Outcome.TheVariants.{Added,
 use Rattle.record_homes.specs.declared.place.Place.{Place}
 use Rattle.record_homes.proofs.HomeLaws.{none-from_test, removed-absent}
 use Rattle.record_homes.proofs.MapLaws.{same, one-id, at-inserted, at-removed, ordered-inserted, ordered-removed, id-of_value, value-of_id}
-use Rattle.turn_plans.proofs.PlanLaws.{resolved-by_members}
 
 pub plan-unnamed : {all : List Batch} {homes : MapOf Home} {blocks : List (Option Block)} {now : MapOf Edition} {closed : List ℕ} {opened : List Block} {touched : MapOf (Option Place)}
     (p : IsPlanned all homes blocks now closed opened touched) (id : RecordId) → is_current now id ≡ false
@@ -249,6 +249,6 @@ module _ (start : MapOf Edition) (batch : Batch) (up : IsStrictlySortedBy id_cmp
     single = t.single;
     touches = t.touches;
     fits = fits;
-    resolved = resolved-by_members (values_of (after_batch start batch)) (values_of rest ++ net batch) (view_of blocks closed' opened') there back
+    resolved = resolved-by_members edition_join_laws edition_match_laws (values_of (after_batch start batch)) (values_of rest ++ net batch) (view_of blocks closed' opened') there back
         (IsResolution-append edition_join_laws edition_match_laws (values_of rest) (net batch) (view_of blocks closed opened) parts (view_of blocks closed' opened') p.resolved own r);
   }

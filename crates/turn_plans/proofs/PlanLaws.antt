@@ -1,6 +1,6 @@
 -- What the steps of a plan keep: a record is withdrawn from it, or an edition is inserted into it.
 use Rattle.std.proofs.Common.{◌≡◌, ℕ, ◌+◌, ◌*◌, ◌≤◌, Bool, true, false, cond, ◌||◌, IsTrue, List, [], ◌∷◌, ◌++◌, length, Contains, refl, sym, ap, subst, ◌∙◌, inl, inr, arith}
-use Rattle.std.specs.Prelude.{◌↔◌, Option, Some, None, is_some, unwrap_or, filter_map, count_by}
+use Rattle.std.specs.Prelude.{◌↔◌, Option, Some, None, is_some, unwrap_or, filter_map}
 use Rattle.std.specs.Option.{option_map, option_and_then, option_flatten}
 use Rattle.std.specs.List.{list_any, cons_option}
 use Rattle.std.specs.List.Sorted.{IsPermutation, IsStrictlySortedBy}
@@ -8,15 +8,16 @@ use Rattle.std.specs.BTreeMap.{insert_entry}
 use Rattle.std.specs.Map.{remove_entry, keys_of, values_of}
 use Rattle.std.proofs.lemmas.Nat.{mul-le}
 use Rattle.std.proofs.lemmas.List.Elements.{Contains-append_left, Contains-append_right, Contains-append_cases}
-use Rattle.std.proofs.lemmas.List.Sorted.{IsPermutation-refl, IsPermutation-trans, IsPermutation-sym, IsPermutation-cons, IsPermutation-middle, Contains-permutation, sum_by-IsPermutation}
+use Rattle.std.proofs.lemmas.List.Sorted.{IsPermutation-refl, IsPermutation-trans, IsPermutation-sym, IsPermutation-cons, IsPermutation-middle, Contains-permutation}
 use Rattle.union_base.specs.SortedLists.{has}
 use Rattle.union_base.specs.declared.record_id.RecordId.{RecordId}
 use Rattle.union_base.specs.IdLaws.{ids_apart}
-use Rattle.merge_laws.specs.Reach.{near, reach}
-use Rattle.merge_laws.specs.Resolution.{Derives, member, IsDominated, IsResolution, AreApart}
+use Rattle.merge_laws.specs.Reach.{reach}
+use Rattle.merge_laws.specs.Resolution.{Derives, IsDominated, IsResolution, AreApart}
 use Rattle.merge_laws.specs.Withdrawal.{IsWithdrawn}
+use Rattle.merge_laws.proofs.InsertingAll.{insertion-paid as insertion-within, resolved-by_members}
 use Rattle.merge_laws.proofs.Places.{Contains-head}
-use Rattle.merge_laws.proofs.Resolutions.{IsDominated-refl, apart-from_resolution, IsPermutation-from_resolutions, IsResolution-permutation, IsResolution-through, IsResolution-push}
+use Rattle.merge_laws.proofs.Resolutions.{apart-from_resolution, IsPermutation-from_resolutions, IsResolution-permutation, IsResolution-push}
 use Rattle.merge_laws.proofs.Tags.{tag-from_dominated, dominated-from_tag, same-from_tag}
 use Rattle.merge_laws.proofs.Withdrawing.{IsResolution-withdrawn}
 use Rattle.match_features.proofs.MemberLaws.{member-from_has, has-from_member}
@@ -33,7 +34,7 @@ use Rattle.catalogue_editions.specs.Ids.{least}
 use Rattle.catalogue_editions.specs.Joining.{join}
 use Rattle.catalogue_editions.specs.JoinLaws.{edition_join_laws}
 use Rattle.turn_plans.specs.Keeping.{loaded_at}
-use Rattle.catalogue_editions.specs.Matching.{match, share}
+use Rattle.catalogue_editions.specs.Matching.{match, is_found}
 use Rattle.catalogue_editions.specs.MatchLaws.{edition_match_laws}
 use Rattle.turn_plans.specs.Plans.{AreSingle, IsPlanned, IsLeft, base_beside}
 use Rattle.turn_plans.specs.Reaches.{IsReachOfInsertion, IsReachOfWithdrawal, IsReachOfReplacement, IsReachOfOp}
@@ -96,11 +97,6 @@ values-removed (p ∷ all) id b at =
           (IsPermutation-cons p.1 (values_of all) (b ∷ rest) (values-removed all id b h))
           (IsPermutation-middle (p.1 ∷ []) b rest))
     ] at
-
--- a list that has the same members has the same resolutions
-pub resolved-by_members : (I J E : List Edition) → ((x : Edition) → Contains I x → Contains J x) → ((x : Edition) → Contains J x → Contains I x) → IsResolution match join J E → IsResolution match join I E
-resolved-by_members I J E there back r =
-    IsResolution-through edition_join_laws edition_match_laws I J E (λ y c. member (back y c)) (λ x c. (x, there x c, IsDominated-refl edition_join_laws edition_match_laws x)) r
 
 -- what is found at a place that stands for an edition
 pub base-found : (all : List Batch) (place : Option Place) (o : Option Edition) → option_map (loaded_at all) place ≡ option_map Some o → option_and_then (loaded_at all) place ≡ o
@@ -281,7 +277,7 @@ module _ {all : List Batch} {homes : MapOf Home} {blocks : List (Option Block)} 
         single = single-insert now id e p.single own;
         touches = subst (λ (all : MapOf (Option Place)). IsStrictlySortedBy id_cmp (keys_of all)) (sym inserted) (ordered-inserted touched key (Some place) p.touches);
         fits = fits;
-        resolved = resolved-by_members (values_of (insert_entry id_cmp now id e)) (values_of now ++ e ∷ []) (view_of blocks closed' opened')
+        resolved = resolved-by_members edition_join_laws edition_match_laws (values_of (insert_entry id_cmp now id e)) (values_of now ++ e ∷ []) (view_of blocks closed' opened')
             (λ x c. elim (grown.only x c) [
               | inl old ↦ Contains-append_left (values_of now) (e ∷ []) x old
               | inr mine ↦ Contains-append_right (values_of now) (e ∷ []) x mine
@@ -293,25 +289,9 @@ module _ {all : List Batch} {homes : MapOf Home} {blocks : List (Option Block)} 
   -- what the insertion costs, for whichever resolution is meant
   pub insert-paid : (e : Edition) (number start now' : ℕ)
       → ((whole : List Edition) (x : Edition) → IsResolution match join (view_of blocks closed opened ++ e ∷ []) whole → Contains whole x → IsDominated match join e x
-      → now' ≤ start + reach match share (view_of blocks closed opened) x)
+      → now' ≤ start + reach match is_found (view_of blocks closed opened) x)
       → IsReachOfInsertion (values_of now) e number → now' ≤ start + number
-  insert-paid e number start now' paid r =
-      let view = view_of blocks closed opened in
-      let order : IsPermutation view r.before = IsPermutation-from_resolutions edition_join_laws edition_match_laws (values_of now) view r.before p.resolved r.resolved in
-      let back : IsPermutation r.before view = IsPermutation-sym view r.before order in
-      let whole : IsResolution match join (view ++ e ∷ []) r.after =
-      resolved-by_members (view ++ e ∷ []) (r.before ++ e ∷ []) r.after (moved-member view r.before order) (moved-member r.before view back) r.grown in
-      let most = paid r.after r.by whole r.stands r.dominates in
-      let matched : count_by (λ w. match w r.by) r.before ≡ count_by (λ w. match w r.by) view = sum_by-IsPermutation (λ w. cond (match w r.by) 1 0) view r.before order in
-      let shared : near share r.before r.by ≡ near share view r.by = sum_by-IsPermutation (λ w. cond (share w r.by) 1 0) view r.before order in
-      let is : number ≡ reach match share view r.by = r.is ∙ ap (λ a. (a + 1) * near share r.before r.by) matched ∙ ap (λ a. (count_by (λ w. match w r.by) view + 1) * a) shared in
-      subst (λ n. now' ≤ start + n) (sym is) most
-    where
-      moved-member : (xs ys : List Edition) → IsPermutation xs ys → (x : Edition) → Contains (xs ++ e ∷ []) x → Contains (ys ++ e ∷ []) x
-      moved-member xs ys order x c = elim (Contains-append_cases xs (e ∷ []) x c) [
-        | inl old ↦ Contains-append_left ys (e ∷ []) x (Contains-permutation xs ys x order old)
-        | inr mine ↦ Contains-append_right ys (e ∷ []) x mine
-      ]
+  insert-paid e number start now' paid r = insertion-within edition_join_laws edition_match_laws (values_of now) (view_of blocks closed opened) e number start now' p.resolved paid r
 
   -- an id is current by the plan exactly where it has a place
   pub current-from_place : (id : RecordId) → is_some (place_of homes touched id) ≡ is_current now id

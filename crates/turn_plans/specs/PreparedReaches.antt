@@ -1,10 +1,13 @@
 -- How many match tests the turn of a prepared batch may take.
-use Rattle.std.specs.Prelude.{◌≡◌, ℕ, Bool, ◌+◌, ◌⊎◌, ◌++◌, true, false, List, [], ◌∷◌, fold}
+use Rattle.std.specs.Prelude.{◌≡◌, ℕ, Bool, ◌+◌, ◌⊎◌, true, false, List, [], ◌∷◌, fold}
 use Rattle.std.specs.BTreeMap.{is_at}
 use Rattle.std.specs.Map.{remove_entry, values_of}
 use Rattle.field_merge.specs.Kept.{id_cmp}
+use Rattle.merge_laws.specs.Reaches.{IsReachOfInsertions}
 use Rattle.turn_plans.specs.Histories.{MapOf, id_of, is_current}
-use Rattle.turn_plans.specs.Reaches.{IsReachOfWithdrawal, IsReachOfInsertion}
+use Rattle.turn_plans.specs.Reaches.{IsReachOfWithdrawal}
+use Rattle.catalogue_editions.specs.Joining.{join}
+use Rattle.catalogue_editions.specs.Matching.{match, is_found}
 use Rattle.catalogue_editions.specs.declared.edition.Edition.{Edition}
 use Rattle.catalogue_editions.specs.declared.op.Op.{Op}
 use Rattle.catalogue_editions.specs.declared.outcome.Outcome.{Outcome}
@@ -37,9 +40,7 @@ IsReachOfLeaving library all (op ∷ ops) number =
 
 -- the reach of the insertions of editions into what a list of editions resolves to, one after the other
 abbrev pub IsReachOfComing : List Edition → List Edition → ℕ → Type 0
-IsReachOfComing list [] number = number ≡ 0
-IsReachOfComing list (part ∷ parts) number =
-    (first : ℕ) × (rest : ℕ) × IsReachOfInsertion list part first × IsReachOfComing (list ++ part ∷ []) parts rest × (number ≡ first + rest)
+IsReachOfComing list parts number = IsReachOfInsertions match join is_found list parts number
 
 -- the reach of operations of the library whose loads come to these parts: first the records that the operations name are
 -- withdrawn, and then the parts are inserted

@@ -4,28 +4,21 @@ use Rattle.std.specs.BTreeMap.{is_at}
 use Rattle.std.specs.Map.{remove_entry, values_of}
 use Rattle.union_base.specs.declared.record_id.RecordId.{RecordId}
 use Rattle.field_merge.specs.Kept.{id_cmp}
-use Rattle.merge_laws.specs.Reach.{reach}
-use Rattle.merge_laws.specs.Resolution.{IsDominated, IsResolution}
+use Rattle.merge_laws.specs.Reaches.{IsReachOfInsertion as IsReachOfOne}
+use Rattle.merge_laws.specs.Resolution.{IsResolution}
 use Rattle.turn_plans.specs.Histories.{MapOf, id_of, is_current, after_op}
 use Rattle.turn_plans.specs.Homes.{has_contributor}
 use Rattle.catalogue_editions.specs.Ids.{least}
 use Rattle.catalogue_editions.specs.Joining.{join}
-use Rattle.catalogue_editions.specs.Matching.{match, share}
+use Rattle.catalogue_editions.specs.Matching.{match, is_found}
 use Rattle.catalogue_editions.specs.declared.edition.Edition.{Edition}
 use Rattle.catalogue_editions.specs.declared.op.Op.{Op}
 use Rattle.catalogue_editions.specs.declared.op.Op.TheVariants.{Load, Withdraw}
 
 -- the reach of the insertion of an edition into what a list of editions resolves to: one more than the editions that are merged
--- with it, times the editions that share an index key with what they come to
-pub record IsReachOfInsertion (list : List Edition) (e : Edition) (number : ℕ) : Type 0 where
-  pub before : List Edition
-  pub resolved : IsResolution match join list before
-  pub after : List Edition
-  pub grown : IsResolution match join (before ++ e ∷ []) after
-  pub by : Edition
-  pub stands : Contains after by
-  pub dominates : IsDominated match join e by
-  pub is : number ≡ reach match share before by
+-- with it, times the editions that an index finds for what they come to
+abbrev pub IsReachOfInsertion : List Edition → Edition → ℕ → Type 0
+IsReachOfInsertion list e number = IsReachOfOne match join is_found list e number
 
 -- the reach of the withdrawal of a record: the square of the number of contributors of the edition that it is one of
 pub record IsReachOfWithdrawal (list : List Edition) (id : RecordId) (number : ℕ) : Type 0 where

@@ -1,6 +1,6 @@
 //! The steps of a plan: a record is withdrawn from it, and the edition of one record is inserted into it.
 //!
-//! Cost: an insertion tests the editions that share a key with the one that comes; a withdrawal tests the other records of its
+//! Cost: an insertion tests the editions that an index finds for the one that comes; a withdrawal tests the other records of its
 //! edition against one another. Looking for the edition of a record goes through what the turn opened, where the turn closed
 //! the block that the record was in.
 ghost use Rattle.std.specs.Prelude.{◌≡◌, ◌≤◌, ◌<◌, ◌+◌, ◌∷◌, [], ℕ, true, false, None, Some, filter_map, slice_get, IfOk, IfSome, IfNone, option_copied};

@@ -1,24 +1,15 @@
 -- What comes of a file that was opened and read.
-use Rattle.std.proofs.Common.{◌≡◌, ℕ, List, [], ◌∷◌, length, inl, refl, subst, ◌∙◌, arith}
+use Rattle.std.proofs.Common.{◌≡◌, ℕ, List, length, inl, refl, subst, ◌∙◌, arith}
 use Rattle.std.specs.Prelude.{◌<◌, Option, Some, None, IfSome}
 use Rattle.union_io.specs.Files.{told_file}
 use Rattle.union_io.specs.Causes.{Rose}
 use Rattle.union_io.specs.Counts.{SameCounts, SameElsewhere}
-use Rattle.union_words.specs.Flows.{ShelfFlow, InputFile, FailsAt}
-use Rattle.union_words.specs.declared.status.Status.{Status}
-use Rattle.union_words.specs.declared.status.Status.TheVariants.{Done, DoneWithRefusals, Usage, OpenFault, ReadFault, WriteFault, TooLong, Memory}
-use Rattle.union_words.specs.declared.input.Input.{Input}
+pub use Rattle.union_words.proofs.StopLaws.{Counts, flow, same_more, stops_before, not_opened}
+use Rattle.union_words.specs.Flows.{InputFile}
 use Rattle.library_batches.specs.declared.stop.Stop.{Stop}
 use Rattle.library_batches.specs.declared.stop.Stop.TheVariants.{TooLong as StopTooLong, Failed as StopFailed, Memory as StopMemory}
 use Rattle.union_files.specs.Limits.{Contents, limit_of}
 use Rattle.union_files.specs.Readings.{IsStop, StopsAt, stopped_with}
-
--- the counts of a shelf
-abbrev pub Counts : Type 0
-Counts = List ℕ → ℕ
-
-abbrev pub flow : Option Contents → Counts → Counts → ShelfFlow
-flow files before after = record { files = files; before = before; after = after }
 
 some_fault : (before after : ℕ) → before ≡ 0 → Rose before after → 0 < after
 some_fault before after none rose = let first : Rose 0 after = subst (λ n. Rose n after) none rose in omega (arith, first)
@@ -44,39 +35,3 @@ file_stops StopFailed file files name told before after a b is left none stop ra
 file_stops StopTooLong file files name told before after a b is left none stop raised calm others =
     (calm (stop.1 ∙ none), refl, on_file (λ bytes. limit_of file.input < length bytes) files file.path (subst (λ bytes. IfSome bytes (λ bytes. limit_of file.input < length bytes)) left stop.0))
 file_stops StopMemory file files name told before after a b is left none stop raised calm others = calm (stop ∙ none)
-
-fails_before : (input : Input) (inputs : List InputFile) (files : Option Contents) (a b c : Counts) → SameCounts a b
-    → FailsAt inputs (flow files b c) input → FailsAt inputs (flow files a c) input
-fails_before input inputs files a b c same fails = record {
-  file = fails.file;
-  one = fails.one;
-  named = fails.named;
-  failed = subst (λ count. Rose count (c fails.file.path)) (same fails.file.path) fails.failed;
-  others = λ name differs. fails.others name differs ∙ same name;
-}
-
-pub same_more : (a b c : Counts) → SameCounts a b → SameCounts b c → SameCounts a c
-same_more a b c p q = λ name. q name ∙ p name
-
--- a run that stops at a file, seen from a moment since which nothing failed
-pub stops_before : (status : Status) (file : InputFile) (files : Option Contents) (a b c : Counts) → SameCounts a b
-    → StopsAt status file (flow files b c) → StopsAt status file (flow files a c)
-stops_before (OpenFault input) file files a b c same stops = fails_before input (file ∷ []) files a b c same stops
-stops_before (ReadFault input) file files a b c same stops = fails_before input (file ∷ []) files a b c same stops
-stops_before (TooLong input) file files a b c same stops = (same_more a b c same stops.0, stops.1, stops.2)
-stops_before Memory file files a b c same stops = same_more a b c same stops
-stops_before Done file files a b c same stops = absurd stops
-stops_before DoneWithRefusals file files a b c same stops = absurd stops
-stops_before Usage file files a b c same stops = absurd stops
-stops_before WriteFault file files a b c same stops = absurd stops
-
--- a file that could not be opened
-pub not_opened : (file : InputFile) (files : Option Contents) (a b : Counts) → Rose (a file.path) (b file.path) → SameElsewhere a b file.path
-    → FailsAt (file ∷ []) (flow files a b) file.input
-not_opened file files a b rose others = record {
-  file = file;
-  one = inl refl;
-  named = refl;
-  failed = rose;
-  others = others;
-}

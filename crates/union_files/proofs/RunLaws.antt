@@ -20,7 +20,7 @@ use Rattle.union_files.specs.Readings as one
 use Rattle.union_files.specs.Limits.{Contents}
 use Rattle.union_files.proofs.FileLaws.{Counts, flow, same_more}
 use Rattle.union_files.proofs.LimitLaws.{not_over, none_fails, told, within_none, on_both}
-use Rattle.union_files.specs.Inputs.{input_of, inputs_of, is_overfull, first_overfull, AreWithin, IsTooLongAt, IsEarliest, FailsEarliest, StopsAt}
+use Rattle.union_files.specs.Inputs.{input_of, inputs_of, is_overfull, first_overfull, AreWithin, IsEarliest, FailsEarliest, StopsAt}
 use Rattle.union_files.specs.Runs.{RunTexts, IsRunOver}
 
 -- how the input of a file is named

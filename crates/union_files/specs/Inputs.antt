@@ -10,6 +10,7 @@ use Rattle.union_io.specs.Causes.{Rose}
 use Rattle.union_io.specs.Files.{told_file}
 use Rattle.union_io.specs.Names.{is_among, AddsName}
 use Rattle.union_words.specs.Flows.{ShelfFlow, IsCalm, InputFile, FailsAt}
+pub use Rattle.union_words.specs.Stops.{input_of, inputs_of}
 use Rattle.union_words.specs.Words.{LibraryFile}
 use Rattle.union_words.specs.declared.input.Input.{Input}
 use Rattle.union_words.specs.declared.input.Input.TheVariants.{Library}
@@ -17,14 +18,6 @@ use Rattle.union_words.specs.declared.status.Status.{Status}
 use Rattle.union_words.specs.declared.status.Status.TheVariants.{Done, DoneWithRefusals, Usage, OpenFault, ReadFault, WriteFault, TooLong, Memory}
 use Rattle.union_files.specs.Deliveries.{Delivery, delivery}
 use Rattle.union_files.specs.declared.opened_file.OpenedFile.{OpenedFile}
-
--- the input that is a library's file
-abbrev pub input_of : LibraryFile → InputFile
-input_of file = record { input = Library file.library; path = file.path }
-
--- the inputs of libraries' files
-abbrev pub inputs_of : List LibraryFile → List InputFile
-inputs_of libraries = map input_of libraries
 
 -- the library's file is too long: it has more bytes than are read
 abbrev pub is_overfull : (List ℕ → List ℕ) → LibraryFile → Bool

@@ -5,18 +5,11 @@ use Rattle.std.specs.Option.{option_map}
 use Rattle.std.specs.declared.option.Option.{Option}
 use Rattle.union_words.specs.Flows.{InputFile}
 use Rattle.union_words.specs.declared.input.Input.{Input}
-use Rattle.union_words.specs.declared.input.Input.TheVariants.{Library, Asks, Script, Names}
+pub use Rattle.union_words.specs.Stops.{limit_of}
 
 -- what is in the file of each name
 abbrev pub Contents : Type 0
 Contents = List ℕ → List ℕ
-
--- the most bytes that are read of an input: 2^40 of a library's file or a file of names, and 2^20 of a script or a file of questions
-abbrev pub limit_of : Input → ℕ
-limit_of (Library code) = 1099511627776
-limit_of Asks = 1048576
-limit_of Script = 1048576
-limit_of Names = 1099511627776
 
 -- the file is too long: it has more bytes than are read of its kind of input
 abbrev pub is_overfull : Contents → InputFile → Bool

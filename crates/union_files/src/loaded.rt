@@ -1,12 +1,12 @@
 //! The catalogue that is filled with what libraries deliver.
 ghost use Rattle.std.specs.Prelude.{◌≡◌, ◌++◌, ◌||◌, IfOk};
 
-use catalogue_core::catalogue::Catalogue;
+use gathered_catalogue::finished::Finished;
 use std::alloc::AllocError;
 
 /// The catalogue that libraries filled, and their reports.
 pub struct Loaded {
-    pub catalogue: Catalogue,
+    pub catalogue: Finished,
     pub reports: Vec<u8>,
     /// Whether some frame was refused.
     pub refused: bool,
@@ -14,7 +14,7 @@ pub struct Loaded {
 
 impl Loaded {
     /// The catalogue, the reports, and whether some frame was refused. Takes no memory.
-    pub fn into_parts(self) -> (Catalogue, Vec<u8>, bool)
+    pub fn into_parts(self) -> (Finished, Vec<u8>, bool)
         ensures catalogue { result.0 ≡ self.catalogue }
         ensures reports { result.1 ≡ self.reports }
         ensures refused { result.2 ≡ self.refused }

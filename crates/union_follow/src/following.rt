@@ -21,6 +21,7 @@ use catalogue_core::catalogue::Catalogue;
 use catalogue_query::answer::Answer;
 use catalogue_query::query::Query;
 use catalogue_query::questions::Questions;
+use gathered_catalogue::finished::Finished;
 use key_hashing::hashing::Hashing;
 use load_sessions::watched::Watched;
 use snapshot_desk::opening::open;
@@ -206,7 +207,7 @@ fn finish<R: Wait>(rt: &R, load: Load, asking: Asking, late: Vec<(u64, Answer)>)
     publisher.close(rt, viewer);
     Watched {
         loaded: Loaded {
-            catalogue,
+            catalogue: Finished::standing(catalogue),
             reports: reports.text,
             refused: reports.refused,
         },

@@ -5,7 +5,8 @@ use Rattle.union_json.specs.declared.outcome.Reason.{Reason}
 use Rattle.union_json.specs.declared.outcome.Reason.TheVariants.{LineTooLong, Json, Shape, FieldTooLong, RecordTooLong, Breaks}
 use Rattle.union_json.specs.declared.outcome.RefusedLine.{RefusedLine}
 use Rattle.union_json.specs.declared.made.Made.{Made}
-use Rattle.library_batches.specs.Reports.{rule_name, counted}
+use Rattle.library_batches.specs.Reports.{counted}
+use Rattle.marc_fields.specs.RuleNames.{rule_name}
 use Rattle.union_words.specs.declared.status.Status.{Status}
 
 -- what is to be shown on the output and noted, and how the run ends then

@@ -1,5 +1,5 @@
 //! `fromjson`: the records of lines of JSON as frames.
-ghost use Rattle.std.specs.Prelude.{◌≡◌, ◌≤◌, ℕ, List, [], IsTrue, IfOk, OnOk};
+ghost use Rattle.std.specs.Prelude.{◌≡◌, ◌≢◌, ◌≤◌, ℕ, List, [], IsTrue, IfOk, OnOk};
 ghost use Rattle.union_json.specs.Converting.{HasTaken};
 ghost use Rattle.union_json.specs.Counts.{AreCounted, IsConverted};
 ghost use Rattle.union_json.specs.Outcomes.{Ended};
@@ -9,6 +9,7 @@ ghost use Rattle.union_json.specs.FromJson.{IsFromJson, end_with, from_json_note
 ghost use Rattle.union_json.specs.Runs.{IsFromJsonRun};
 ghost use Rattle.union_json.specs.Texts.{making_of};
 ghost use Rattle.union_words.specs.Statuses.{is_done, is_early};
+ghost use Rattle.union_words.specs.declared.input.Input.{Input as InputModel};
 
 use crate::converter::Converter;
 use crate::findings::Findings;
@@ -154,7 +155,7 @@ fn make<S: Source>(alloc: Global, library: &LibraryCode, source: &mut S) -> Resu
 ///
 /// `Done` and `DoneWithRefusals` mean that all was read and all was written; which of the two says whether a line is refused.
 /// `ReadFault` comes only where a read of the source failed, `WriteFault` only where a write failed, and `TooLong` exactly where
-/// the source gave 2^40 bytes and at least one more. Nothing is written before the source was read to its end, and nothing is
+/// the source gave 2^40 bytes and at least one more. `OpenFault` never comes: the source is open. Nothing is written before the source was read to its end, and nothing is
 /// noted before all frames are written. Memory holds the text that is to be written, and one line of at most 1,048,576 bytes.
 pub fn from_json_run<S: Source, O: Sink, N: Sink>(
     alloc: Global,
@@ -185,6 +186,7 @@ pub fn from_json_run<S: Source, O: Sink, N: Sink>(
           after = N.faults notes.new;
         })
         result }
+    ensures open { (input : InputModel) → result ≢ Status.OpenFault input }
     // Whoever calls may write its own line on the notes then.
     ensures quiet { IsTrue (is_early result) → notes.new ≡ notes.old }
 {

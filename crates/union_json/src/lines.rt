@@ -3,7 +3,7 @@ ghost use Rattle.std.specs.Prelude.{◌≡◌, ◌++◌, OnOk};
 ghost use Rattle.union_json.specs.Texts.{count_line, reason_name, reason_place, refused_line, refused_lines};
 
 use crate::outcome::{Reason, RefusedLine};
-use library_batches::report_lines::{add_counted, rule_name};
+use library_batches::report_lines::add_counted;
 use std::alloc::AllocError;
 
 /// How many things there are, of how many something is written, and how many are refused.
@@ -43,7 +43,7 @@ fn reason_name(reason: Reason) -> &'static [u8]
         Reason::Shape { .. } => b"Shape",
         Reason::FieldTooLong => b"FieldTooLong",
         Reason::RecordTooLong => b"RecordTooLong",
-        Reason::Breaks { rule, .. } => rule_name(rule),
+        Reason::Breaks { rule, .. } => rule.name(),
     }
 }
 

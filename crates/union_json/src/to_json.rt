@@ -1,5 +1,5 @@
 //! `tojson`: the accepted records of a library's file as lines of JSON.
-ghost use Rattle.std.specs.Prelude.{◌≡◌, ◌+◌, ◌<◌, ◌++◌, ◌∷◌, [], ℕ, List, None, Some, IsTrue, IfOk, OnOk};
+ghost use Rattle.std.specs.Prelude.{◌≡◌, ◌≢◌, ◌+◌, ◌<◌, ◌++◌, ◌∷◌, [], ℕ, List, None, Some, IsTrue, IfOk, OnOk};
 ghost use Rattle.iso2709_frame.specs.Frames.{frames, IsWhole};
 ghost use Rattle.library_batches.specs.Reading.{most_bytes};
 ghost use Rattle.library_batches.specs.Streams.{Frame, failure_of};
@@ -11,6 +11,7 @@ ghost use Rattle.union_json.specs.Runs.{IsToJsonRun};
 ghost use Rattle.union_json.specs.Texts.{making_of};
 ghost use Rattle.union_json.specs.ToJson.{AreWritten, IsToJson, to_json_notes};
 ghost use Rattle.union_words.specs.Statuses.{is_done, is_early};
+ghost use Rattle.union_words.specs.declared.input.Input.{Input as InputModel};
 
 use crate::gathered::Gathered;
 use crate::lines::{Counted, add_count_line};
@@ -183,7 +184,7 @@ fn make<S: Source>(alloc: Global, library: &LibraryCode, source: &mut S) -> Resu
 ///
 /// `Done` and `DoneWithRefusals` mean that all was read and all was written; which of the two says whether a frame is refused.
 /// `ReadFault` comes only where a read of the source failed, `WriteFault` only where a write failed, and `TooLong` exactly where
-/// the source gave 2^40 bytes and at least one more. Nothing is written before the source was read to its end, and nothing is
+/// the source gave 2^40 bytes and at least one more. `OpenFault` never comes: the source is open. Nothing is written before the source was read to its end, and nothing is
 /// noted before all lines are written. Memory holds the text that is to be written, and one record.
 pub fn to_json_run<S: Source, O: Sink, N: Sink>(
     alloc: Global,
@@ -214,6 +215,7 @@ pub fn to_json_run<S: Source, O: Sink, N: Sink>(
           after = N.faults notes.new;
         })
         result }
+    ensures open { (input : InputModel) → result ≢ Status.OpenFault input }
     // Whoever calls may write its own line on the notes then.
     ensures quiet { IsTrue (is_early result) → notes.new ≡ notes.old }
 {

@@ -26,6 +26,7 @@ use catalogue_lock::desk::Desk;
 use catalogue_lock::root::Root;
 use catalogue_query::query::Query;
 use catalogue_query::questions::Questions;
+use gathered_catalogue::finished::Finished;
 use load_sessions::asker::Asker;
 use load_sessions::crew::Crew;
 use load_sessions::end::End;
@@ -51,14 +52,15 @@ fn are_some(questions: &Questions) -> bool
     !(questions.beside.is_empty() && questions.late.is_empty())
 }
 
-/// A catalogue without history, by these names, which keeps its works where questions will be asked.
+/// A catalogue without history, by these names: a standing one, which keeps its works, where questions will be asked, and else a
+/// gathered one.
 fn served(alloc: Global, names: NameTable, is_asked: bool) -> Result<Served, Memory>
-    ensures { IfOk result (λ served. served.catalogue ≡ by_names names) }
+    ensures { IfOk result (λ served. served.engine ≡ by_names names) }
 {
     if is_asked {
         Served::keeping_works(alloc, names)
     } else {
-        Served::open(alloc, names)
+        Ok(Served::gathered(alloc, names))
     }
 }
 
@@ -76,15 +78,23 @@ fn open_desk(
     Desk::open(alloc, served(alloc, names, is_asked)?)
 }
 
-/// Ends the asker, asks the late questions, and closes the desk.
-fn close_desk<R: Wait>(
+/// What is done when all sessions have ended: the questions that are asked then, and how many workers resolve a gathered catalogue.
+struct Ending {
+    late: Vec<Query>,
+    workers: u32,
+}
+
+/// Ends the asker, asks the late questions, closes the desk, and resolves the catalogue where the turns have not.
+fn close_desk<R: Threads + Wait + Sync>(
     rt: &R,
     alloc: Global,
     opened: (Desk<Served>, Root<Served>),
     asker: Asker,
     reports: Reports,
-    late: Vec<Query>,
+    ending: Ending,
 ) -> Result<Watched, Memory>
+    requires some { 1 ≤ ending.workers }
+    requires most { ending.workers ≤ 64 }
     requires desk { IsRootOf opened.1 opened.0 }
     requires made { (root_of opened.1).made ≡ length (root_of opened.1).ended + 1 }
     requires few { (root_of opened.1).made < 4294967295 }
@@ -111,12 +121,14 @@ fn close_desk<R: Wait>(
         asker.questions.items watched.beside.items) }
     ensures late { IfOk result (λ watched. AreReplies (root_of opened.1).setting
         watched.loaded.catalogue.history
-        (length watched.loaded.catalogue.history) late.items watched.late.items) }
+        (length watched.loaded.catalogue.history) ending.late.items watched.late.items) }
 {
     let (desk, mut root) = opened;
+    let Ending { late, workers } = ending;
     let beside = end_asker(&desk, &mut root, asker)?;
     let late = ask_late(rt, alloc, &desk, &mut root, late)?;
-    let Served { catalogue } = desk.close(root);
+    let Served { engine } = desk.close(root);
+    let catalogue = Finished::of(rt, alloc, engine, workers)?;
     Ok(Watched {
         loaded: Loaded {
             catalogue,
@@ -169,11 +181,13 @@ pub fn load_and_ask<R: Threads + Wait + Sync, F: Shelf, G: Gate>(
         (length watched.loaded.catalogue.history) start.questions.late.items watched.late.items) }
 {
     let Start { names, questions } = start;
+    let is_asked = are_some(&questions);
     let crew = Crew {
         workers: loading.workers.number(),
         hashing: names.hashing(),
+        prepares: is_asked,
     };
-    let Ok((desk, mut root)) = open_desk(alloc, names, are_some(&questions)) else {
+    let Ok((desk, mut root)) = open_desk(alloc, names, is_asked) else {
         return Err(Status::Memory);
     };
     let Questions { beside, late } = questions;
@@ -197,7 +211,11 @@ pub fn load_and_ask<R: Threads + Wait + Sync, F: Shelf, G: Gate>(
         &mut reports,
         shelf,
     )?;
-    match close_desk(rt, alloc, (desk, root), asker, reports, late) {
+    let ending = Ending {
+        late,
+        workers: crew.workers,
+    };
+    match close_desk(rt, alloc, (desk, root), asker, reports, ending) {
         Ok(watched) => Ok(watched),
         Err(Memory) => Err(Status::Memory),
     }

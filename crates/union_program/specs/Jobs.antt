@@ -1,4 +1,5 @@
--- What a run does, by the job that its words ask for.
+-- What a run does, by the job that its words ask for: the clauses of `union_run`, as one fact for `run_words`, which is private. Whoever
+-- reads the contract of `union_run` needs none of it.
 use Rattle.std.specs.Prelude.{◌≡◌, ◌≢◌, Option, Some, None, List, ℕ}
 use Rattle.std.specs.Io.KnownBytes.{Keeps}
 use Rattle.union_io.specs.Counts.{SameElsewhere}

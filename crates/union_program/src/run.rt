@@ -185,6 +185,7 @@ fn run_trial<R: Threads + Sync, O: Sink, G>(
     let crew = Crew {
         workers: trial.workers().number(),
         hashing: host.hashing,
+        prepares: true,
     };
     trial_run(host.rt, host.alloc, trial.seed(), trial.count(), crew, out)
 }

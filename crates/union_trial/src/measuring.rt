@@ -24,7 +24,7 @@ fn record_size(
     ensures bound { IfOk result (λ size. size ≤ 99999) }
 {
     buffer.clear();
-    append_edition(alloc, catalogue, edition, buffer)?;
+    append_edition(alloc, catalogue.names(), edition, buffer)?;
     Ok(buffer.len())
 }
 

@@ -11,7 +11,7 @@ use catalogue_export::by_workers::export_by_workers;
 use catalogue_export::export_fail::ExportFail;
 use catalogue_export::form::{ExportForm, Iso2709};
 use catalogue_export::json_export::JsonLines;
-use catalogue_export::works_text::works_text;
+use catalogue_export::works_text::finished_works_text;
 use library_batches::report_texts::add_left_lines;
 use std::alloc::Global;
 use std::mem::forget;
@@ -146,7 +146,7 @@ fn write_works<O: Sink, N: Sink>(
         })
         result }
 {
-    match works_text(alloc, &loaded.catalogue, out) {
+    match finished_works_text(alloc, &loaded.catalogue, out) {
         Ok(()) => write_reports(alloc, loaded, &[], notes),
         Err(ExportFail::WriteFault) => Status::WriteFault,
         Err(ExportFail::Memory) => {

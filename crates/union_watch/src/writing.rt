@@ -8,11 +8,11 @@ ghost use Rattle.union_watch.specs.WatchTexts.{watch_text};
 
 use crate::ask_line::AskLine;
 use crate::lines::{Replies, add_told, add_turn_line};
-use catalogue_core::catalogue::Catalogue;
 use catalogue_core::history_entry::HistoryEntry;
 use catalogue_export::export_fail::ExportFail;
 use catalogue_export::pending::{hand_on, hand_on_rest};
 use catalogue_query::answer::Answer;
+use gathered_catalogue::finished::Finished;
 use std::alloc::{AllocError, Global};
 use union_io::sink::Sink;
 
@@ -38,7 +38,7 @@ fn write_turn<O: Sink>(
 
 /// Writes a line for each turn of a catalogue's history after what is pending.
 fn write_turns<O: Sink>(
-    catalogue: &Catalogue,
+    catalogue: &Finished,
     pending: &mut Vec<u8>,
     out: &mut O,
 ) -> Result<(), ExportFail>
@@ -131,7 +131,7 @@ fn joined(
 /// then.
 pub fn write_watch<O: Sink>(
     alloc: Global,
-    catalogue: &Catalogue,
+    catalogue: &Finished,
     lines: &[AskLine<'_>],
     beside: Vec<(u64, Answer)>,
     late: Vec<(u64, Answer)>,

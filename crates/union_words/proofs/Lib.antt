@@ -1,3 +1,4 @@
 pub mod LineLaws
 pub mod NumberLaws
 pub mod PlaceLaws
+pub mod StopLaws

@@ -5,5 +5,6 @@ pub mod Meanings
 pub mod Numbers
 pub mod ScriptLines
 pub mod Statuses
+pub mod Stops
 pub mod Texts
 pub mod Words

@@ -8,16 +8,16 @@ use Rattle.catalogue_export.proofs.by_workers.write_by_workers.Goals as goal
 pub rounds-init : goal.rounds-init
 rounds-init g c = record {
   within = omega arith;
-  exported = to-begin (g.F.ExportForm.shown c.args.catalogue.now.names) (left_of_one c.args.catalogue.now.names) c.args.editions.now (g.O.Sink.written c.args.out.now) (g.O.Sink.faults c.args.out.now) c.args.left.now.items;
+  exported = to-begin (g.F.ExportForm.shown c.args.listing.now.names.now) (left_of_one c.args.listing.now.names.now) c.args.listing.now.editions.now (g.O.Sink.written c.args.out.now) (g.O.Sink.faults c.args.out.now) c.args.left.now.items;
 }
 
 pub rounds-preserved : goal.rounds-preserved
 rounds-preserved g c =
-    let editions = c.args.editions.now in
+    let editions = c.args.listing.now.editions.now in
     let end = c.rounds.done + c.min.result in
     record {
       within = omega (arith, c.min.ensures, c.rounds-test.true);
-      exported = to-more (g.F.ExportForm.shown c.args.catalogue.now.names) (left_of_one c.args.catalogue.now.names)
+      exported = to-more (g.F.ExportForm.shown c.args.listing.now.names.now) (left_of_one c.args.listing.now.names.now)
           editions (drop c.rounds.done editions) (slice_range editions c.rounds.done end) (drop end editions)
           (g.O.Sink.written c.args.out.now) (g.O.Sink.written c.rounds.out) (g.O.Sink.written c.write_round.new.out)
           (g.O.Sink.faults c.args.out.now) (g.O.Sink.faults c.rounds.out) (g.O.Sink.faults c.write_round.new.out)
@@ -27,9 +27,9 @@ rounds-preserved g c =
 
 pub returns-in-Err : goal.returns-in-Err
 returns-in-Err g c =
-    let editions = c.args.editions.now in
+    let editions = c.args.listing.now.editions.now in
     let end = c.rounds.done + c.min.result in
-    to-stop (g.F.ExportForm.shown c.args.catalogue.now.names) (left_of_one c.args.catalogue.now.names)
+    to-stop (g.F.ExportForm.shown c.args.listing.now.names.now) (left_of_one c.args.listing.now.names.now)
     editions (drop c.rounds.done editions) (slice_range editions c.rounds.done end) (drop end editions)
     (g.O.Sink.written c.args.out.now) (g.O.Sink.written c.rounds.out) (g.O.Sink.written c.write_round.new.out)
     (g.O.Sink.faults c.args.out.now) (g.O.Sink.faults c.rounds.out) (g.O.Sink.faults c.write_round.new.out)

@@ -6,11 +6,11 @@ use Rattle.catalogue_export.proofs.by_workers.write_by_workers.Given as goal
 -- the editions before this place were exported
 abbrev pub invariant-rounds : goal.invariant-rounds
 invariant-rounds g l = record {
-  within : l.done ≤ length l.editions;
-  exported : IsExportedTo (g.F.ExportForm.shown l.catalogue.names) (left_of_one l.catalogue.names) l.editions (drop l.done l.editions)
+  within : l.done ≤ length l.listing.editions.now;
+  exported : IsExportedTo (g.F.ExportForm.shown l.listing.names.now) (left_of_one l.listing.names.now) l.listing.editions.now (drop l.done l.listing.editions.now)
       (record { old = g.O.Sink.written l.initial.out; new = g.O.Sink.written l.out; before = g.O.Sink.faults l.initial.out; after = g.O.Sink.faults l.out })
       l.initial.left.items l.left.items;
 }
 
 abbrev pub decreases-rounds : goal.decreases-rounds
-decreases-rounds g l = length l.editions - l.done
+decreases-rounds g l = length l.listing.editions.now - l.done

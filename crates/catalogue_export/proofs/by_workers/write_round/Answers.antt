@@ -13,11 +13,11 @@ use Rattle.catalogue_export.proofs.by_workers.write_round.Goals as goal
 
 pub loop-made-init : goal.loop-made-init
 loop-made-init g c =
-    let shown = g.F.ExportForm.shown c.args.catalogue.now.names in
-    let noted = left_of_one c.args.catalogue.now.names in
+    let shown = g.F.ExportForm.shown c.args.names.now in
+    let noted = left_of_one c.args.names.now in
     let editions = c.args.editions.now in
     let parts = c.in_ok-parts.parts.items in
-    let few : length editions ≤ length parts * 256 = omega (arith, c.in_ok-parts.ensures.len, c.in_ok-parts.parts.ok) in (
+    let few : length editions ≤ length parts * 2048 = omega (arith, c.in_ok-parts.ensures.len, c.in_ok-parts.parts.ok) in (
       editions,
       subst (λ made. AreParts shown noted editions made) (sym c.into_iter-made-iterator.ensures.into_iter_gives.0)
           (are-parts shown noted editions parts few
@@ -29,8 +29,8 @@ loop-made-init g c =
 
 pub returns-in_err-part : goal.returns-in_err-part
 returns-in_err-part g c =
-    let shown = g.F.ExportForm.shown c.args.catalogue.now.names in
-    let noted = left_of_one c.args.catalogue.now.names in
+    let shown = g.F.ExportForm.shown c.args.names.now in
+    let noted = left_of_one c.args.names.now in
     let editions = c.args.editions.now in
     let rest = c.loop-made.invariant.0 in
     let out : Output = record { old = g.O.Sink.written c.args.out.now; new = g.O.Sink.written c.loop-made.out; before = g.O.Sink.faults c.args.out.now; after = g.O.Sink.faults c.loop-made.out } in
@@ -44,33 +44,33 @@ returns-in_err-part g c =
 
 pub loop-made-preserved : goal.loop-made-preserved
 loop-made-preserved g c =
-    let shown = g.F.ExportForm.shown c.args.catalogue.now.names in
-    let noted = left_of_one c.args.catalogue.now.names in
+    let shown = g.F.ExportForm.shown c.args.names.now in
+    let noted = left_of_one c.args.names.now in
     let editions = c.args.editions.now in
     let rest = c.loop-made.invariant.0 in
     let come = subst (λ made. AreParts shown noted rest made) c.in-Some.ensures.steps.0 c.loop-made.invariant.1 in
-    let is = subst (λ made. IfOk made (IsPartOf shown noted (map (λ (e : Bor Edition). e.now) (take 256 rest)))) c.in_ok-part.was come.0 in
+    let is = subst (λ made. IfOk made (IsPartOf shown noted (map (λ (e : Bor Edition). e.now) (take 2048 rest)))) c.in_ok-part.was come.0 in
     let out : Output = record { old = g.O.Sink.written c.loop-made.out; new = g.O.Sink.written c.write_part.new.out; before = g.O.Sink.faults c.loop-made.out; after = g.O.Sink.faults c.write_part.new.out } in (
-      drop 256 rest,
+      drop 2048 rest,
       come.1,
-      to-more shown noted editions rest (take 256 rest) (drop 256 rest) (g.O.Sink.written c.args.out.now) (g.O.Sink.written c.loop-made.out) (g.O.Sink.written c.write_part.new.out)
+      to-more shown noted editions rest (take 2048 rest) (drop 2048 rest) (g.O.Sink.written c.args.out.now) (g.O.Sink.written c.loop-made.out) (g.O.Sink.written c.write_part.new.out)
           (g.O.Sink.faults c.args.out.now) (g.O.Sink.faults c.loop-made.out) (g.O.Sink.faults c.write_part.new.out)
-          c.args.left.now.items c.loop-made.left.items c.write_part.new.left.items (sym (take-append-drop 256 rest)) c.loop-made.invariant.2
-          (part-export shown noted (map (λ (e : Bor Edition). e.now) (take 256 rest)) c.in_ok-part.part out c.loop-made.left.items c.write_part.new.left.items (Ok tt)
+          c.args.left.now.items c.loop-made.left.items c.write_part.new.left.items (sym (take-append-drop 2048 rest)) c.loop-made.invariant.2
+          (part-export shown noted (map (λ (e : Bor Edition). e.now) (take 2048 rest)) c.in_ok-part.part out c.loop-made.left.items c.write_part.new.left.items (Ok tt)
           is c.in-Ok.ensures.written c.in-Ok.ensures.left c.in-Ok.ensures.stopped),
     )
 
 pub returns-in-Err : goal.returns-in-Err
 returns-in-Err g c =
-    let shown = g.F.ExportForm.shown c.args.catalogue.now.names in
-    let noted = left_of_one c.args.catalogue.now.names in
+    let shown = g.F.ExportForm.shown c.args.names.now in
+    let noted = left_of_one c.args.names.now in
     let editions = c.args.editions.now in
     let rest = c.loop-made.invariant.0 in
     let come = subst (λ made. AreParts shown noted rest made) c.in-Some.ensures.steps.0 c.loop-made.invariant.1 in
-    let is = subst (λ made. IfOk made (IsPartOf shown noted (map (λ (e : Bor Edition). e.now) (take 256 rest)))) c.in_ok-part.was come.0 in
+    let is = subst (λ made. IfOk made (IsPartOf shown noted (map (λ (e : Bor Edition). e.now) (take 2048 rest)))) c.in_ok-part.was come.0 in
     let out : Output = record { old = g.O.Sink.written c.loop-made.out; new = g.O.Sink.written c.write_part.new.out; before = g.O.Sink.faults c.loop-made.out; after = g.O.Sink.faults c.write_part.new.out } in
-    to-stop shown noted editions rest (take 256 rest) (drop 256 rest) (g.O.Sink.written c.args.out.now) (g.O.Sink.written c.loop-made.out) (g.O.Sink.written c.write_part.new.out)
+    to-stop shown noted editions rest (take 2048 rest) (drop 2048 rest) (g.O.Sink.written c.args.out.now) (g.O.Sink.written c.loop-made.out) (g.O.Sink.written c.write_part.new.out)
     (g.O.Sink.faults c.args.out.now) (g.O.Sink.faults c.loop-made.out) (g.O.Sink.faults c.write_part.new.out)
-    c.args.left.now.items c.loop-made.left.items c.write_part.new.left.items c.in-Err.fail (sym (take-append-drop 256 rest)) c.loop-made.invariant.2
-    (part-export shown noted (map (λ (e : Bor Edition). e.now) (take 256 rest)) c.in_ok-part.part out c.loop-made.left.items c.write_part.new.left.items (Err c.in-Err.fail)
+    c.args.left.now.items c.loop-made.left.items c.write_part.new.left.items c.in-Err.fail (sym (take-append-drop 2048 rest)) c.loop-made.invariant.2
+    (part-export shown noted (map (λ (e : Bor Edition). e.now) (take 2048 rest)) c.in_ok-part.part out c.loop-made.left.items c.write_part.new.left.items (Err c.in-Err.fail)
     is c.in-Err.ensures.written c.in-Err.ensures.left c.in-Err.ensures.stopped)

@@ -10,7 +10,7 @@ appended (Err error) old new text is = tt
 pub returns-clause-text : goal.returns-clause-text
 unfolding edition_text
 returns-clause-text c =
-    appended c.edition_bytes.result c.args.into.now.items c.edition_bytes.new.into.items (edition_text c.args.catalogue.now.names c.args.edition.now)
+    appended c.edition_bytes.result c.args.into.now.items c.edition_bytes.new.into.items (edition_text c.args.names.now c.args.edition.now)
     (rw (c.in_ok-key.ensures.value, c.shown.ensures) at c.edition_bytes.ensures.text)
 
 pub returns-clause-left : goal.returns-clause-left

@@ -12,7 +12,7 @@ loop-edition-init g c = record { text = sym (append-nil c.args.into.now.items); 
 
 pub loop-edition-preserved : goal.loop-edition-preserved
 loop-edition-preserved g c =
-    let names = c.args.catalogue.now.names in
+    let names = c.args.names.now in
     let shown = g.F.ExportForm.shown names in
     let all = map (λ (e : Bor Edition). e.now) c.args.editions.now in
     let place = c.loop-edition.edition-index in
@@ -29,7 +29,7 @@ loop-edition-preserved g c =
 
 pub returns : goal.returns
 returns g c =
-    let names = c.args.catalogue.now.names in
+    let names = c.args.names.now in
     let all = map (λ (e : Bor Edition). e.now) c.args.editions.now in
     let past : length all ≤ c.loop-edition.edition-index = omega (arith, length-map c.args.editions.now (λ (e : Bor Edition). e.now), c.loop-edition-test.false) in
     let whole = take_all c.loop-edition.edition-index all past in

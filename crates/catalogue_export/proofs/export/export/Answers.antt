@@ -13,9 +13,9 @@ returns-in-Ok g c =
     let out : Output = record { old = g.O.Sink.written c.args.out.now; new = g.O.Sink.written c.write_editions.new.out; before = g.O.Sink.faults c.args.out.now; after = g.O.Sink.faults c.write_editions.new.out } in (
       c.in-Ok.ensures.0,
       c.in-Ok.ensures.1,
-      subst (λ all. HasWritten (export_text c.args.catalogue.now.names all) out c.write_editions.result) same c.write_editions.ensures.written,
-      subst (λ all. OnOk c.write_editions.result (c.write_editions.new.left.items ≡ c.args.left.now.items ++ left_of c.args.catalogue.now.names all)) same c.write_editions.ensures.gained,
-      subst (λ all. OnErr c.write_editions.result (GainsFront c.args.left.now.items c.write_editions.new.left.items (left_of c.args.catalogue.now.names all))) same c.write_editions.ensures.stopped,
+      subst (λ all. HasWritten (export_text c.args.catalogue.now.names all) out c.write_editions.result) same (rw c.names-names.ensures at c.write_editions.ensures.written),
+      subst (λ all. OnOk c.write_editions.result (c.write_editions.new.left.items ≡ c.args.left.now.items ++ left_of c.args.catalogue.now.names all)) same (rw c.names-names.ensures at c.write_editions.ensures.gained),
+      subst (λ all. OnErr c.write_editions.result (GainsFront c.args.left.now.items c.write_editions.new.left.items (left_of c.args.catalogue.now.names all))) same (rw c.names-names.ensures at c.write_editions.ensures.stopped),
     )
 
 pub returns-in-Err : goal.returns-in-Err

@@ -8,7 +8,7 @@ returns c =
     rw (
       c.in_ok-push.ensures.items,
       c.in_ok-add_counted-2.ensures,
-      c.rule_name.ensures,
+      c.name.ensures,
       c.from.ensures,
       c.in_ok-add_counted.ensures,
       c.in_ok-extend_from_slice.ensures.items,

@@ -1,6 +1,6 @@
 use Rattle.std.proofs.Common.{◌∷◌, sym, ap, ◌∙◌}
 use Rattle.std.proofs.lemmas.List.{nil_from_length}
-use Rattle.library_batches.proofs.ShareLaws.{joined-none, joined-more, joined-all}
+use Rattle.library_batches.proofs.ShareLaws.{joined-none, joined-more, joined-all, joined-front}
 use Rattle.library_batches.proofs.shares.join_shares.Goals as goal
 
 pub loop-made-init : goal.loop-made-init
@@ -15,7 +15,12 @@ loop-made-preserved c = λ prefer library size start frames shares.
     c.args.refused.now.items c.loop-made.refused.items c.add_share.new.refused.items (c.in-Some.ensures.steps.0 ∙ ap (λ made. made ∷ rest) c.in_ok-part.was)
     c.in_ok-add_share.ensures.ops c.in_ok-add_share.ensures.refused (c.loop-made.invariant prefer library size start frames shares)
 
-pub returns : goal.returns
-returns c = λ prefer library size start frames shares.
+pub returns-clause-checked : goal.returns-clause-checked
+returns-clause-checked c = λ prefer library size start frames shares.
     joined-all prefer library size start frames c.loop-made.made-iterator.rest.items c.loop-made.ops.items c.args.refused.now.items c.loop-made.refused.items
     (nil_from_length _ (sym c.loop-made.made-iterator.rest.ok.0 ∙ c.in-None.ensures.steps.0)) (c.loop-made.invariant prefer library size start frames shares)
+
+pub returns-clause-kept : goal.returns-clause-kept
+returns-clause-kept c = λ prefer library size start frames shares.
+    joined-front prefer library size start frames c.loop-made.made-iterator.rest.items c.loop-made.ops.items c.args.refused.now.items c.loop-made.refused.items
+    (c.loop-made.invariant prefer library size start frames shares)

@@ -13,10 +13,10 @@ returns-clause-found g c =
     let new = view c.turn-turned.new.pass in
     let turn = c.in_ok-outcome.ensures.ok in
     subst (λ n. found new.seen n ≡ found old.seen old.number ++ c.in_ok-outcome.field-0.outcome.items) (sym c.turn-turned.ensures.same.0)
-    (found-turn old.number old.seen turn.before new.seen old.own new.own c.args.due.prepared c.in_ok-outcome.field-0.outcome.items c.number.ensures.own
+    (found-turn old.number old.seen turn.before new.seen old.own new.own c.args.due.change c.in_ok-outcome.field-0.outcome.items c.number.ensures.own
     (subst (λ n. changes_of n new.seen ≡ new.own) c.turn-turned.ensures.same.0 c.number-2.ensures.own) turn.own turn.follows turn.seen turn.outcome_is)
 
 pub returns-clause-few : goal.returns-clause-few
 returns-clause-few g c =
     let turn = c.in_ok-outcome.ensures.ok in
-    omega (arith, ap length turn.outcome_is, length-outcomes c.args.due.prepared.library (current (history_of turn.before)) c.args.due.prepared.ops, few_ops c.args.due.prepared)
+    omega (arith, ap length turn.outcome_is, length-outcomes c.args.due.change.library (current (history_of turn.before)) c.args.due.change.ops, few_ops c.args.due.change)

@@ -12,8 +12,8 @@ use Rattle.load_sessions.proofs.AheadLaws.{Awaits, to_come}
 use Rattle.load_sessions.proofs.turning.turn_batches.Given as goal
 
 -- the batches before the reader's last answer were turned and what came of them was counted, and only that answer may tell of a failure
-abbrev pub invariant-loop-prepared : goal.invariant-loop-prepared
-invariant-loop-prepared g l = record {
+abbrev pub invariant-loop-change : goal.invariant-loop-change
+invariant-loop-change g l = record {
   keeps : IsSameSession g.S.Source.name l.turning.desk.now.board.shared.table_id l.fn.session l.session;
   failed : l.next ≡ Err Failed → Rose (g.S.Source.faults l.fn.session.source) (g.S.Source.faults l.session.source);
   calm : l.next ≢ Err Failed → g.S.Source.faults l.session.source ≡ g.S.Source.faults l.fn.session.source;
@@ -24,5 +24,5 @@ invariant-loop-prepared g l = record {
   turns : l.turn + to_come l.next l.reader ≤ most_bytes + 1;
 }
 
-abbrev pub decreases-loop-prepared : goal.decreases-loop-prepared
-decreases-loop-prepared g l = to_come l.next l.reader
+abbrev pub decreases-loop-change : goal.decreases-loop-change
+decreases-loop-change g l = to_come l.next l.reader

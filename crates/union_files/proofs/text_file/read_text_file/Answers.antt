@@ -1,4 +1,4 @@
-use Rattle.std.proofs.Common.{◌∙◌, sym, subst}
+use Rattle.std.proofs.Common.{◌∙◌, subst}
 use Rattle.union_words.specs.Flows.{InputFile, Inflow}
 use Rattle.union_files.specs.Readings.{IsStop}
 use Rattle.union_files.proofs.FileLaws.{file_stops, stops_before, not_opened}
@@ -19,7 +19,7 @@ returns-in-Err-clause-reads g c =
     (stops_before _ file files (g.F.Shelf.faults c.args.shelf.now) before after c.in-Ok.ensures.counts
     (file_stops c.in-Err.stop file files (g.F.Src.Source.name c.read_whole-read.new.source) _ _ (g.F.Src.Source.faults c.read_whole-read.new.source) before after
     (c.in-Err.ensures.name ∙ c.in-Ok.ensures.name) c.in-Ok.ensures.left c.in-Ok.ensures.fresh
-    (subst (λ limit. IsStop limit c.in-Err.stop flow) (sym c.requires.text) c.in-Err.ensures.reads)
+    (subst (λ limit. IsStop limit c.in-Err.stop flow) c.limit_of.ensures c.in-Err.ensures.reads)
     c.give_back.ensures.raised c.give_back.ensures.calm c.give_back.ensures.others))
 
 pub returns-in-Err-Failed-clause-reads : goal.returns-in-Err-Failed-clause-reads

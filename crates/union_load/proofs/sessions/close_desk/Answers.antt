@@ -13,7 +13,7 @@ use Rattle.union_load.proofs.sessions.close_desk.Goals as goal
 
 pub returns : goal.returns
 returns g c =
-    let history = c.close-catalogue.result.catalogue.history in
+    let history = c.close-engine.result.engine.history in
     let names = (root_of c.args.opened.1).setting in
     let entries = entries_of history in
     let first = root_of c.args.opened.1 in
@@ -25,17 +25,17 @@ returns g c =
     let ended = asked.1 ∙ ap (λ done. done ++ late ∷ []) c.end_asker.ensures.root.ended in
     let made = c.ask_late.ensures.made ∙ ap (λ n. n + 1) c.end_asker.ensures.root.made in
     let closed : IsClosed entries first.ended beside late first.made between.floor = is-closed entries first.ended beside late first.made between.floor
-    (subst (All (EndedOk entries)) ended c.close-catalogue.ensures.ended)
-    (subst (λ n. All (λ (e : ℕ × Batch). e.0 < n) entries) made c.close-catalogue.ensures.no_other)
+    (subst (All (EndedOk entries)) ended c.close-engine.ensures.ended)
+    (subst (λ n. All (λ (e : ℕ × Batch). e.0 < n) entries) made c.close-engine.ensures.no_other)
     (subst (λ n. (m : ℕ) → m < n → Any (λ (left : Ended Batch). left.number ≡ m) ((first.ended ++ beside ∷ []) ++ late ∷ [])) made
-    (subst (λ (all : List (Ended Batch)). (m : ℕ) → m < (root_of c.ask_late.new.root).made → Any (λ (left : Ended Batch). left.number ≡ m) all) ended c.close-catalogue.ensures.numbers))
+    (subst (λ (all : List (Ended Batch)). (m : ℕ) → m < (root_of c.ask_late.new.root).made → Any (λ (left : Ended Batch). left.number ≡ m) all) ended c.close-engine.ensures.numbers))
     c.requires.numbers
     (all_both seen first.ended (beside ∷ []) (each_weaker (λ left. length left.seen ≤ first.floor) seen first.ended
     (λ left known. omega (arith, known, c.end_asker.ensures.root.floor)) c.requires.known) c.end_asker.ensures.root.known)
     c.requires.idle asked.2.idle in
     let long : length history ≤ between.floor = subst (λ n. n ≤ between.floor) (length-map history _) closed.whole in
-    record {
-      names = c.close-catalogue.ensures.setting ∙ (c.ask_late.ensures.setting ∙ c.end_asker.ensures.root.setting);
+    rw c.in_ok-catalogue.ensures (record {
+      names = c.close-engine.ensures.setting ∙ (c.ask_late.ensures.setting ∙ c.end_asker.ensures.root.setting);
       reports = refl;
       refused = refl;
       ended = closed.ended;
@@ -43,6 +43,6 @@ returns g c =
       beside = asked_over names history 0 0 c.args.asker.questions.items c.in_ok-beside.beside.items beside closed.beside_ended (omega arith)
           (subst (λ replies. HasAsked names 0 c.args.asker.questions.items replies beside) (sym (ap vec_items c.in_ok-beside.ensures.replies.1))
           (c.requires.asked c.in_ok-beside.ensures.replies.0));
-      late = asked_over names history (length history) between.floor c.args.late.items c.in_ok-late.late.items late closed.late_ended long
-          (subst (λ names. HasAsked names between.floor c.args.late.items c.in_ok-late.late.items late) c.end_asker.ensures.root.setting asked.2);
-    }
+      late = asked_over names history (length history) between.floor c.args.ending.late.items c.in_ok-late.late.items late closed.late_ended long
+          (subst (λ names. HasAsked names between.floor c.args.ending.late.items c.in_ok-late.late.items late) c.end_asker.ensures.root.setting asked.2);
+    })

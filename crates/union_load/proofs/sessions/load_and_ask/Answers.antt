@@ -46,7 +46,7 @@ end_all-requires-clause-libraries g c κs within =
     c.as_mut_slice.ensures.value c.in_ok-sessions.ensures.ready c.in_ok-sessions.ensures.fresh c.run_sessions.ensures.sessions).files_are ∙ c.in_ok-sessions.ensures.opened
 
 pub close_desk-requires-clause-numbers : goal.close_desk-requires-clause-numbers
-close_desk-requires-clause-numbers g c =
+close_desk-requires-clause-numbers g c = λ lifetimes outlive.
     let have = have_ended g.F.Src.Source.name g.F.Src.Source.left g.F.Src.Source.faults c.in-Ok.desk.board.shared.table_id c.args.loading.now.prefer 0
     (g.F.Shelf.files c.start_sessions.new.shelf) (g.F.Shelf.opened c.start_sessions.new.shelf) c.in_ok-sessions.sessions _ c.run_sessions.new.sessions
     c.as_mut_slice.ensures.value c.in_ok-sessions.ensures.ready c.in_ok-sessions.ensures.fresh c.run_sessions.ensures.sessions in
@@ -71,14 +71,14 @@ returns-in_err-end_all-clause-gathers g c =
     (subst (λ before. StopsAt status libraries (flow files before after)) (fun_ext c.in_ok-sessions.ensures.calm) stops)
 
 pub close_desk-requires-clause-known : goal.close_desk-requires-clause-known
-close_desk-requires-clause-known g c =
+close_desk-requires-clause-known g c = λ lifetimes outlive.
     let courses = courses_of g.F.Src.Source.name (with_items c.in_ok-sessions.sessions c.run_sessions.new.sessions).items in
     subst (AllByRecursion (λ left. length left.seen ≤ (root_of c.end_all.new.root).floor))
     (sym (c.in_ok-end_all.ensures.root.ended ∙ ap (λ ended. ended ++ map ended_of courses) (c.start_asker-asker.ensures.ended ∙ c.in_ok-sessions.ensures.ended)))
     c.in_ok-end_all.ensures.root.known
 
 pub close_desk-requires-clause-asked : goal.close_desk-requires-clause-asked
-close_desk-requires-clause-asked g c =
+close_desk-requires-clause-asked g c = λ lifetimes outlive.
     let asks = c.run_sessions.ensures.asker in
     let before = c.start_asker-asker.result in
     let seen = (view c.run_sessions.new.asker.pass).seen in

@@ -1,7 +1,7 @@
 use Rattle.std.proofs.Common.{◌≡◌, List, length, subst, ◌∙◌}
 use Rattle.edition_blocks.specs.Grouping.{kept_works}
 use Rattle.turn_plans.specs.Histories.{AreEditionsOf}
-use Rattle.catalogue_core.specs.Housing.{named_in}
+use Rattle.catalogue_core.proofs.Naming.{named_in}
 use Rattle.catalogue_editions.specs.declared.edition.Edition.{Edition}
 use Rattle.catalogue_core.specs.Catalogues.{CatalogueValue}
 use Rattle.catalogue_core.proofs.NamedLaws.{named-editions, named-count}

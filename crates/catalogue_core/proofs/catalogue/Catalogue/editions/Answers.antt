@@ -5,7 +5,7 @@ use Rattle.catalogue_editions.proofs.Apart.{ordered-from_sorted}
 use Rattle.swoosh_resolver.specs.Tables.{blocks_in, values_of}
 use Rattle.edition_blocks.specs.Grouping.{kept_works}
 use Rattle.turn_plans.specs.Histories.{AreEditionsOf, bases}
-use Rattle.catalogue_core.specs.Housing.{named_in}
+use Rattle.catalogue_core.proofs.Naming.{named_in}
 use Rattle.catalogue_core.specs.Catalogues.{CatalogueValue}
 use Rattle.edition_blocks.proofs.ByKey.{both-ok}
 use Rattle.catalogue_core.proofs.NamedLaws.{named-editions}

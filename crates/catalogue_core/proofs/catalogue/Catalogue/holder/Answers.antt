@@ -4,7 +4,7 @@ use Rattle.std.specs.Option.{option_map, option_copied}
 use Rattle.edition_blocks.specs.Grouping.{kept_works}
 use Rattle.turn_plans.specs.Histories.{at_id, is_current, current, AreEditionsOf}
 use Rattle.turn_plans.specs.Homes.{Block}
-use Rattle.catalogue_core.specs.Housing.{named_in}
+use Rattle.catalogue_core.proofs.Naming.{named_in}
 use Rattle.catalogue_core.specs.Walks.{holder_of}
 use Rattle.catalogue_editions.specs.declared.edition.Edition.{Edition}
 use Rattle.catalogue_core.specs.Catalogues.{CatalogueValue}

@@ -2,7 +2,7 @@ use Rattle.std.proofs.Common.{◌≡◌, Bor, List, map, filter, subst}
 use Rattle.std.proofs.lemmas.Result.{IfOk-weaker}
 use Rattle.edition_blocks.specs.Grouping.{kept_works}
 use Rattle.turn_plans.specs.Histories.{bases, AreEditionsOf}
-use Rattle.catalogue_core.specs.Housing.{named_in}
+use Rattle.catalogue_core.proofs.Naming.{named_in}
 use Rattle.catalogue_editions.specs.IndexKeys.{has_key}
 use Rattle.catalogue_editions.specs.declared.edition.Edition.{Edition}
 use Rattle.catalogue_core.specs.Catalogues.{CatalogueValue}

@@ -4,7 +4,7 @@ use Rattle.record_editions.specs.EditionKeys.{work_pairs}
 use Rattle.catalogue_editions.specs.declared.edition.Edition.{Edition}
 use Rattle.edition_blocks.specs.Grouping.{kept_works, list_in}
 use Rattle.turn_plans.specs.Histories.{AreEditionsOf}
-use Rattle.catalogue_core.specs.Housing.{named_in}
+use Rattle.catalogue_core.proofs.Naming.{named_in}
 use Rattle.catalogue_core.specs.Catalogues.{CatalogueValue}
 use Rattle.catalogue_core.proofs.NamedLaws.{named-editions, works-in_order}
 use Rattle.catalogue_core.proofs.catalogue.Catalogue.works.Goals as goal

@@ -1,7 +1,9 @@
 use Rattle.std.proofs.Common.{◌≡◌, ◌<◌, length, sym, ap, ◌∙◌, arith}
 use Rattle.std.proofs.lemmas.Bool.Decides.{nat_tests}
-use Rattle.library_batches.specs.Reading.{Batching}
+use Rattle.std.proofs.lemmas.Result.{err_from_is_err_and}
+use Rattle.library_batches.specs.Reading.{Batching, IsLost}
 use Rattle.library_batches.proofs.BlockLaws.{some_in-more, some_in-none}
+use Rattle.library_batches.proofs.StopLaws.{stops-reading}
 use Rattle.library_batches.proofs.PassedLaws.{Passes-block, Answers-batch, Answers-end, is_batch-block}
 use Rattle.library_batches.proofs.batch_reader.BatchReader.next.Goals as goal
 
@@ -44,3 +46,10 @@ loop-ops-preserved g c =
           (some_in-none ops.items none);
       fewer = omega (arith, c.in_ok-ops.ensures.answers.fewer, c.loop-ops.invariant.fewer);
     }
+
+pub returns-in_err-ops-clause-kept : goal.returns-in_err-ops-clause-kept
+returns-in_err-ops-clause-kept g c =
+    let p = err_from_is_err_and c.from_residual.result c.from_residual.ensures.1 in
+    rw (p.1, p.2)
+    (stops-reading IsLost c.in_err-ops.field-0.0 c.args.self.now c.loop-ops.self c.read_block.new.self (g.S.Source.left c.args.source.now) (g.S.Source.left c.loop-ops.source)
+    (g.S.Source.left c.read_block.new.source) c.loop-ops.invariant.passed c.in_err-ops.ensures.answers)

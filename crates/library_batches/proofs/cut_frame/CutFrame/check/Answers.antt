@@ -7,4 +7,4 @@ pub returns : goal.returns
 returns c = λ start taken before place checked.
     subst (λ (f : Frame). IsChecked c.args.origin.now.prefer.now c.args.origin.now.library.now start (taken ++ f ∷ []) c.check_next.new.ops.items before c.check_next.new.refused.items)
     (ap (λ (bytes : List ℕ). (c.self.inside.cut, bytes)) c.as_slice.ensures.value ∙ c.self.view_is)
-    (c.in_ok-check_next.ensures start taken before place checked)
+    (c.in_ok-check_next.ensures.checked start taken before place checked)

@@ -5,7 +5,7 @@ use Rattle.std.proofs.lemmas.Option.{IfSome_then}
 use Rattle.std.proofs.lemmas.Result.{IfOk-weaker}
 use Rattle.swoosh_resolver.specs.Tables.{Entry}
 use Rattle.swoosh_resolver.specs.Insertions.{MergesMatch}
-use Rattle.swoosh_halves.proofs.Pairing.{All-both, among_before, merges_first, merges_second}
+use Rattle.swoosh_halves.proofs.Pairing.{All-both, among_before, merges_first, merges_second, paid_both, paid_first}
 use Rattle.swoosh_resolver.proofs.Places.{IfNone_then, OnOk-from_either}
 use Rattle.swoosh_halves.proofs.both.Both.merge_next.Goals as goal
 
@@ -58,3 +58,20 @@ returns-in-None-clause-none g c =
           (All-map (λ w. g.R.Resolvable.meets c.args.value.now.value w ≡ false) (λ (e : Entry g.row.R.Denot ℕ). e.value) both.apart.items other.1),
     )))
     c.merge_match-in-None.ensures.none
+
+-- each way out has made no more tests than values of both rows are found for the value
+pub returns-in_err-merged-clause-cost : goal.returns-in_err-merged-clause-cost
+returns-in_err-merged-clause-cost g c =
+    let both = c.args.self.now in
+    paid_first g.R.Resolvable.is_found both.met.items both.apart.items c.args.value.now.value c.args.steps.now c.merge_match.new.steps c.merge_match.ensures.cost
+
+pub returns-in-Some-clause-cost : goal.returns-in-Some-clause-cost
+returns-in-Some-clause-cost g c =
+    let both = c.args.self.now in
+    paid_first g.R.Resolvable.is_found both.met.items both.apart.items c.args.value.now.value c.args.steps.now c.merge_match.new.steps c.merge_match.ensures.cost
+
+pub returns-in-None-clause-cost : goal.returns-in-None-clause-cost
+returns-in-None-clause-cost g c =
+    let both = c.args.self.now in
+    paid_both g.R.Resolvable.is_found both.met.items both.apart.items c.args.value.now.value c.args.steps.now c.merge_match.new.steps c.merge_match-in-None.new.steps
+    c.merge_match.ensures.cost c.merge_match-in-None.ensures.cost

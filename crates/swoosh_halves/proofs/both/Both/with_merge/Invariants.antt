@@ -1,7 +1,7 @@
 -- the merge so far, and the values that are not in it
-use Rattle.std.proofs.Common.{◌≡◌, None, [], ◌∷◌, ◌++◌, length}
+use Rattle.std.proofs.Common.{◌≡◌, None, ◌++◌, length}
 use Rattle.std.specs.Prelude.{Contains}
-use Rattle.merge_laws.proofs.Resolving.{IsResolving}
+use Rattle.merge_laws.proofs.Inserting.{IsInserting}
 use Rattle.swoosh_resolver.specs.Tables.{AreFree, values_of}
 use Rattle.swoosh_halves.proofs.both.Both.with_merge.Given as goal
 
@@ -9,7 +9,8 @@ abbrev pub invariant-loop-value : goal.invariant-loop-value
 invariant-loop-value g l = record {
   alone : l.value.base ≡ None;
   free : AreFree (l.both.met.items ++ l.both.apart.items);
-  resolving : IsResolving g.R.Resolvable.meets g.R.Join.join (values_of (l.fn.self.met.items ++ l.fn.self.apart.items) ++ l.fn.merge ∷ []) (l.value.value ∷ []) (values_of (l.both.met.items ++ l.both.apart.items));
+  inserting : IsInserting g.R.Resolvable.meets g.R.Join.join g.R.Resolvable.is_found (values_of (l.fn.self.met.items ++ l.fn.self.apart.items)) l.fn.merge l.initial.steps l.steps l.value.value
+      (values_of (l.both.met.items ++ l.both.apart.items));
   apart : (x : g.row.R.Denot) → Contains (values_of l.both.apart.items) x → Contains (values_of l.fn.self.apart.items) x;
 }
 

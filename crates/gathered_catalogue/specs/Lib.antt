@@ -1,0 +1,4 @@
+pub mod Tables
+pub mod Following
+pub mod Gathering
+pub mod Engines

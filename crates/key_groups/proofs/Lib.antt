@@ -1,0 +1,5 @@
+mod Noting
+mod Linking
+mod Pairing
+mod Labelling
+pub mod Grouping

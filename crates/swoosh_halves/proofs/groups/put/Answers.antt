@@ -1,7 +1,0 @@
-use Rattle.swoosh_halves.proofs.Grouping.{put_last}
-use Rattle.swoosh_halves.proofs.groups.put.Goals as goal
-
-pub returns : goal.returns
-returns g c =
-    put_last c.args.groups.now c.args.place c.index-groups-place.result c.push.new.self c.args.value (λ group. group.items)
-    c.requires c.in_ok-push.ensures.items

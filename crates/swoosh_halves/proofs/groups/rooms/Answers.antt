@@ -1,7 +1,0 @@
-use Rattle.swoosh_halves.proofs.Grouping.{empty_more}
-use Rattle.swoosh_halves.proofs.groups.rooms.Goals as goal
-
-pub loop-size-preserved : goal.loop-size-preserved
-loop-size-preserved g c =
-    rw c.in_ok-push.ensures.items
-    (empty_more c.loop-size.groups.items c.loop-size.size-index _ (λ group. group.items) c.loop-size.invariant c.in_ok-with_capacity.ensures.items)
