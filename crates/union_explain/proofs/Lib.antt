@@ -4,3 +4,6 @@ pub mod ReportLaws
 pub mod EntryLaws
 pub mod RowLaws
 pub mod RunLaws
+pub mod StopLaws
+pub mod CutLaws
+pub mod LineLaws

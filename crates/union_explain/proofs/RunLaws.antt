@@ -1,23 +1,14 @@
 -- How the table grows library by library.
-use Rattle.std.proofs.Common.{◌≡◌, ◌+◌, ◌-◌, ◌++◌, ◌∷◌, [], ℕ, zero, suc, Bool, ◌||◌, List, drop, Some, sym, ap, ◌∙◌, arith, append_assoc}
+use Rattle.std.proofs.Common.{◌≡◌, ◌+◌, ◌-◌, ◌++◌, ◌∷◌, [], ℕ, Bool, ◌||◌, List, drop, Some, sym, ap, ◌∙◌, arith, append_assoc}
 use Rattle.std.specs.Prelude.{codes, decimal}
 use Rattle.std.specs.List.{slice_get}
 use Rattle.union_words.specs.Words.{LibraryFile}
+use Rattle.union_words.proofs.StopLaws.{drop-get}
 use Rattle.union_explain.specs.Located.{located}
 use Rattle.union_explain.specs.Rows.{row_count, any_astray}
 use Rattle.union_explain.specs.Runs.{library_rows, all_rows, table_rows, are_astray, refused_in, counts_text}
 use Rattle.union_explain.specs.declared.form.Form.{Form}
 use Rattle.union_explain.proofs.RowLaws.{or_assoc}
-
--- what is left from a place on begins with what stands there
-drop-get : {X : Type 0} (xs : List X) (n : ℕ) (x : X) → slice_get xs n ≡ Some x → drop n xs ≡ x ∷ drop (n + 1) xs
-drop-get [] n x h = cc
-drop-get (y ∷ xs) zero x h =
-    let same : y ≡ x = cc in
-    ap (λ z. z ∷ xs) same
-drop-get (y ∷ xs) (suc n) x h =
-    let moved : suc n + 1 ≡ suc (n + 1) = omega arith in
-    drop-get xs n x h ∙ sym (ap (λ k. x ∷ drop k (y ∷ xs)) moved)
 
 -- the rows of the next library are added
 pub text-next : (form : Form) (report : List ℕ) (contents : List ℕ → List ℕ) (all : List LibraryFile) (place : ℕ) (file : LibraryFile)

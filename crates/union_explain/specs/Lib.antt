@@ -4,6 +4,7 @@ pub mod Pieces
 pub mod Located
 pub mod Gathered
 pub mod Locating
+pub mod Texts
 pub mod Rules
 pub mod Reports
 pub mod Glances
@@ -11,4 +12,6 @@ pub mod Broken
 pub mod Rows
 pub mod Tables
 pub mod Runs
+pub mod Conversions
 pub mod Requests
+pub mod Laws

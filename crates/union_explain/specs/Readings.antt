@@ -1,5 +1,5 @@
 -- What is ahead of a reader, and what it gives of that.
-use Rattle.std.specs.Prelude.{◌≡◌, ℕ, suc, ⊤, Bool, true, false, List, [], ◌∷◌, ◌++◌, drop, Option, Some, None}
+use Rattle.std.specs.Prelude.{◌≡◌, ◌<◌, ◌+◌, ◌^◌, ℕ, suc, ⊤, Bool, true, false, List, [], ◌∷◌, ◌++◌, length, drop, Option, Some, None, IfSome}
 use Rattle.std.specs.Option.{option_map}
 use Rattle.std.specs.List.{slice_get}
 use Rattle.union_io.specs.Causes.{Rose}
@@ -41,3 +41,13 @@ abbrev pub CountsStop : Stop → ℕ → ℕ → Type 0
 CountsStop Failed before now = Rose before now
 CountsStop TooLong before now = now ≡ before
 CountsStop Memory before now = now ≡ before
+
+-- as many bytes in all as before, of those that were given and those that are ahead
+abbrev pub GoesOn : ℕ → Option (List ℕ) → ℕ → Option (List ℕ) → Type 0
+GoesOn at None now after = ⊤
+GoesOn at (Some all) now None = ⊥
+GoesOn at (Some all) now (Some rest) = at + length all ≡ now + length rest
+
+-- more than 2^40 bytes in all
+abbrev pub IsLong : ℕ → Option (List ℕ) → Type 0
+IsLong at left = IfSome left (λ bytes. 2 ^ 40 < at + length bytes)

@@ -1,17 +1,18 @@
 -- The rows that are written.
 use Rattle.std.specs.Prelude.{ℕ, ◌+◌, ◌-◌, ◌==◌, Bool, List, [], ◌∷◌, ◌++◌, Option, Some, None, if◌then◌else◌, decimal, is_some}
 use Rattle.std.specs.List.{flat_map, list_any, slice_get}
+use Rattle.marc_fields.specs.RuleNames.{rule_name}
 use Rattle.marc_fields.specs.declared.rules.Failure.{Failure}
 use Rattle.marc_fields.specs.declared.rules.Rule.{Rule}
 use Rattle.union_explain.specs.Broken.{broken_by, is_as_told, is_astray}
 use Rattle.union_explain.specs.Glances.{control_number_of, tag_of}
 use Rattle.union_explain.specs.Located.{Located}
-use Rattle.union_explain.specs.Rules.{name_of, points_at_entry, meaning_of, advice_of}
+use Rattle.union_explain.specs.Rules.{points_at_entry, meaning_of, advice_of}
 use Rattle.union_explain.specs.declared.form.Form.{Form}
 use Rattle.union_explain.specs.declared.form.Form.TheVariants.{Tabs, Csv}
 use Rattle.union_explain.specs.declared.form.TheConstants.{HEADING}
 use Rattle.union_explain.specs.declared.reported.Reported.{Reported}
-use Rattle.union_explain.specs.declared.texts.TheConstants as texts
+use Rattle.union_explain.specs.Texts as texts
 
 -- a text with each quotation mark, 0x22, doubled
 abbrev pub doubled : List ℕ → List ℕ
@@ -45,17 +46,17 @@ tag_at rule place bytes = (if points_at_entry rule then tag_of place bytes else 
 -- what the record calls itself, and which field and rule it is about
 unfoldable pub name_cells : Form → Rule → ℕ → List ℕ → List ℕ
 name_cells form rule place bytes =
-    next_cell form (control_number_of bytes) ++ (next_cell form (tag_at rule place bytes) ++ next_cell form (name_of rule))
+    next_cell form (control_number_of bytes) ++ (next_cell form (tag_at rule place bytes) ++ next_cell form (rule_name rule))
 
 -- what is said of a record: what the rule of the report finds where the frame breaks it there, and else that the file is another
 abbrev pub said_of : Reported → Option Failure → List ℕ
 said_of told found =
     (if is_as_told told found then meaning_of told.rule told.place
-    else (if is_some found then texts.OTHER_RULE.now else texts.NO_RULE.now))
+    else (if is_some found then texts.other_rule else texts.no_rule))
 
 -- what to do
 abbrev pub advised_of : Reported → Option Failure → List ℕ
-advised_of told found = (if is_as_told told found then advice_of told.rule told.place else texts.OTHER_FILE_ADVICE.now)
+advised_of told found = (if is_as_told told found then advice_of told.rule told.place else texts.other_file_advice)
 
 -- what is said of the record, and what to do
 unfoldable pub word_cells : Form → Reported → Option Failure → List ℕ

@@ -1,9 +1,9 @@
--- What is said of a rule. The texts are those of src/texts.rt.
+-- What is said of a rule, in the texts of specs/Texts.antt.
 use Rattle.std.specs.Prelude.{ℕ, Bool, true, false, List, Option, Some, None, if◌then◌else◌, ◌==◌, codes}
 use Rattle.marc_fields.specs.declared.rules.Rule.{Rule}
 use Rattle.marc_fields.specs.declared.rules.Rule.TheVariants.{Truncated, TooLong, TooShort, LengthDigits, LengthDiffers, BaseAddress, LeaderCounts, EntryDigits, Tag, Tiling, Status, Coding, NotUtf8, ControlShape, DataShape, ControlNumber, Repeated, Fixed008, Title245}
 use Rattle.union_words.specs.Words.{is_text}
-use Rattle.union_explain.specs.declared.texts.TheConstants as texts
+use Rattle.union_explain.specs.Texts as texts
 
 -- the rule of that name
 abbrev pub rule_named : List ℕ → Option Rule
@@ -27,28 +27,6 @@ rule_named text =
     (if is_text text (codes "Repeated") then Some Repeated else
     (if is_text text (codes "Fixed008") then Some Fixed008 else
     (if is_text text (codes "Title245") then Some Title245 else None)))))))))))))))))))
-
--- the name of a rule, as a report writes it
-abbrev pub name_of : Rule → List ℕ
-name_of Truncated = codes "Truncated"
-name_of TooLong = codes "TooLong"
-name_of TooShort = codes "TooShort"
-name_of LengthDigits = codes "LengthDigits"
-name_of LengthDiffers = codes "LengthDiffers"
-name_of BaseAddress = codes "BaseAddress"
-name_of LeaderCounts = codes "LeaderCounts"
-name_of EntryDigits = codes "EntryDigits"
-name_of Tag = codes "Tag"
-name_of Tiling = codes "Tiling"
-name_of Status = codes "Status"
-name_of Coding = codes "Coding"
-name_of NotUtf8 = codes "NotUtf8"
-name_of ControlShape = codes "ControlShape"
-name_of DataShape = codes "DataShape"
-name_of ControlNumber = codes "ControlNumber"
-name_of Repeated = codes "Repeated"
-name_of Fixed008 = codes "Fixed008"
-name_of Title245 = codes "Title245"
 
 -- the place of a refusal by that rule is the number of an entry, where it is not 0
 abbrev pub points_at_entry : Rule → Bool
@@ -74,44 +52,44 @@ points_at_entry Title245 = true
 
 -- what the rule finds, by the place: at 0 it misses something in four of the rules
 abbrev pub meaning_of : Rule → ℕ → List ℕ
-meaning_of Truncated place = texts.TRUNCATED.now
-meaning_of TooLong place = texts.TOO_LONG.now
-meaning_of TooShort place = texts.TOO_SHORT.now
-meaning_of LengthDigits place = texts.LENGTH_DIGITS.now
-meaning_of LengthDiffers place = texts.LENGTH_DIFFERS.now
-meaning_of BaseAddress place = texts.BASE_ADDRESS.now
-meaning_of LeaderCounts place = texts.LEADER_COUNTS.now
-meaning_of EntryDigits place = texts.ENTRY_DIGITS.now
-meaning_of Tag place = texts.TAG.now
-meaning_of Tiling place = texts.TILING.now
-meaning_of Status place = texts.STATUS.now
-meaning_of Coding place = (if place == 0 then texts.UNKNOWN_CODING.now else texts.CODED.now)
-meaning_of NotUtf8 place = texts.NOT_UTF8.now
-meaning_of ControlShape place = texts.CONTROL_SHAPE.now
-meaning_of DataShape place = texts.DATA_SHAPE.now
-meaning_of ControlNumber place = (if place == 0 then texts.NO_CONTROL_NUMBER.now else texts.BAD_CONTROL_NUMBER.now)
-meaning_of Repeated place = texts.REPEATED.now
-meaning_of Fixed008 place = (if place == 0 then texts.NO_FIXED_008.now else texts.BAD_FIXED_008.now)
-meaning_of Title245 place = (if place == 0 then texts.NO_TITLE.now else texts.SECOND_TITLE.now)
+meaning_of Truncated place = texts.truncated
+meaning_of TooLong place = texts.too_long
+meaning_of TooShort place = texts.too_short
+meaning_of LengthDigits place = texts.length_digits
+meaning_of LengthDiffers place = texts.length_differs
+meaning_of BaseAddress place = texts.base_address
+meaning_of LeaderCounts place = texts.leader_counts
+meaning_of EntryDigits place = texts.entry_digits
+meaning_of Tag place = texts.tag
+meaning_of Tiling place = texts.tiling
+meaning_of Status place = texts.status
+meaning_of Coding place = (if place == 0 then texts.unknown_coding else texts.coded)
+meaning_of NotUtf8 place = texts.not_utf8
+meaning_of ControlShape place = texts.control_shape
+meaning_of DataShape place = texts.data_shape
+meaning_of ControlNumber place = (if place == 0 then texts.no_control_number else texts.bad_control_number)
+meaning_of Repeated place = texts.repeated
+meaning_of Fixed008 place = (if place == 0 then texts.no_fixed_008 else texts.bad_fixed_008)
+meaning_of Title245 place = (if place == 0 then texts.no_title else texts.second_title)
 
 -- what to do
 abbrev pub advice_of : Rule → ℕ → List ℕ
-advice_of Truncated place = texts.TRUNCATED_ADVICE.now
-advice_of TooLong place = texts.TOO_LONG_ADVICE.now
-advice_of TooShort place = texts.TOO_SHORT_ADVICE.now
-advice_of LengthDigits place = texts.LENGTH_DIGITS_ADVICE.now
-advice_of LengthDiffers place = texts.LENGTH_DIFFERS_ADVICE.now
-advice_of BaseAddress place = texts.BASE_ADDRESS_ADVICE.now
-advice_of LeaderCounts place = texts.LEADER_COUNTS_ADVICE.now
-advice_of EntryDigits place = texts.ENTRY_DIGITS_ADVICE.now
-advice_of Tag place = texts.TAG_ADVICE.now
-advice_of Tiling place = texts.TILING_ADVICE.now
-advice_of Status place = texts.STATUS_ADVICE.now
-advice_of Coding place = (if place == 0 then texts.UNKNOWN_CODING_ADVICE.now else texts.CODED_ADVICE.now)
-advice_of NotUtf8 place = texts.NOT_UTF8_ADVICE.now
-advice_of ControlShape place = texts.CONTROL_SHAPE_ADVICE.now
-advice_of DataShape place = texts.DATA_SHAPE_ADVICE.now
-advice_of ControlNumber place = (if place == 0 then texts.NO_CONTROL_NUMBER_ADVICE.now else texts.BAD_CONTROL_NUMBER_ADVICE.now)
-advice_of Repeated place = texts.REPEATED_ADVICE.now
-advice_of Fixed008 place = (if place == 0 then texts.NO_FIXED_008_ADVICE.now else texts.BAD_FIXED_008_ADVICE.now)
-advice_of Title245 place = (if place == 0 then texts.NO_TITLE_ADVICE.now else texts.SECOND_TITLE_ADVICE.now)
+advice_of Truncated place = texts.truncated_advice
+advice_of TooLong place = texts.too_long_advice
+advice_of TooShort place = texts.too_short_advice
+advice_of LengthDigits place = texts.length_digits_advice
+advice_of LengthDiffers place = texts.length_differs_advice
+advice_of BaseAddress place = texts.base_address_advice
+advice_of LeaderCounts place = texts.leader_counts_advice
+advice_of EntryDigits place = texts.entry_digits_advice
+advice_of Tag place = texts.tag_advice
+advice_of Tiling place = texts.tiling_advice
+advice_of Status place = texts.status_advice
+advice_of Coding place = (if place == 0 then texts.unknown_coding_advice else texts.coded_advice)
+advice_of NotUtf8 place = texts.not_utf8_advice
+advice_of ControlShape place = texts.control_shape_advice
+advice_of DataShape place = texts.data_shape_advice
+advice_of ControlNumber place = (if place == 0 then texts.no_control_number_advice else texts.bad_control_number_advice)
+advice_of Repeated place = texts.repeated_advice
+advice_of Fixed008 place = (if place == 0 then texts.no_fixed_008_advice else texts.bad_fixed_008_advice)
+advice_of Title245 place = (if place == 0 then texts.no_title_advice else texts.second_title_advice)

@@ -8,6 +8,11 @@ use Rattle.union_explain.specs.Reports.{refused_by, rising}
 use Rattle.union_explain.specs.Rows.{rows_of, row_count, any_astray, heading}
 use Rattle.union_explain.specs.declared.form.Form.{Form}
 use Rattle.union_explain.specs.declared.reported.Reported.{Reported}
+use Rattle.union_explain.specs.declared.stop.Stop.{Stop}
+use Rattle.union_explain.specs.declared.stop.Stop.TheVariants.{TooLong as StopTooLong, Failed as StopFailed, Memory as StopMemory}
+use Rattle.union_words.specs.declared.input.Input.{Input}
+use Rattle.union_words.specs.declared.status.Status.{Status}
+use Rattle.union_words.specs.declared.status.Status.TheVariants.{ReadFault, TooLong, Memory}
 
 -- the refused records of a library that the report tells of
 abbrev pub refused_in : List ℕ → List ℕ → List Reported
@@ -48,3 +53,9 @@ unfoldable pub counts_text : ℕ → ℕ → List ℕ
 counts_text lines rows =
     (codes "lines " ++ decimal lines)
     ++ ((codes " explained " ++ decimal rows) ++ ((codes " passed " ++ decimal (lines - rows)) ++ 0x0A ∷ []))
+
+-- the status for an input that was not read to its end
+abbrev pub stopped_with : Stop → Input → Status
+stopped_with StopTooLong input = TooLong input
+stopped_with StopFailed input = ReadFault input
+stopped_with StopMemory input = Memory

@@ -7,7 +7,6 @@ ghost use Rattle.union_explain.specs.Broken.{is_whole, cut_in, broken_by, is_as_
 
 use crate::frame::Frame;
 use crate::reported::Reported;
-use crate::rules::rule_name;
 use iso2709_frame::cut::{Cut, LARGEST_FRAME, RECORD_TERMINATOR};
 use marc_fields::ending::ends_in_only;
 use marc_fields::rules::Failure;
@@ -53,8 +52,7 @@ pub fn is_as_told(told: &Reported, found: Option<Failure>) -> bool
 {
     match found {
         Some(failure) => {
-            rule_name(failure.rule) == rule_name(told.rule)
-                && u64::from(failure.place) == told.place
+            failure.rule.name() == told.rule.name() && u64::from(failure.place) == told.place
         }
         None => false,
     }

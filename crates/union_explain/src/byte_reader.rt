@@ -3,7 +3,7 @@ ghost use Rattle.std.specs.Prelude.{⊤, ◌≡◌, ◌≤◌, ◌<◌, ◌+◌,
 ghost use Rattle.std.specs.declared.option.Option.{Option};
 ghost use Rattle.std.specs.Option.{option_to_list};
 ghost use Rattle.union_io.specs.Causes.{HasCause};
-ghost use Rattle.union_explain.specs.Readings.{Gives, ahead, CountsStop, Fills};
+ghost use Rattle.union_explain.specs.Readings.{Gives, GoesOn, IsLong, ahead, CountsStop, Fills};
 
 use crate::stop::Stop;
 use std::alloc::Global;
@@ -91,7 +91,11 @@ impl ByteReader {
         ensures at { IfOk result (λ byte. self.new.at
             ≡ self.old.at + length (option_to_list byte)) }
         ensures within { IfOk result (λ _. self.new.at ≤ 2 ^ 40) }
-        ensures too_long { result ≡ Err Stop.TooLong → self.old.at ≡ 2 ^ 40 }
+        ensures goes { IfOk result (λ _.
+            GoesOn self.old.at (ahead self.old.unread (S.left source.old))
+            self.new.at (ahead self.new.unread (S.left source.new))) }
+        ensures long { result ≡ Err Stop.TooLong
+            → IsLong self.old.at (ahead self.old.unread (S.left source.old)) }
         ensures faults { MatchResult result (λ _. S.faults source.new ≡ S.faults source.old)
             (λ stop. CountsStop stop (S.faults source.old) (S.faults source.new)) }
     {

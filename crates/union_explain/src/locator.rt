@@ -1,7 +1,7 @@
 //! The frames of a source, one after the other, each with its place.
-ghost use Rattle.std.specs.Prelude.{◌≡◌, ◌≤◌, ◌<◌, ◌^◌, ℕ, [], IfOk, MatchResult, Some, None, if◌then◌else◌};
+ghost use Rattle.std.specs.Prelude.{◌≡◌, ◌≤◌, ◌<◌, ◌^◌, ℕ, [], Err, IfOk, MatchResult, Some, None, if◌then◌else◌};
 ghost use Rattle.std.specs.declared.option.Option.{Option};
-ghost use Rattle.union_explain.specs.Readings.{Gives, Finds, ahead, CountsStop};
+ghost use Rattle.union_explain.specs.Readings.{Gives, Finds, GoesOn, IsLong, ahead, CountsStop};
 ghost use Rattle.union_explain.specs.Located.{located_ahead};
 
 use crate::byte_reader::ByteReader;
@@ -55,6 +55,11 @@ impl Locator {
             (located_ahead self.old.at (ahead self.old.unread (S.left source.old)))
             (located_ahead self.new.at (ahead self.new.unread (S.left source.new)))
             (if some then Some self.new.frame else None)) }
+        ensures goes { IfOk result (λ _.
+            GoesOn self.old.at (ahead self.old.unread (S.left source.old))
+            self.new.at (ahead self.new.unread (S.left source.new))) }
+        ensures long { result ≡ Err Stop.TooLong
+            → IsLong self.old.at (ahead self.old.unread (S.left source.old)) }
         ensures faults { MatchResult result (λ _. S.faults source.new ≡ S.faults source.old)
             (λ stop. CountsStop stop (S.faults source.old) (S.faults source.new)) }
     {
@@ -79,6 +84,11 @@ impl Locator {
             (located_ahead self.old.at (ahead self.old.unread (S.left source.old)))
             (located_ahead self.new.at (ahead self.new.unread (S.left source.new)))
             (if some then Some self.new.frame else None)) }
+        ensures goes { IfOk result (λ _.
+            GoesOn self.old.at (ahead self.old.unread (S.left source.old))
+            self.new.at (ahead self.new.unread (S.left source.new))) }
+        ensures long { result ≡ Err Stop.TooLong
+            → IsLong self.old.at (ahead self.old.unread (S.left source.old)) }
         ensures faults { MatchResult result (λ _. S.faults source.new ≡ S.faults source.old)
             (λ stop. CountsStop stop (S.faults source.old) (S.faults source.new)) }
     {

@@ -46,7 +46,8 @@ THE COUNTS
     'lines L explained E passed P': the report's lines that are not empty, the
     rows, and the lines without a row: counts, other libraries, a refused line
     whose number does not rise within its library, and one whose record the file
-    has not.
+    has not. Where records are refused that say they are in MARC-8 and are not
+    ASCII, 'MARC-8 N: COMMAND' tells how many, and what converts a file.
 
 EXIT STATUS
     0    done

@@ -1,6 +1,6 @@
 //! What is said of the rules.
 ghost use Rattle.std.specs.Prelude.{◌≡◌};
-ghost use Rattle.union_explain.specs.Rules.{rule_named, name_of, points_at_entry, meaning_of, advice_of};
+ghost use Rattle.union_explain.specs.Rules.{rule_named, points_at_entry, meaning_of, advice_of};
 
 use crate::texts;
 use marc_fields::rules::Rule;
@@ -49,33 +49,6 @@ pub fn rule_named(text: &[u8]) -> Option<Rule>
         Some(Rule::Title245)
     } else {
         None
-    }
-}
-
-/// The rule's name. Takes no memory.
-pub fn rule_name(rule: Rule) -> &'static [u8]
-    ensures { result.now ≡ name_of rule }
-{
-    match rule {
-        Rule::Truncated => b"Truncated",
-        Rule::TooLong => b"TooLong",
-        Rule::TooShort => b"TooShort",
-        Rule::LengthDigits => b"LengthDigits",
-        Rule::LengthDiffers => b"LengthDiffers",
-        Rule::BaseAddress => b"BaseAddress",
-        Rule::LeaderCounts => b"LeaderCounts",
-        Rule::EntryDigits => b"EntryDigits",
-        Rule::Tag => b"Tag",
-        Rule::Tiling => b"Tiling",
-        Rule::Status => b"Status",
-        Rule::Coding => b"Coding",
-        Rule::NotUtf8 => b"NotUtf8",
-        Rule::ControlShape => b"ControlShape",
-        Rule::DataShape => b"DataShape",
-        Rule::ControlNumber => b"ControlNumber",
-        Rule::Repeated => b"Repeated",
-        Rule::Fixed008 => b"Fixed008",
-        Rule::Title245 => b"Title245",
     }
 }
 

@@ -1,16 +1,16 @@
 //! The table of a report: the rows of each library that the command names.
-ghost use Rattle.std.specs.Prelude.{◌≡◌, ◌+◌, ◌-◌, ◌^◌, ◌++◌, ◌||◌, decimal, min, ℕ, List, Some, IfOk, IfErr, OnOk, IsTrue};
+ghost use Rattle.std.specs.Prelude.{◌≡◌, ◌≤◌, ◌+◌, ◌-◌, ◌^◌, ◌++◌, ◌||◌, decimal, min, ℕ, List, Some, Err, IfOk, IfErr, MatchResult, OnOk, vec_len};
 ghost use Rattle.std.specs.declared.option.Option.{Option};
-ghost use Rattle.union_io.specs.Causes.{Rose};
 ghost use Rattle.union_io.specs.Counts.{SameCounts};
-ghost use Rattle.union_words.specs.Meanings.{libraries_meaning};
-ghost use Rattle.union_words.specs.Statuses.{is_early, is_input_fault};
+ghost use Rattle.union_words.specs.Flows.{shelf_flow};
+ghost use Rattle.union_words.specs.Meanings.{file_meaning, libraries_meaning};
+ghost use Rattle.union_words.specs.Stops.{StopsAt, StopsAmong, input_of, inputs_of};
 ghost use Rattle.union_words.specs.Lines.{lines_of};
 ghost use Rattle.union_explain.specs.Located.{located};
-ghost use Rattle.union_explain.specs.Readings.{CountsStop};
+ghost use Rattle.union_explain.specs.Readings.{CountsStop, IsLong};
 ghost use Rattle.union_explain.specs.Reports.{IsRising};
 ghost use Rattle.union_explain.specs.Rows.{rows_of, row_count, any_astray};
-ghost use Rattle.union_explain.specs.Runs.{table_text, table_rows, are_astray, told_lines, counts_text};
+ghost use Rattle.union_explain.specs.Runs.{table_text, table_rows, are_astray, told_lines, counts_text, stopped_with};
 
 use crate::byte_reader::ByteReader;
 use crate::explain::add_rows;
@@ -30,12 +30,18 @@ use union_words::library_file::LibraryFile;
 use union_words::lines::Lines;
 use union_words::status::Status;
 
-/// The bytes of a source to its end. `Failed` comes only where a read failed, and `TooLong` only where the source has more
-/// than 2^40 bytes.
+/// The bytes of a source to its end.
+///
+/// Answers `Failed` only where a read failed, `TooLong` exactly where the source has more than 2^40 bytes and no read failed, and
+/// `Memory` if allocation fails.
 pub fn read_all<S: Source>(alloc: Global, source: &mut S) -> Result<Vec<u8>, Stop>
     ensures name { S.name source.new ≡ S.name source.old }
     ensures text { IfOk result (λ text. (bytes : List ℕ) → S.left source.old ≡ Some bytes
         → text.items ≡ bytes) }
+    ensures within { IfOk result (λ text. vec_len text ≤ 2 ^ 40) }
+    ensures long { result ≡ Err Stop.TooLong → IsLong 0 (S.left source.old) }
+    ensures faults { MatchResult result (λ _. S.faults source.new ≡ S.faults source.old)
+        (λ stop. CountsStop stop (S.faults source.old) (S.faults source.new)) }
 {
     let mut reader = ByteReader::open(alloc)?;
     let mut text = Vec::new(alloc);
@@ -47,8 +53,7 @@ pub fn read_all<S: Source>(alloc: Global, source: &mut S) -> Result<Vec<u8>, Sto
 
 /// How a run ends that stopped at the file of a library.
 fn stop_status(stop: Stop, input: Input) -> Status
-    ensures early { IsTrue (is_early result) }
-    ensures fault { IsTrue (is_input_fault result) → stop ≡ Stop.Failed }
+    ensures { result ≡ stopped_with stop input }
 {
     match stop {
         Stop::Failed => Status::ReadFault(input),
@@ -77,10 +82,9 @@ fn read_file<F: Shelf>(
     ensures astray { OnOk result ((contents : List ℕ → List ℕ) → F.files shelf.old ≡ Some contents
         → table.new.astray ≡ (table.old.astray
         || any_astray (located (contents file.now.path.now)) refused.now)) }
-    ensures early { IfErr result (λ status. IsTrue (is_early status)) }
     ensures calm { OnOk result (SameCounts (F.faults shelf.old) (F.faults shelf.new)) }
-    ensures fault { IfErr result (λ status. IsTrue (is_input_fault status)
-        → Rose (F.faults shelf.old file.now.path.now) (F.faults shelf.new file.now.path.now)) }
+    ensures stops { IfErr result (λ status. StopsAt status (input_of (file_meaning file.now))
+        (shelf_flow F.files F.faults shelf.old shelf.new)) }
 {
     let Ok(path) = Bytes::of(alloc, file.path) else {
         return Err(Status::Memory);
@@ -108,6 +112,12 @@ fn read_file<F: Shelf>(
 
 /// The table of a report: the rows of each library in the order of the command. A file is opened and read after the one before
 /// it. Where a file cannot be opened or read the run stops there, and there is no table.
+///
+/// # Errors
+///
+/// - `OpenFault`, `ReadFault`: this library's file could not be opened, or a read of it failed; nothing failed under another name.
+/// - `TooLong`: this library's file has more than 2^40 bytes, and nothing failed.
+/// - `Memory`: allocation failed.
 pub fn table_of<F: Shelf>(
     alloc: Global,
     form: Form,
@@ -125,8 +135,10 @@ pub fn table_of<F: Shelf>(
     ensures astray { IfOk result (λ table. (contents : List ℕ → List ℕ)
         → F.files shelf.old ≡ Some contents
         → table.astray ≡ are_astray report.now contents (libraries_meaning libraries.now)) }
-    ensures early { IfErr result (λ status. IsTrue (is_early status)) }
     ensures calm { OnOk result (SameCounts (F.faults shelf.old) (F.faults shelf.new)) }
+    ensures stops { IfErr result (λ status. StopsAmong status
+        (inputs_of (libraries_meaning libraries.now))
+        (shelf_flow F.files F.faults shelf.old shelf.new)) }
 {
     let Ok(mut table) = Table::new(alloc, form) else {
         return Err(Status::Memory);

@@ -10,7 +10,7 @@ use crate::form::Form;
 use crate::frame::Frame;
 use crate::glance::{control_number, tag};
 use crate::reported::Reported;
-use crate::rules::{advice, meaning, points_at_entry, rule_name};
+use crate::rules::{advice, meaning, points_at_entry};
 use crate::texts;
 use marc_fields::rules::{Failure, Rule};
 use std::alloc::{AllocError, Global};
@@ -77,7 +77,7 @@ fn add_names(
 {
     form.add_next(text, control_number(bytes))?;
     form.add_next(text, tag_at(rule, place, bytes))?;
-    form.add_next(text, rule_name(rule))?;
+    form.add_next(text, rule.name())?;
     Ok(())
 }
 

@@ -1,12 +1,14 @@
 //! The program that explains a report: the real files and streams, handed to the crate that does the work.
 #![tactic(auto)]
 
+use itoa::Buffer;
 use std::alloc::Global;
 use std::env;
 use std::io::ErrorKind;
 use std::process::ExitCode;
 use union_base::bytes::Bytes;
 use union_base::memory::Memory;
+use union_explain::conversion::{CONVERSION, marc8_refusals};
 use union_explain::form::Form;
 use union_explain::request::{HELP, Request, VERSION};
 use union_explain::run::{counts_text, read_all, table_of};
@@ -117,6 +119,26 @@ fn written(out: &mut OutSink, notes: &mut ErrSink, table: &Table, counts: &[u8])
     }
 }
 
+/// The counts, and where refusals may be mended by one conversion from MARC-8, how many and the command.
+fn notes_of(
+    alloc: Global,
+    libraries: &Libraries<'_>,
+    report: &[u8],
+    table: &Table,
+) -> Result<Vec<u8>, Memory> {
+    let mut text = counts_text(alloc, report, table.rows())?;
+    let refusals = marc8_refusals(alloc, libraries, report)?;
+    if !refusals.is_empty() {
+        let mut digits = Buffer::new();
+        text.extend_from_slice(b"MARC-8 ")?;
+        text.extend_from_slice(digits.format(refusals.len()).as_bytes())?;
+        text.extend_from_slice(b": ")?;
+        text.extend_from_slice(CONVERSION)?;
+        text.push(b'\n')?;
+    }
+    Ok(text)
+}
+
 /// Explains the report that standard input is.
 fn explain(
     rt: &HostRuntime,
@@ -142,9 +164,9 @@ fn explain(
     let mut shelf = FileShelf::new(alloc, files);
     End::Status(
         match table_of(alloc, form, libraries, report.as_slice(), &mut shelf) {
-            Ok(table) => match counts_text(alloc, report.as_slice(), table.rows()) {
+            Ok(table) => match notes_of(alloc, libraries, report.as_slice(), &table) {
                 Ok(counts) => written(out, notes, &table, counts.as_slice()),
-                Err(_) => Status::Memory,
+                Err(Memory) => Status::Memory,
             },
             Err(status) => status,
         },

@@ -2,4 +2,4 @@ mod PlacedLaws
 mod TakingLaws
 mod GroupLaws
 mod FileLaws
-mod SourceLaws
+mod PlacesLaws

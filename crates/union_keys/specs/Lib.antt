@@ -1,4 +1,3 @@
-pub mod Rules
 pub mod Standings
 pub mod Placed
 pub mod Readings

@@ -35,3 +35,7 @@ placed_from at text = placed_piece at (first_piece text) ++ placed_later at text
 -- the frames of a file in their order, the first of which has the number 1
 abbrev pub placed : List ℕ → List Placed
 placed text = placed_from 0 text
+
+-- how the frame there was cut, with its bytes where it is whole
+abbrev pub cut_at : Placed → Cut × List ℕ
+cut_at frame = (frame.cut, frame.bytes)

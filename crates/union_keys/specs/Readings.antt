@@ -4,7 +4,7 @@ use Rattle.marc_fields.specs.Spelling.{Spells}
 use Rattle.marc_parts.specs.declared.marc_record.Record.{Record}
 use Rattle.marc_fields.specs.declared.rules.Failure.{Failure}
 use Rattle.marc_rules.specs.NineteenRules.{first_rule}
-use Rattle.union_keys.specs.Rules.{name_of}
+use Rattle.marc_fields.specs.RuleNames.{rule_name}
 use Rattle.union_words.specs.Words.{LibraryFile}
 use Rattle.union_keys.specs.Placed.{Placed, placed}
 use Rattle.union_keys.specs.Standings.{standing_of}
@@ -19,7 +19,7 @@ pub record Read : Type 0 where
 unfoldable pub refused_line : List ℕ → ℕ → Failure → List ℕ
 refused_line library number failure =
     library
-    ++ (codes " refused " ++ (decimal number ++ (codes " " ++ (name_of failure.rule ++ (codes " " ++ (decimal failure.place ++ 0x0A ∷ []))))))
+    ++ (codes " refused " ++ (decimal number ++ (codes " " ++ (rule_name failure.rule ++ (codes " " ++ (decimal failure.place ++ 0x0A ∷ []))))))
 
 -- a frame that breaks a rule gets a line, and of one that breaks none the record is taken that it spells
 abbrev pub Takes : List ℕ → ℕ → Placed → Option Failure → Read → Read → Type 0

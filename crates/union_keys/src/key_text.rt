@@ -2,7 +2,7 @@
 ghost use Rattle.std.specs.Prelude.{◌≡◌, ◌++◌, ◌∷◌, OnOk};
 ghost use Rattle.std.specs.List.{flat_map};
 ghost use Rattle.hex.specs.Hex.{encode_lower};
-ghost use Rattle.match_features.specs.Posted.{posted, sought};
+ghost use Rattle.match_features.specs.KeyLists.{posted, sought};
 ghost use Rattle.union_keys.specs.Lines.{pair_text, description_text, key_text, key_cell, key_cells};
 
 use catalogue_editions::edition::Edition;

@@ -7,7 +7,6 @@ ghost use Rattle.union_keys.specs.Placed.{placed, placed_at, placed_piece};
 ghost use Rattle.union_keys.specs.Readings.{Takes, TakesAll, refused_line};
 
 use crate::frame_cut::{behind_breaks, cut_frame, piece_size};
-use crate::rules::rule_name;
 use crate::standing::Standing;
 use iso2709_frame::cut::Cut;
 use itoa::Buffer;
@@ -67,7 +66,7 @@ fn add_refused_line(
     text.extend_from_slice(b" refused")?;
     add_number(text, number)?;
     text.push(b' ')?;
-    text.extend_from_slice(rule_name(rule))?;
+    text.extend_from_slice(rule.name())?;
     add_number(text, u64::from(place))?;
     text.push(b'\n')?;
     Ok(())

@@ -8,6 +8,8 @@ use std::io::ErrorKind;
 use std::process::ExitCode;
 use union_base::bytes::Bytes;
 use union_base::memory::Memory;
+use union_files::text_file::LARGEST_FILE;
+use union_files::whole::read_whole;
 use union_io::failed::Failed;
 use union_io::file_shelf::FileShelf;
 use union_io::shelf::{OpenFail, Shelf};
@@ -17,7 +19,6 @@ use union_keys::groups::{group_lines, table_of};
 use union_keys::reading::Reading;
 use union_keys::request::{HELP, Request, VERSION};
 use union_keys::run::{each_line, read_files};
-use union_keys::text::read_whole;
 use union_words::libraries::Libraries;
 use union_words::status::Status;
 
@@ -161,7 +162,7 @@ fn groups_in<F: Shelf>(alloc: Global, path: &[u8], shelf: &mut F) -> Result<Vec<
     };
     match shelf.open(alloc, &path) {
         Ok(mut source) => {
-            let text = read_whole(alloc, &mut source);
+            let text = read_whole(alloc, &mut source, LARGEST_FILE);
             shelf.give_back(source);
             match text {
                 Ok(text) => Ok(text),

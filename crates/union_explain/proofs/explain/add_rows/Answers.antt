@@ -6,6 +6,7 @@ use Rattle.union_explain.specs.Readings.{ahead}
 use Rattle.union_explain.specs.Reports.{IsRising}
 use Rattle.union_explain.specs.Rows.{row}
 use Rattle.union_explain.proofs.RowLaws.{Remains, Remains-all, Remains-found, Remains-missed, Remains-none_text, Remains-none_rows, Remains-none_astray, Remains-first}
+use Rattle.union_explain.proofs.StopLaws.{ahead-begun, goes-more}
 use Rattle.union_explain.proofs.explain.add_rows.Goals.{then-found+in_ok-add, else-found}
 use Rattle.union_explain.proofs.explain.add_rows.Goals as goal
 
@@ -13,6 +14,7 @@ pub loop-told-init : goal.loop-told-init
 loop-told-init g c = record {
   name = refl;
   faults = refl;
+  goes = ahead-begun c.in_ok-locator.locator.at c.in_ok-locator.locator.unread (g.S.Source.left c.args.source.now) c.in_ok-locator.ensures.unread c.in_ok-locator.ensures.at;
   rising = c.requires;
   remains = λ bytes told. Remains-all c.args.form c.args.library.now bytes c.args.refused.now c.args.table.now.text c.args.table.now.rows
       c.in_ok-locator.locator.at c.args.table.now.astray c.in_ok-locator.locator.unread _ told c.in_ok-locator.ensures.unread c.in_ok-locator.ensures.at;
@@ -27,6 +29,7 @@ loop-told-preserved g c =
     record {
       name = c.nth.ensures.name ∙ c.loop-told.invariant.name;
       faults = c.in_ok-found.ensures.faults ∙ c.loop-told.invariant.faults;
+      goes = goes-more 0 c.loop-told.locator.at c.nth.new.self.at (g.S.Source.left c.args.source.now) _ _ c.loop-told.invariant.goes c.in_ok-found.ensures.goes;
       rising = rising.1;
       remains = λ bytes is.
           let h = Remains-first c.args.form c.args.library.now (located bytes) c.args.refused.now c.loop-told.rest.now behind told

@@ -1,6 +1,9 @@
 use Rattle.std.proofs.Common.{◌≡◌, ◌+◌, ◌++◌, ◌||◌, ℕ, List, Some, drop}
 use Rattle.union_io.specs.Counts.{SameCounts}
 use Rattle.union_words.specs.Meanings.{libraries_meaning}
+use Rattle.union_words.specs.Stops.{StopsAmong, inputs_of}
+use Rattle.union_words.specs.declared.status.Status.{Status}
+use Rattle.union_words.proofs.StopLaws.{Counts, flow}
 use Rattle.union_explain.specs.Runs.{all_rows, table_text, table_rows, are_astray}
 use Rattle.union_explain.proofs.run.table_of.Given as goal
 
@@ -9,6 +12,9 @@ abbrev pub invariant-loop-place : goal.invariant-loop-place
 invariant-loop-place g l = record {
   files : g.F.Shelf.files l.shelf ≡ g.F.Shelf.files l.fn.shelf;
   calm : SameCounts (g.F.Shelf.faults l.fn.shelf) (g.F.Shelf.faults l.shelf);
+  stops : (status : Status) (after : Counts)
+      → StopsAmong status (inputs_of (drop l.place (libraries_meaning l.libraries))) (flow (g.F.Shelf.files l.fn.shelf) (g.F.Shelf.faults l.fn.shelf) after)
+      → StopsAmong status (inputs_of (libraries_meaning l.libraries)) (flow (g.F.Shelf.files l.fn.shelf) (g.F.Shelf.faults l.fn.shelf) after);
   text : (contents : List ℕ → List ℕ) → g.F.Shelf.files l.fn.shelf ≡ Some contents
       → l.table.text ++ all_rows l.form l.report contents (drop l.place (libraries_meaning l.libraries))
       ≡ table_text l.form l.report contents (libraries_meaning l.libraries);

@@ -10,7 +10,7 @@ returns c =
       c.in_ok-add_number-2.ensures,
       c.from.ensures,
       c.in_ok-extend_from_slice-3.ensures.items,
-      c.rule_name.ensures,
+      c.name.ensures,
       c.in_ok-push.ensures.items,
       c.in_ok-add_number.ensures,
       c.in_ok-extend_from_slice-2.ensures.items,

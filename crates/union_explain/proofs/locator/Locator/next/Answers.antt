@@ -2,6 +2,7 @@ use Rattle.std.proofs.Common.{◌≡◌, ◌+◌, ◌∙◌, ap, length, nat_lt,
 use Rattle.std.specs.Option.{option_to_list}
 use Rattle.union_explain.specs.Readings.{ahead}
 use Rattle.union_explain.proofs.LocateLaws.{Gathers-end, Gathers-more, Gives-ended, Gives-last}
+use Rattle.union_explain.proofs.StopLaws.{goes-more}
 use Rattle.union_explain.proofs.locator.Locator.next.Goals as goal
 
 pub returns-in-None-clause-gives : goal.returns-in-None-clause-gives
@@ -40,5 +41,7 @@ loop-self-preserved g c =
           c.args.self.now.at c.loop-self.self-inside.reader.at c.next.new.self.at c.loop-self.self-inside.frame c.add.new.self
           c.in-Some.byte c.loop-self.invariant.gathers (rw c.in-Some.is at c.in_ok-next.ensures.gives)
           c.if-byte-eq-RECORD_TERMINATOR.false moved c.in_ok-add-in-Some.ensures;
+      goes = goes-more c.args.self.now.at c.loop-self.self-inside.reader.at c.next.new.self.at (ahead c.args.self.now.unread (g.S.Source.left c.args.source.now)) now after
+          c.loop-self.invariant.goes c.in_ok-next.ensures.goes;
       within = c.in_ok-next.ensures.within;
     }

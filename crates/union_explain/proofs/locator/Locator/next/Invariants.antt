@@ -1,5 +1,5 @@
 use Rattle.std.proofs.Common.{◌≡◌, ◌-◌, ◌≤◌, ◌^◌}
-use Rattle.union_explain.specs.Readings.{ahead}
+use Rattle.union_explain.specs.Readings.{ahead, GoesOn}
 use Rattle.union_explain.proofs.LocateLaws.{Gathers}
 use Rattle.union_explain.proofs.locator.Locator.next.Given as goal
 
@@ -10,6 +10,8 @@ invariant-loop-self g l = record {
   faults : g.S.Source.faults l.source ≡ g.S.Source.faults l.fn.source;
   gathers : Gathers (ahead l.fn.self.unread (g.S.Source.left l.fn.source)) (ahead l.self-inside.reader.unread (g.S.Source.left l.source))
       l.fn.self.at l.self-inside.reader.at l.self-inside.frame;
+  goes : GoesOn l.fn.self.at (ahead l.fn.self.unread (g.S.Source.left l.fn.source))
+      l.self-inside.reader.at (ahead l.self-inside.reader.unread (g.S.Source.left l.source));
   within : l.self-inside.reader.at ≤ 2 ^ 40;
 }
 

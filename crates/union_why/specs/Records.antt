@@ -1,0 +1,36 @@
+-- The current records, and what is told of them.
+use Rattle.std.specs.Prelude.{◌≡◌, ℕ, IsTrue, List, Some, reverse}
+use Rattle.std.specs.Map.{values_of}
+use Rattle.union_base.specs.declared.record_id.RecordId.{RecordId}
+use Rattle.merge_laws.specs.Resolution.{IsResolution}
+use Rattle.catalogue_editions.specs.Joining.{join}
+use Rattle.catalogue_editions.specs.Matching.{match}
+use Rattle.catalogue_editions.specs.declared.edition.Edition.{Edition}
+use Rattle.edition_derivations.specs.declared.asking.Answer.{Answer as AnswerInPlace}
+use Rattle.edition_derivations.specs.declared.step.Step.{Step}
+use Rattle.edition_derivations.specs.Answers.{Answers}
+use Rattle.edition_derivations.specs.Steps.{holds, IsDerivation, IsEditionOf}
+use Rattle.union_keys.specs.Groups.{Table}
+use Rattle.union_keys.specs.Lines.{editions_in}
+use Rattle.union_why.specs.Answers.{alone_text, answer_text}
+
+-- what the last records of their ids load, in descending order of the ids
+abbrev pub records_in : Table → List Edition
+records_in table = reverse (editions_in (values_of table))
+
+-- one of the editions to which the records resolve has the record, and it derives from the records by the steps that are told
+pub record TellsOne (records : List Edition) (id : RecordId) (text : List ℕ) : Type 0 where
+  pub edition : Edition
+  pub steps : List Step
+  pub of : IsEditionOf records edition
+  pub has : IsTrue (holds edition id)
+  pub derived : IsDerivation records steps edition
+  pub told : text ≡ alone_text id edition steps
+
+-- the two are told by the editions to which the records resolve
+pub record TellsTwo (records : List Edition) (one other : RecordId) (text : List ℕ) : Type 0 where
+  pub editions : List Edition
+  pub resolved : IsResolution match join records editions
+  pub answer : AnswerInPlace
+  pub answers : Answers records editions one other (Some answer)
+  pub told : text ≡ answer_text one other answer

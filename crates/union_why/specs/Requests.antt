@@ -1,0 +1,52 @@
+-- The forms of words that the program has, and what each asks for.
+use Rattle.std.specs.Prelude.{ℕ, ◌==◌, ◌&&◌, nat_le, Bool, List, [], ◌∷◌, length, take, drop, Option, Some, None, if◌then◌else◌, codes}
+use Rattle.std.specs.List.{list_all, before_first, position_or_len}
+use Rattle.union_base.specs.LibraryCodes.{is_library_code}
+use Rattle.union_words.specs.Meanings.{libraries_meaning}
+use Rattle.union_words.specs.Words.{LibraryFile, is_text, are_libraries, libraries_of}
+use Rattle.union_why.specs.declared.request.Request.{Request as RequestInPlace}
+use Rattle.union_why.specs.declared.request.Request.TheVariants.{Why as WhyInPlace, Help as HelpInPlace, Version as VersionInPlace}
+
+-- what the words ask for
+pub data Request : Type 0 where
+  Why : (libraries : List LibraryFile) (ids : List (List ℕ)) → Request
+  Help : Request
+  Version : Request
+
+-- what the code's request stands for
+abbrev pub request_meaning : RequestInPlace → Request
+request_meaning (WhyInPlace libraries ids) = Why (libraries_meaning libraries) ids.now
+request_meaning HelpInPlace = Help
+request_meaning VersionInPlace = Version
+
+-- an id `LIB.CTL`: what stands before its first full stop is a library's code
+abbrev pub is_id_word : List ℕ → Bool
+is_id_word word = is_library_code (before_first (λ b. b == 0x2E) word)
+
+-- how many words stand before the first id
+abbrev pub library_count : List (List ℕ) → ℕ
+library_count words = position_or_len is_id_word words
+
+-- one id or two
+abbrev pub are_ids : List (List ℕ) → Bool
+are_ids words = nat_le 1 (length words) && nat_le (length words) 2 && list_all is_id_word words
+
+-- one to 64 words `LIB=PATH`, no library twice, and then one or two ids
+abbrev pub why_of : List (List ℕ) → Option Request
+why_of words =
+    (if are_ids (drop (library_count words) words) && are_libraries (take (library_count words) words)
+    then Some (Why (libraries_of (take (library_count words) words)) (drop (library_count words) words))
+    else None)
+
+-- a word that stands alone
+abbrev pub alone_of : Request → List (List ℕ) → Option Request
+alone_of request [] = Some request
+alone_of request (word ∷ rest) = None
+
+-- what the words after the program's name ask for
+abbrev pub request_of : List (List ℕ) → Option Request
+request_of [] = None
+request_of (word ∷ rest) =
+    (if is_text word (codes "--help") then alone_of Help rest
+    else (if is_text word (codes "--version") then alone_of Version rest
+    else why_of (word ∷ rest)))

@@ -1,0 +1,176 @@
+//! What the words of the command line ask for, and the texts of the program's own.
+ghost use Rattle.std.specs.Prelude.{◌≡◌, ◌≤◌, IfOk, length, position};
+ghost use Rattle.std.specs.List.{list_all};
+ghost use Rattle.std.specs.Option.{option_map};
+ghost use Rattle.union_keys.specs.Groups.{id_in};
+ghost use Rattle.union_why.specs.Requests.{request_meaning, alone_of, why_of, request_of, is_id_word, are_ids, library_count};
+
+use crate::words::{after, before};
+use std::alloc::Global;
+use union_base::bytes::Bytes;
+use union_base::library_code::LibraryCode;
+use union_base::memory::Memory;
+use union_base::record_id::RecordId;
+use union_words::libraries::Libraries;
+
+/// The answer to `--version`.
+pub const VERSION: &[u8] = b"union-why 0.4.0\n";
+
+/// The answer to `--help`.
+pub const HELP: &[u8] = b"\
+union-why - say why records are one edition, and why they are not
+
+USAGE
+    union-why LIB=PATH .. ID [ID]
+    union-why --help          show this help
+    union-why --version       show the program's name and version
+
+    LIB is a library's code, PATH its file. There are 1 to 64 libraries, each
+    under a code of its own, as union export has them. '-' is no file: write
+    /dev/stdin for a file that comes from a pipe. ID is LIB.CTL: a library's
+    code, a full stop and a control number.
+
+WHAT IS WRITTEN
+    Of one record: how many records its edition has, and the steps by which they
+    came together. Of two records of one edition: the steps that are needed to
+    bring the two together. Each line has
+
+    number       from 1
+    side = side  the records of either side, with a plus sign between two; they
+                 came together in earlier lines
+    why          each rule by which the sides match, with one value for each of
+                 its parts, in normal form, which both sides have
+
+    Of two records of two editions: for each kind of feature whether the two
+    editions have a value in common, and which; else what each has.
+
+    The rules: a control number with its source, a type and an ISBN, a type and
+    an ISSN, or a type that is no serial's, a title, a date and a name. A type
+    is the type of record and the bibliographic level (leader/06 and 07).
+
+    union-explain says why records were refused.
+
+EXIT STATUS
+    0    done
+    1    done, and an ID is not current: a line says why
+    2    bad command line
+    3    cannot open: a file could not be opened
+    4    read failed: a file could not be read
+    5    write failed
+    6    too long: a file has more than 1,099,511,627,776 bytes
+    7    out of memory
+
+    With status 2, 3, 4, 6 or 7 standard error has one line that says why, and
+    standard output stays empty.
+
+COST
+    All records are kept in memory, some 3 KB each. Of an edition of m records
+    up to m * m pairs are compared, for two records several times: one of 10,000
+    records takes long.
+";
+
+/// What the program is asked to do. It borrows the words.
+#[derive(Clone, Copy)]
+pub enum Request<'a> {
+    /// `LIB=PATH .. ID [ID]`: tell of one or two records.
+    Why(Libraries<'a>, &'a [Bytes]),
+    /// `--help`: tell the forms of words.
+    Help,
+    /// `--version`: tell the program's name and version.
+    Version,
+}
+
+impl<'a> Request<'a> {
+    /// What the words after the program's name ask for: None exactly where they are in no form that the program has. Takes no
+    /// memory.
+    pub fn read(words: &'a [Bytes]) -> Option<Request<'a>>
+        ensures { option_map request_meaning result ≡ request_of words.now }
+    {
+        match words {
+            [] => None,
+            [word, rest @ ..] => {
+                if word.bytes() == b"--help".as_slice() {
+                    alone(Request::Help, rest)
+                } else if word.bytes() == b"--version".as_slice() {
+                    alone(Request::Version, rest)
+                } else {
+                    why(words)
+                }
+            }
+        }
+    }
+}
+
+/// The request, where no word follows it.
+fn alone<'a>(request: Request<'a>, rest: &[Bytes]) -> Option<Request<'a>>
+    ensures { option_map request_meaning result
+        ≡ alone_of (request_meaning request.entry) rest.now }
+{
+    match rest {
+        [] => Some(request),
+        _ => None,
+    }
+}
+
+/// Whether the word is an id: what stands before its first full stop is a library's code.
+fn is_id_word(word: &[u8]) -> bool
+    ensures { result ≡ is_id_word word.now }
+{
+    LibraryCode::read(before(b'.', word)).is_some()
+}
+
+/// How many words stand before the first id.
+fn library_count(words: &[Bytes]) -> usize
+    ensures value { result ≡ library_count words.now }
+    ensures within { result ≤ length words.now }
+{
+    match first_id(words) {
+        Some(at) => at,
+        None => words.len(),
+    }
+}
+
+fn first_id(words: &[Bytes]) -> Option<usize>
+    ensures { result ≡ position is_id_word words.now }
+{
+    words.iter().position(|word| is_id_word(word.bytes()))
+}
+
+/// Whether the words are one id or two.
+fn are_ids(words: &[Bytes]) -> bool
+    ensures { result ≡ are_ids words.now }
+{
+    1 <= words.len() && words.len() <= 2 && are_id_words(words)
+}
+
+fn are_id_words(words: &[Bytes]) -> bool
+    ensures { result ≡ list_all is_id_word words.now }
+{
+    words.iter().all(|word| is_id_word(word.bytes()))
+}
+
+/// The libraries and the ids that the words name.
+fn why<'a>(words: &'a [Bytes]) -> Option<Request<'a>>
+    ensures { option_map request_meaning result ≡ why_of words.now }
+{
+    let (front, ids) = words.split_at(library_count(words));
+    if !are_ids(ids) {
+        return None;
+    }
+    match Libraries::read(front) {
+        Some(libraries) => Some(Request::Why(libraries, ids)),
+        None => None,
+    }
+}
+
+/// The id in a text `LIB.CTL`: None where what stands before its first full stop is no library's code. Returns `Memory` if
+/// allocation fails.
+pub fn id_in(alloc: Global, text: &[u8]) -> Result<Option<RecordId>, Memory>
+    ensures { IfOk result (λ id. id ≡ id_in text.now) }
+{
+    let Some(library) = LibraryCode::read(before(b'.', text)) else {
+        return Ok(None);
+    };
+    let control = Bytes::of(alloc, after(b'.', text))?;
+    Ok(Some(RecordId { library, control }))
+}
