@@ -115,6 +115,30 @@ wrong_preference() {
   [ "$count" -le 64 ] || echo "'--prefer=..': there are more than 64 libraries"
 }
 
+# What is wrong with the ids behind the libraries of union-why: the words from the first on whose text before a full stop is a library's code.
+wrong_ids() {
+  local word
+  local LC_ALL=C
+  [ $# -gt 0 ] || { echo "an ID is missing, one record or two as LIB.CTL"; return; }
+  for word; do
+    [[ $word =~ ^[A-Z0-9]{1,16}\. ]] || { echo "'$word' must be LIB.CTL, a library's code, a full stop and a control number: the IDs come last"; return; }
+  done
+  [ $# -le 2 ] || echo "'$3': at most two IDs are told of"
+}
+
+# The same for union-why, whose ids stand behind the libraries.
+wrong_why() {
+  local count=0 word wrong
+  local LC_ALL=C
+  for word; do
+    [[ ! $word =~ ^[A-Z0-9]{1,16}\. ]] || break
+    count=$((count + 1))
+  done
+  wrong=$(wrong_libraries 64 "${@:1:count}")
+  [ -n "$wrong" ] || wrong=$(wrong_ids "${@:count + 1}")
+  echo "$wrong"
+}
+
 # The same for the programs that have no commands; `command` is the program's name.
 wrong_file_word() {
   local command=$me wrong
@@ -126,7 +150,7 @@ wrong_file_word() {
     --csv) [ "$me" != union-explain ] || shift ;;
     --groups=?*) [ "$me" != union-keys ] || shift ;;
   esac
-  wrong=$(wrong_libraries 64 "$@")
+  if [ "$me" = union-why ]; then wrong=$(wrong_why "$@"); else wrong=$(wrong_libraries 64 "$@"); fi
   echo "${wrong:-a path is not UTF-8}"
 }
 
@@ -200,6 +224,7 @@ wrong_file() {
 wrong_path() {
   local word why
   for word in "${@:2}"; do
+    [[ $me != union-why || ! $word =~ ^[A-Z0-9]{1,16}\. ]] || continue
     case $word in
       --ask=*) why=$(wrong_file "${word#--ask=}") ;;
       --names=* | --groups=*) why=$(wrong_file "${word#*=}") ;;

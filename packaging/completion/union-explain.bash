@@ -1,4 +1,4 @@
-# bash completion for union-explain(1), union-keys(1) and union-cluster(1)
+# bash completion for union-explain(1), union-keys(1), union-why(1), union-cluster(1) and union-overlap(1)
 
 _union_tools() {
   local word=$2 options=""
@@ -13,6 +13,16 @@ _union_tools() {
   case ${1##*/}:$COMP_CWORD in
     union-explain:1) options="--csv --help --version" ;;
     union-keys:1) options="--groups= --help --version" ;;
+    union-why:1) options="--help --version" ;;
+    union-overlap:*)
+      if [[ $word == -* ]]; then
+        options="--csv --help --version"
+      else
+        compopt -o filenames 2>/dev/null
+        mapfile -t COMPREPLY < <(compgen -f -- "$word")
+        return
+      fi
+      ;;
     union-cluster:*)
       options="--scheduler= --workers= --parts= --memory= --scratch= --block= --prefer= --names= --json --union= --keys= --progress --help --version"
       ;;
@@ -21,4 +31,4 @@ _union_tools() {
   [[ ${COMPREPLY[0]-} != --*= ]] || compopt -o nospace 2>/dev/null
 }
 
-complete -F _union_tools union-explain union-keys union-cluster
+complete -F _union_tools union-explain union-keys union-why union-cluster union-overlap
