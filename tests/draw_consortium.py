@@ -43,7 +43,7 @@ def record(draw, control, status, many):
 
 
 def delivery(draw, letter, records):
-    text, known = b"", []
+    text, known = bytearray(), []
     for number in range(records):
         kind = draw.random()
         if kind < 0.03:
