@@ -6,7 +6,7 @@ use Rattle.union_files.specs.Limits as all
 use Rattle.union_files.specs.declared.text_file.TheConstants.{LARGEST_TEXT}
 use Rattle.union_files.proofs.FileLaws.{flow, same_more}
 use Rattle.union_files.proofs.LimitLaws.{on_files}
-use Rattle.union_files.specs.Inputs.{AreWithin, StopsAt}
+use Rattle.union_files.specs.Inputs.{inputs_of, StopsAtLibraries}
 use Rattle.union_files.proofs.RunLaws.{stopped_at_libraries, within_cons}
 use Rattle.union_follow.specs.Following.{HasFollowed}
 use Rattle.union_watch.specs.AskLines.{lines_in}
@@ -38,8 +38,8 @@ returns-in-Ok-follow_and_answer-clause-run g c =
       text_is = asks.1;
       named = refl;
     }) texts in
-    let united : IfSome files (λ contents. AreWithin contents watch.libraries × HasFollowed (deliveries_of contents watch) loaded)
-    = subst (λ fs. IfSome fs (λ contents. AreWithin contents watch.libraries × HasFollowed (deliveries_of contents watch) loaded))
+    let united : IfSome files (λ contents. all.AreWithin contents (inputs_of watch.libraries) × HasFollowed (deliveries_of contents watch) loaded)
+    = subst (λ fs. IfSome fs (λ contents. all.AreWithin contents (inputs_of watch.libraries) × HasFollowed (deliveries_of contents watch) loaded))
     c.in-Ok.ensures.files c.in-Ok-follow_and_answer.ensures.gathers.1 in
     asked_run AreInOrder watch text no_names loaded (told_of (lines_in text) replies) answered.refused c.write_answered.result (flow files before after) _ _
     (same_more before between after c.in-Ok.ensures.reads.0 c.in-Ok-follow_and_answer.ensures.gathers.0) first
@@ -57,8 +57,8 @@ returns-in-Ok-clause-run g c =
     let first : IfSome files (λ contents. all.AreWithin contents (first_files watch))
     = on_files {P = λ contents. (length (contents c.args.asks.now) ≤ LARGEST_TEXT) × (c.in-Ok.text.items ≡ contents c.args.asks.now)} files
     (λ contents asks. within_cons contents (asks_file watch) [] asks.0 refl) c.in-Ok.ensures.reads.1 in
-    let stops : StopsAt status watch.libraries (flow files before after)
-    = subst (λ fs. StopsAt status watch.libraries (flow fs before after)) c.in-Ok.ensures.files c.in-Err-follow_and_answer.ensures.gathers in
+    let stops : StopsAtLibraries status watch.libraries (flow files before after)
+    = subst (λ fs. StopsAtLibraries status watch.libraries (flow fs before after)) c.in-Ok.ensures.files c.in-Err-follow_and_answer.ensures.gathers in
     rw c.end.ensures.same
     (stopped_at_libraries (IsWatchOf AreInOrder watch) status (first_files watch) watch.libraries files
     (g.F.Shelf.faults c.args.shelf.now) before after _ _ c.in-Ok.ensures.reads.0 first stops (keeps_all (g.O.Sink.written c.args.out.now)))

@@ -6,7 +6,8 @@ use Rattle.names_file.proofs.NamesLaws.{names_read}
 use Rattle.union_files.proofs.FileLaws.{flow, same_more}
 use Rattle.union_files.proofs.LimitLaws.{on_all, on_files}
 use Rattle.union_words.specs.Meanings.{loading_meaning}
-use Rattle.union_files.specs.Inputs.{AreWithin, StopsAt}
+use Rattle.union_files.specs.Inputs.{inputs_of, StopsAtLibraries}
+use Rattle.union_files.specs.Limits.{AreWithin}
 use Rattle.union_files.specs.Interleavings.{IsInterleaving}
 use Rattle.union_files.proofs.RunLaws.{stopped_at_libraries}
 use Rattle.union_watch.specs.Runs.{deliveries_of, showing_of, HasTurned, IsUnionOf}
@@ -25,7 +26,7 @@ returns-in-Ok-load_by_names-clause-run g c =
     let named = names_read (option_copied c.args.loading.now.names) c.in-Ok.names (flow files before between) c.in-Ok.ensures.reads in
     loaded_run (showing_of c.args.shown) names loaded c.write_shown.result loading (flow files before after) _ _
     (same_more before between after named.0 c.in-Ok-load_by_names.ensures.gathers.0) named.1
-    (subst (λ fs. IfSome fs (λ contents. AreWithin contents loading.libraries × HasTurned IsInterleaving names (deliveries_of contents loading) loaded))
+    (subst (λ fs. IfSome fs (λ contents. AreWithin contents (inputs_of loading.libraries) × HasTurned IsInterleaving names (deliveries_of contents loading) loaded))
     c.in-Ok.ensures.files c.in-Ok-load_by_names.ensures.gathers.1)
     c.write_shown.ensures
 
@@ -45,7 +46,7 @@ returns-in-Err-load_by_names-clause-run g c =
     rw c.end.ensures.same
     (stopped_at_libraries (IsUnionOf (showing_of c.args.shown) loading) status (names_inputs loading.names) loading.libraries files before between after _ _
     named.0 (on_files files (λ contents holds. holds.0) named.1)
-    (subst (λ fs. StopsAt status loading.libraries (flow fs between after)) c.in-Ok.ensures.files c.in-Err-load_by_names.ensures.gathers)
+    (subst (λ fs. StopsAtLibraries status loading.libraries (flow fs between after)) c.in-Ok.ensures.files c.in-Err-load_by_names.ensures.gathers)
     (keeps_all (g.O.Sink.written c.args.out.now)))
 
 pub returns-in-Err-clause-run : goal.returns-in-Err-clause-run

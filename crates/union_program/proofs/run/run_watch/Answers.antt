@@ -7,7 +7,7 @@ use Rattle.union_files.specs.Limits as all
 use Rattle.union_files.specs.declared.text_file.TheConstants.{LARGEST_TEXT}
 use Rattle.union_files.proofs.FileLaws.{flow, same_more}
 use Rattle.union_files.proofs.LimitLaws.{on_both, on_files}
-use Rattle.union_files.specs.Inputs.{AreWithin, StopsAt}
+use Rattle.union_files.specs.Inputs.{inputs_of, StopsAtLibraries}
 use Rattle.union_files.specs.Interleavings.{IsInterleaving}
 use Rattle.union_files.proofs.RunLaws.{stopped_at_libraries, within_cons}
 use Rattle.union_watch.specs.AskLines.{lines_in}
@@ -43,10 +43,10 @@ returns-in-Ok-load_and_answer-clause-run g c =
       text_is = asks.1;
       named = names.1;
     }) texts named_so in
-    let turned : IfSome files (λ contents. AreWithin contents watch.libraries × HasTurned IsInterleaving names (deliveries_of contents watch) loaded)
-    = subst (λ fs. IfSome fs (λ contents. AreWithin contents watch.libraries × HasTurned IsInterleaving names (deliveries_of contents watch) loaded))
+    let turned : IfSome files (λ contents. all.AreWithin contents (inputs_of watch.libraries) × HasTurned IsInterleaving names (deliveries_of contents watch) loaded)
+    = subst (λ fs. IfSome fs (λ contents. all.AreWithin contents (inputs_of watch.libraries) × HasTurned IsInterleaving names (deliveries_of contents watch) loaded))
     c.in-Ok.ensures.files
-    (subst (λ fs. IfSome fs (λ contents. AreWithin contents watch.libraries × HasTurned IsInterleaving names (deliveries_of contents watch) loaded))
+    (subst (λ fs. IfSome fs (λ contents. all.AreWithin contents (inputs_of watch.libraries) × HasTurned IsInterleaving names (deliveries_of contents watch) loaded))
     c.in-Ok-names_of.ensures.files c.in-Ok-load_and_answer.ensures.gathers.1) in
     asked_run IsInterleaving watch text names loaded (told_of (lines_in text) replies) answered.refused c.write_answered.result (flow files start end) _ _
     (same_more start asked end c.in-Ok.ensures.reads.0 (same_more asked named end read.0 c.in-Ok-load_and_answer.ensures.gathers.0)) first turned
@@ -69,9 +69,9 @@ returns-in-Ok-names_of-clause-run g c =
     let first : IfSome files (λ contents. all.AreWithin contents (first_files watch))
     = on_both {P = λ contents. (length (contents c.args.asks.now) ≤ LARGEST_TEXT) × (c.in-Ok.text.items ≡ contents c.args.asks.now)} files
     (λ contents asks names. within_cons contents (asks_file watch) (names_inputs watch.names) asks.0 names.0) c.in-Ok.ensures.reads.1 named_so in
-    let stops : StopsAt status watch.libraries (flow files named end)
-    = subst (λ fs. StopsAt status watch.libraries (flow fs named end)) c.in-Ok.ensures.files
-    (subst (λ fs. StopsAt status watch.libraries (flow fs named end)) c.in-Ok-names_of.ensures.files c.in-Err-load_and_answer.ensures.gathers) in
+    let stops : StopsAtLibraries status watch.libraries (flow files named end)
+    = subst (λ fs. StopsAtLibraries status watch.libraries (flow fs named end)) c.in-Ok.ensures.files
+    (subst (λ fs. StopsAtLibraries status watch.libraries (flow fs named end)) c.in-Ok-names_of.ensures.files c.in-Err-load_and_answer.ensures.gathers) in
     rw c.end.ensures.same
     (stopped_at_libraries (IsWatchOf IsInterleaving watch) status (first_files watch) watch.libraries files start named end _ _
     (same_more start asked named c.in-Ok.ensures.reads.0 read.0) first stops (keeps_all (g.O.Sink.written c.args.out.now)))
