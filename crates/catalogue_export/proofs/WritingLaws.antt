@@ -3,7 +3,7 @@ use Rattle.std.proofs.Common.{◌≡◌, ◌≤◌, ℕ, ◌+◌, List, [], ◌+
 use Rattle.std.specs.Prelude.{Result, Ok, Err}
 use Rattle.std.proofs.KnownBytes.{Appends-trans}
 use Rattle.std.proofs.Math.Seq.{take-append-add}
-use Rattle.std.proofs.lemmas.List.{take-append-le}
+use Rattle.std.proofs.lemmas.List.{take-append-le, take_all}
 use Rattle.std.specs.declared.option.Option.{Option}
 use Rattle.std.specs.declared.option.Option.TheVariants.{Some, None}
 use Rattle.std.specs.Io.KnownBytes.{Appends}
@@ -89,6 +89,11 @@ on-ok (Err error) holds = tt
 -- a list that stays as it was, or gains all
 pub gains-none : {A : Type 0} (old new more : List A) → new ≡ old → GainsFront old new more
 gains-none old new more same = record { front = []; rest = more; split = refl; grown = same ∙ sym (append-nil old) }
+
+-- what it gained is taken back
+pub taken-back : {A : Type 0} (had : ℕ) (old new more : List A) → had ≡ length old → GainsFront old new more → take had new ≡ old
+taken-back had old new more is gained =
+    ap (take had) gained.grown ∙ (take-append-le had old gained.front (omega (arith, is)) ∙ take_all had old (omega (arith, is)))
 
 pub gains-all : {A : Type 0} (old new more : List A) → new ≡ old ++ more → GainsFront old new more
 gains-all old new more is = record { front = more; rest = []; split = sym (append-nil more); grown = is }

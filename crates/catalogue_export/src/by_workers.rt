@@ -41,7 +41,7 @@ struct Part {
 /// makes no thread.
 ///
 /// Returns `WriteFault` only where a write of `out` failed, and `Memory` if allocation fails. A prefix of the export was
-/// written then, and `left` has gained a prefix of what it would have.
+/// written then, and `left` is as it was.
 pub fn export_by_workers<R: Threads + Sync, F: ExportForm + Send, O: Sink>(
     rt: &R,
     alloc: Global,
@@ -56,8 +56,7 @@ pub fn export_by_workers<R: Threads + Sync, F: ExportForm + Send, O: Sink>(
         × HasWritten (flat_map (F.shown catalogue.now.names) all)
         (outflow O.written O.faults out.old out.new) result
         × OnOk result (left.new.items ≡ left.old.items ++ left_of catalogue.now.names all)
-        × OnErr result (GainsFront left.old.items left.new.items
-        (left_of catalogue.now.names all)) }
+        × OnErr result (left.new.items ≡ left.old.items) }
 {
     match catalogue.editions(alloc) {
         Ok(editions) => {
@@ -65,18 +64,45 @@ pub fn export_by_workers<R: Threads + Sync, F: ExportForm + Send, O: Sink>(
                 names: catalogue.names(),
                 editions: editions.as_slice(),
             };
-            write_by_workers::<R, F, O>(rt, alloc, &listing, workers, out, left)
+            write_listing::<R, F, O>(rt, alloc, &listing, workers, out, left)
         }
         Err(Memory) => Err(ExportFail::Memory),
     }
 }
 
-/// Writes the records of the editions in this form, one after the other, made by `workers` workers, 1 to 64, as `export_by_workers` does of
-/// a catalogue.
+/// Writes the records of the editions as `write_by_workers` does. Where that stops, `left` is as it was.
+fn write_listing<R: Threads + Sync, F: ExportForm + Send, O: Sink>(
+    rt: &R,
+    alloc: Global,
+    listing: &Listing<'_>,
+    workers: u32,
+    out: &mut O,
+    left: &mut Vec<(RecordId, usize)>,
+) -> Result<(), ExportFail>
+    requires least { 1 ≤ workers }
+    requires most { workers ≤ 64 }
+    ensures written { HasWritten (flat_map (F.shown listing.now.names.now)
+        (map (λ e. e.now) listing.now.editions.now))
+        (outflow O.written O.faults out.old out.new) result }
+    ensures gained { OnOk result (left.new.items ≡ left.old.items
+        ++ left_of listing.now.names.now (map (λ e. e.now) listing.now.editions.now)) }
+    ensures unchanged { OnErr result (left.new.items ≡ left.old.items) }
+{
+    let had = left.len();
+    match write_by_workers::<R, F, O>(rt, alloc, listing, workers, out, left) {
+        Ok(()) => Ok(()),
+        Err(fail) => {
+            left.truncate(had);
+            Err(fail)
+        }
+    }
+}
+
+/// Writes the records of the editions in this form, one after the other, made by `workers` workers, 1 to 64.
 ///
 /// Returns `WriteFault` only where a write of `out` failed, and `Memory` if allocation fails. A prefix of the records was written
 /// then, and `left` has gained a prefix of what it would have.
-pub fn write_by_workers<R: Threads + Sync, F: ExportForm + Send, O: Sink>(
+fn write_by_workers<R: Threads + Sync, F: ExportForm + Send, O: Sink>(
     rt: &R,
     alloc: Global,
     listing: &Listing<'_>,

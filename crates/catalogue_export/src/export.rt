@@ -1,5 +1,6 @@
 //! The export of a catalogue.
 ghost use Rattle.std.specs.Prelude.{◌≡◌, ◌++◌, map, OnOk, OnErr, List};
+ghost use Rattle.std.specs.List.{flat_map};
 ghost use Rattle.catalogue_core.specs.Histories.{AreEditionsOf};
 ghost use Rattle.catalogue_editions.specs.declared.edition.Edition.{Edition as EditionModel};
 ghost use Rattle.catalogue_export.specs.Editions.{export_text, left_of_one, left_of};
@@ -22,7 +23,7 @@ use union_io::sink::Sink;
 /// handed on in pieces, so that memory does not grow with the export.
 ///
 /// Returns `WriteFault` only where a write of `out` failed, and `Memory` if allocation fails. A prefix of the export was
-/// written then, and `left` has gained a prefix of what it would have.
+/// written then, and `left` is as it was.
 pub fn export<O: Sink>(
     alloc: Global,
     catalogue: &Catalogue,
@@ -33,15 +34,38 @@ pub fn export<O: Sink>(
         × HasWritten (export_text catalogue.now.names all)
         (outflow O.written O.faults out.old out.new) result
         × OnOk result (left.new.items ≡ left.old.items ++ left_of catalogue.now.names all)
-        × OnErr result (GainsFront left.old.items left.new.items
-        (left_of catalogue.now.names all)) }
+        × OnErr result (left.new.items ≡ left.old.items) }
 {
     match catalogue.editions(alloc) {
         Ok(editions) => {
             let names = catalogue.names();
-            write_editions::<Iso2709, O>(alloc, names, editions.as_slice(), out, left)
+            write_listed::<Iso2709, O>(alloc, names, editions.as_slice(), out, left)
         }
         Err(Memory) => Err(ExportFail::Memory),
+    }
+}
+
+/// Writes the records of the editions as `write_editions` does. Where that stops, `left` is as it was.
+fn write_listed<F: ExportForm, O: Sink>(
+    alloc: Global,
+    names: &NameTable,
+    editions: &[&Edition],
+    out: &mut O,
+    left: &mut Vec<(RecordId, usize)>,
+) -> Result<(), ExportFail>
+    ensures written { HasWritten (flat_map (F.shown names.now) (map (λ e. e.now) editions.now))
+        (outflow O.written O.faults out.old out.new) result }
+    ensures gained { OnOk result (left.new.items ≡ left.old.items
+        ++ left_of names.now (map (λ e. e.now) editions.now)) }
+    ensures unchanged { OnErr result (left.new.items ≡ left.old.items) }
+{
+    let had = left.len();
+    match write_editions::<F, O>(alloc, names, editions, out, left) {
+        Ok(()) => Ok(()),
+        Err(fail) => {
+            left.truncate(had);
+            Err(fail)
+        }
     }
 }
 

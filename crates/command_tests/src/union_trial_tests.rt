@@ -1,6 +1,6 @@
 //! What no clause says of a trial: draws, frames and lines, as a script of another kind worked them out.
 ghost use Rattle.std.specs.Prelude.{◌≤◌};
-ghost use Rattle.union_trial.specs.declared.generator.TheConstants.{MOST_FRAMES};
+ghost use Rattle.union_trial.specs.Draws.{most_frames};
 
 use key_hashing::hashing::Hashing;
 use load_sessions::crew::Crew;
@@ -10,7 +10,7 @@ use std::thread::Threads;
 use union_base::library_code::LibraryCode;
 use union_io::mem_sink::MemSink;
 use union_trial::draws::Draws;
-use union_trial::generator::{Generator, MOST_FRAMES};
+use union_trial::generator::Generator;
 use union_trial::operations::operation;
 use union_trial::trial::trial_run;
 use union_words::status::Status;
@@ -63,7 +63,7 @@ fn trial<R: Threads + Sync>(
     limit: usize,
 ) -> Result<(Status, MemSink), AllocError>
     requires some { 1 ≤ count }
-    requires most { count ≤ MOST_FRAMES }
+    requires most { count ≤ most_frames }
     requires some_worker { 1 ≤ workers }
     requires most_workers { workers ≤ 64 }
 {

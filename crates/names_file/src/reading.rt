@@ -1,7 +1,7 @@
 //! The reading of a file of names.
 ghost use Rattle.std.specs.Prelude.{◌≡◌, ◌≢◌, ◌<◌, ◌+◌, ◌++◌, ◌∷◌, [], List, IfOk, OnOk};
 ghost use Rattle.iso2709_frame.specs.Frames.{frames, IsWhole};
-ghost use Rattle.library_stream.specs.declared.frame_reader.TheConstants.{LARGEST_SOURCE};
+ghost use Rattle.library_batches.specs.Reading.{most_bytes};
 ghost use Rattle.union_files.specs.Readings.{Reads};
 ghost use Rattle.names_file.specs.Judging.{Judged};
 ghost use Rattle.names_file.specs.NamesFiles.{IsReading, IsNamesRead, IsNamesFile, AreRead};
@@ -89,7 +89,7 @@ pub fn read_names<S: Source>(
     source: &mut S,
 ) -> Result<NamesRead, Stop>
     ensures name { S.name source.new ≡ S.name source.old }
-    ensures reads { Reads LARGEST_SOURCE result
+    ensures reads { Reads most_bytes result
         (record {
           told = S.left source.old;
           before = S.faults source.old;
@@ -110,7 +110,7 @@ pub fn read_names<S: Source>(
 /// Reads the frames of a source to its end.
 fn read_frames<S: Source>(alloc: Global, hashing: Hashing, source: &mut S) -> Result<Reading, Stop>
     ensures name { S.name source.new ≡ S.name source.old }
-    ensures reads { Reads LARGEST_SOURCE result
+    ensures reads { Reads most_bytes result
         (record {
           told = S.left source.old;
           before = S.faults source.old;

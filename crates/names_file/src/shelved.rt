@@ -1,9 +1,12 @@
 //! The file of names of a run, as a shelf has it.
-ghost use Rattle.std.specs.Prelude.{◌≡◌};
+ghost use Rattle.std.specs.Prelude.{◌≡◌, ◌∷◌, ◌++◌, IfOk, IfErr, List};
 ghost use Rattle.std.specs.Option.{option_copied};
 ghost use Rattle.iso2709_frame.specs.Frames.{frames};
+ghost use Rattle.union_io.specs.Names.{AddsName};
+ghost use Rattle.union_words.specs.Flows.{InputFile};
+ghost use Rattle.union_files.specs.Openings.{OpensEach, OpensInTurn};
 ghost use Rattle.union_files.specs.Readings.{ReadsFile};
-ghost use Rattle.names_file.specs.Named.{ReadsNames, names_file};
+ghost use Rattle.names_file.specs.Named.{ReadsNames, names_file, names_inputs};
 ghost use Rattle.names_file.specs.NamesFiles.{IsNamesFile};
 
 use crate::names_read::NamesRead;
@@ -36,6 +39,10 @@ fn read_names_file<F: Shelf>(
           after = F.faults shelf.new;
         })
         (λ found bytes. IsNamesFile (frames bytes) found) }
+    ensures opened { IfOk result (λ _. AddsName (F.opened shelf.old) (F.opened shelf.new) path.now) }
+    ensures in_turn { IfErr result (λ status. (rest : List InputFile)
+        → OpensInTurn (F.files shelf.old) status (names_file path.now ∷ rest) (F.opened shelf.old)
+        (F.opened shelf.new)) }
 {
     match shelf.open(alloc, path) {
         Ok(mut source) => {
@@ -70,6 +77,12 @@ pub fn names_of<F: Shelf>(
           before = F.faults shelf.old;
           after = F.faults shelf.new;
         }) }
+    ensures opened { IfOk result (λ _. OpensEach (names_inputs (option_copied path.entry))
+        (F.opened shelf.old) (F.opened shelf.new)) }
+    ensures in_turn { IfErr result (λ status. (rest : List InputFile)
+        → OpensInTurn (F.files shelf.old) status
+        (names_inputs (option_copied path.entry) ++ rest) (F.opened shelf.old)
+        (F.opened shelf.new)) }
 {
     match path {
         Some(path) => match Bytes::of(alloc, path) {

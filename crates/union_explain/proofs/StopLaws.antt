@@ -1,7 +1,8 @@
 -- How many bytes a reader gave, and why a file was not read to its end.
-use Rattle.std.proofs.Common.{◌≡◌, ℕ, ◌+◌, ◌<◌, ◌^◌, List, [], length, inl, refl, sym, ap, subst, ◌∙◌, arith, length-append}
+use Rattle.std.proofs.Common.{◌≡◌, ℕ, ◌+◌, ◌<◌, List, [], length, inl, refl, sym, ap, subst, ◌∙◌, arith, length-append}
 use Rattle.std.specs.Prelude.{Option, Some, None, IfSome, true}
 use Rattle.std.specs.Option.{option_to_list}
+use Rattle.library_batches.specs.Reading.{most_bytes}
 use Rattle.union_io.specs.Causes.{Rose}
 use Rattle.union_io.specs.Counts.{SameCounts, SameElsewhere}
 use Rattle.union_io.specs.Files.{told_file}
@@ -36,10 +37,10 @@ goes-byte at now (Some x) (Some y) (Some b) gives moved = omega (arith, moved, a
 pub long-before : (a b : ℕ) (one two : Option (List ℕ)) → GoesOn a one b two → IsLong b two → IsLong a one
 long-before a b None two goes long = tt
 long-before a b (Some x) None goes long = absurd goes
-long-before a b (Some x) (Some y) goes long = subst (λ n. 2 ^ 40 < n) (sym goes) long
+long-before a b (Some x) (Some y) goes long = subst (λ n. most_bytes < n) (sym goes) long
 
 -- a byte more than 2^40
-pub long-fill : (at : ℕ) (unread : List ℕ) (one left : Option (List ℕ)) → Fills one (ahead unread left) true → 0 < length unread → at ≡ 2 ^ 40 → IsLong at one
+pub long-fill : (at : ℕ) (unread : List ℕ) (one left : Option (List ℕ)) → Fills one (ahead unread left) true → 0 < length unread → at ≡ most_bytes → IsLong at one
 long-fill at unread None left fills some is = tt
 long-fill at unread (Some x) None fills some is = absurd fills
 long-fill at unread (Some x) (Some y) fills some is = omega (arith, some, is, ap length fills, length-append unread y)
@@ -52,7 +53,7 @@ ahead-begun at unread (Some x) none is = omega (arith, is, ap length none, lengt
 some_fault : (before after : ℕ) → before ≡ 0 → Rose before after → 0 < after
 some_fault before after none rose = let first : Rose 0 after = subst (λ n. Rose n after) none rose in omega (arith, first)
 
-long_file : (files : Option (List ℕ → List ℕ)) (path : List ℕ) → IsLong 0 (told_file files path) → IfSome files (λ contents. 2 ^ 40 < length (contents path))
+long_file : (files : Option (List ℕ → List ℕ)) (path : List ℕ) → IsLong 0 (told_file files path) → IfSome files (λ contents. most_bytes < length (contents path))
 long_file None path long = tt
 long_file (Some contents) path long = omega (arith, long)
 

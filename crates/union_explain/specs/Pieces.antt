@@ -1,5 +1,6 @@
 -- What the fields of a reader of bytes mean.
-use Rattle.std.specs.Prelude.{◌≡◌, ◌≤◌, ◌^◌, take, drop, vec_len}
+use Rattle.std.specs.Prelude.{◌≡◌, ◌≤◌, take, drop, vec_len}
+use Rattle.library_batches.specs.Reading.{most_bytes}
 use Rattle.union_explain.specs.Readings.{Reading}
 use Rattle.union_explain.specs.declared.byte_reader.ByteReader.TheInside.{Inside}
 use Rattle.union_explain.specs.declared.byte_reader.TheConstants.{PIECE}
@@ -13,4 +14,4 @@ pub record IsInPlace (reader : Inside) : Type 0 where
   pub room : vec_len reader.piece ≡ PIECE
   pub end : reader.to ≤ PIECE
   pub front : reader.from ≤ reader.to
-  pub within : reader.at ≤ 2 ^ 40
+  pub within : reader.at ≤ most_bytes

@@ -1,7 +1,8 @@
 -- What is ahead of a reader, and what it gives of that.
-use Rattle.std.specs.Prelude.{◌≡◌, ◌<◌, ◌+◌, ◌^◌, ℕ, suc, ⊤, Bool, true, false, List, [], ◌∷◌, ◌++◌, length, drop, Option, Some, None, IfSome}
+use Rattle.std.specs.Prelude.{◌≡◌, ◌<◌, ◌+◌, ℕ, suc, ⊤, Bool, true, false, List, [], ◌∷◌, ◌++◌, length, drop, Option, Some, None, IfSome}
 use Rattle.std.specs.Option.{option_map}
 use Rattle.std.specs.List.{slice_get}
+use Rattle.library_batches.specs.Reading.{most_bytes}
 use Rattle.union_io.specs.Causes.{Rose}
 use Rattle.union_explain.specs.declared.stop.Stop.{Stop}
 use Rattle.union_explain.specs.declared.stop.Stop.TheVariants.{Failed, TooLong, Memory}
@@ -50,4 +51,4 @@ GoesOn at (Some all) now (Some rest) = at + length all ≡ now + length rest
 
 -- more than 2^40 bytes in all
 abbrev pub IsLong : ℕ → Option (List ℕ) → Type 0
-IsLong at left = IfSome left (λ bytes. 2 ^ 40 < at + length bytes)
+IsLong at left = IfSome left (λ bytes. most_bytes < at + length bytes)

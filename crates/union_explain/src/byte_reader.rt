@@ -1,11 +1,13 @@
 //! The bytes of a source, one after the other, counted.
-ghost use Rattle.std.specs.Prelude.{⊤, ◌≡◌, ◌≤◌, ◌<◌, ◌+◌, ◌^◌, [], ◌∷◌, length, IfOk, MatchResult, MatchOption, OnOk, IsTrue, OnErr};
+ghost use Rattle.std.specs.Prelude.{⊤, ◌≡◌, ◌≤◌, ◌<◌, ◌+◌, [], ◌∷◌, length, IfOk, MatchResult, MatchOption, OnOk, IsTrue, OnErr};
 ghost use Rattle.std.specs.declared.option.Option.{Option};
 ghost use Rattle.std.specs.Option.{option_to_list};
+ghost use Rattle.library_batches.specs.Reading.{most_bytes};
 ghost use Rattle.union_io.specs.Causes.{HasCause};
 ghost use Rattle.union_explain.specs.Readings.{Gives, GoesOn, IsLong, ahead, CountsStop, Fills};
 
 use crate::stop::Stop;
+use library_stream::frame_reader::LARGEST_SOURCE;
 use std::alloc::Global;
 use std::marker::Model;
 use union_base::memory::Memory;
@@ -14,9 +16,6 @@ use union_io::source::Source;
 
 /// How many bytes are asked for at once.
 pub const PIECE: usize = 65_536;
-
-/// The most bytes that a source may give, 2^40.
-pub const LARGEST_SOURCE: u64 = 1_099_511_627_776;
 
 /// Reads a source byte by byte, and counts the bytes. Contracts see the bytes that were read and not yet given, and how many
 /// were given.
@@ -56,7 +55,7 @@ impl ByteReader {
     /// How many bytes were given: the offset of the next one. Takes no memory.
     pub fn at(&self) -> u64
         ensures value { result ≡ self.now.at }
-        ensures within { result ≤ 2 ^ 40 }
+        ensures within { result ≤ most_bytes }
     {
         self.at
     }
@@ -65,7 +64,7 @@ impl ByteReader {
     fn fill<S: Source>(&mut self, source: &mut S) -> Result<bool, Failed>
         ensures name { S.name source.new ≡ S.name source.old }
         ensures at { self.new.at ≡ self.old.at }
-        ensures within { self.new.at ≤ 2 ^ 40 }
+        ensures within { self.new.at ≤ most_bytes }
         ensures fills { IfOk result (λ some. Fills (ahead self.old.unread (S.left source.old))
             (ahead self.new.unread (S.left source.new)) some) }
         ensures some { IfOk result (λ some. IsTrue some → 0 < length self.new.unread) }
@@ -90,7 +89,7 @@ impl ByteReader {
             (ahead self.new.unread (S.left source.new)) byte) }
         ensures at { IfOk result (λ byte. self.new.at
             ≡ self.old.at + length (option_to_list byte)) }
-        ensures within { IfOk result (λ _. self.new.at ≤ 2 ^ 40) }
+        ensures within { IfOk result (λ _. self.new.at ≤ most_bytes) }
         ensures goes { IfOk result (λ _.
             GoesOn self.old.at (ahead self.old.unread (S.left source.old))
             self.new.at (ahead self.new.unread (S.left source.new))) }

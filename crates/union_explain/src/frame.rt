@@ -1,6 +1,7 @@
 //! A frame that is gathered byte by byte.
-ghost use Rattle.std.specs.Prelude.{◌≡◌, ◌+◌, ◌<◌, ◌≤◌, ◌^◌, ◌∷◌, ◌++◌, [], ℕ, List, OnOk, IsTrue, ◌||◌, ◌==◌};
+ghost use Rattle.std.specs.Prelude.{◌≡◌, ◌+◌, ◌<◌, ◌≤◌, ◌∷◌, ◌++◌, [], ℕ, List, OnOk, IsTrue, ◌||◌, ◌==◌};
 ghost use Rattle.iso2709_frame.specs.Frames.{is_break, is_terminator};
+ghost use Rattle.library_batches.specs.Reading.{most_bytes};
 ghost use Rattle.union_explain.specs.Located.{frame_at};
 
 use iso2709_frame::cut::{CARRIAGE_RETURN, LARGEST_FRAME, LINE_FEED, RECORD_TERMINATOR};
@@ -92,7 +93,7 @@ impl Frame {
 
     /// Adds the next byte of the piece.
     pub fn add(&mut self, byte: u8) -> Result<(), Memory>
-        requires { self.old.first + self.old.size ≤ 2 ^ 40 }
+        requires { self.old.first + self.old.size ≤ most_bytes }
         ensures { OnOk result ((at : ℕ) (front : List ℕ) → self.old ≡ frame_at at front
             → self.new ≡ frame_at at (front ++ byte ∷ [])) }
     {

@@ -1,6 +1,7 @@
 //! The table of a report: the rows of each library that the command names.
 ghost use Rattle.std.specs.Prelude.{◌≡◌, ◌≤◌, ◌+◌, ◌-◌, ◌^◌, ◌++◌, ◌||◌, decimal, min, ℕ, List, Some, Err, IfOk, IfErr, MatchResult, OnOk, vec_len};
 ghost use Rattle.std.specs.declared.option.Option.{Option};
+ghost use Rattle.library_batches.specs.Reading.{most_bytes};
 ghost use Rattle.union_io.specs.Counts.{SameCounts};
 ghost use Rattle.union_words.specs.Flows.{shelf_flow};
 ghost use Rattle.union_words.specs.Meanings.{file_meaning, libraries_meaning};
@@ -38,7 +39,7 @@ pub fn read_all<S: Source>(alloc: Global, source: &mut S) -> Result<Vec<u8>, Sto
     ensures name { S.name source.new ≡ S.name source.old }
     ensures text { IfOk result (λ text. (bytes : List ℕ) → S.left source.old ≡ Some bytes
         → text.items ≡ bytes) }
-    ensures within { IfOk result (λ text. vec_len text ≤ 2 ^ 40) }
+    ensures within { IfOk result (λ text. vec_len text ≤ most_bytes) }
     ensures long { result ≡ Err Stop.TooLong → IsLong 0 (S.left source.old) }
     ensures faults { MatchResult result (λ _. S.faults source.new ≡ S.faults source.old)
         (λ stop. CountsStop stop (S.faults source.old) (S.faults source.new)) }

@@ -4,6 +4,7 @@ pub mod LimitLaws
 pub mod BatchLaws
 pub mod FrameLaws
 pub mod InputLaws
+pub mod OpeningLaws
 pub mod DistinctLaws
 pub mod OwnLaws
 pub mod InterleavingLaws

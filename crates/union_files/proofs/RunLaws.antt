@@ -12,7 +12,6 @@ use Rattle.union_words.specs.Flows.{ShelfFlow, IsCalm, InputFile, IsOneOf, Fails
 use Rattle.union_words.specs.Words.{LibraryFile}
 use Rattle.union_words.specs.Statuses.{is_done, is_input_fault}
 use Rattle.union_words.specs.declared.input.Input.{Input}
-use Rattle.union_words.specs.declared.input.Input.TheVariants.{Library}
 use Rattle.union_words.specs.declared.status.Status.{Status}
 use Rattle.union_words.specs.declared.status.Status.TheVariants.{Done, DoneWithRefusals, Usage, OpenFault, ReadFault, WriteFault, TooLong, Memory}
 use Rattle.union_files.specs.Limits as all
@@ -20,7 +19,7 @@ use Rattle.union_files.specs.Readings as one
 use Rattle.union_files.specs.Limits.{Contents}
 use Rattle.union_files.proofs.FileLaws.{Counts, flow, same_more}
 use Rattle.union_files.proofs.LimitLaws.{not_over, none_fails, told, within_none, on_both}
-use Rattle.union_files.specs.Inputs.{input_of, inputs_of, is_overfull, first_overfull, AreWithin, IsEarliest, FailsEarliest, StopsAt}
+use Rattle.union_files.specs.Inputs.{inputs_of, IsEarliest, FailsEarliest, StopsAtLibraries}
 use Rattle.union_files.specs.Runs.{RunTexts, IsRunOver}
 
 -- how the input of a file is named
@@ -70,23 +69,9 @@ over_first contents before file after more within long =
     (first_of contents (before ++ file ∷ after) more
     ∙ ap (λ found. option_or found (all.first_overfull contents more)) (over_at contents before file after within long))
 
--- the libraries' files as inputs
-find-files : (contents : Contents) (libraries : List LibraryFile)
-    → all.first_overfull contents (inputs_of libraries) ≡ option_map input_of (first_overfull contents libraries)
-find-files contents [] = refl
-find-files contents (file ∷ rest) =
-    elim (is_overfull contents file) as (λ over. cond over (Some (input_of file)) (all.first_overfull contents (inputs_of rest))
-    ≡ option_map input_of (cond over (Some file) (first_overfull contents rest)))
-    [ true ↦ refl | false ↦ find-files contents rest ]
-
--- after files that are not too long it is one of the libraries' files
-files_behind : (contents : Contents) (first : List InputFile) (libraries : List LibraryFile) → all.AreWithin contents first
-    → all.first_overfull contents (first ++ inputs_of libraries) ≡ option_map input_of (first_overfull contents libraries)
-files_behind contents first libraries within = behind_first contents first (inputs_of libraries) within ∙ find-files contents libraries
-
 pub within_all : (contents : Contents) (first : List InputFile) (libraries : List LibraryFile) → all.AreWithin contents first
-    → AreWithin contents libraries → all.AreWithin contents (first ++ inputs_of libraries)
-within_all contents first libraries fits within = files_behind contents first libraries fits ∙ ap (option_map input_of) within
+    → all.AreWithin contents (inputs_of libraries) → all.AreWithin contents (first ++ inputs_of libraries)
+within_all contents first libraries fits within = behind_first contents first (inputs_of libraries) fits ∙ within
 
 -- one file before them that is not too long
 pub within_cons : (contents : Contents) (file : InputFile) (rest : List InputFile) → length (contents file.path) ≤ all.limit_of file.input
@@ -94,16 +79,9 @@ pub within_cons : (contents : Contents) (file : InputFile) (rest : List InputFil
 within_cons contents file rest fits within =
     ap (λ over. cond over (Some file) (all.first_overfull contents rest)) (not_over (all.limit_of file.input) (length (contents file.path)) fits) ∙ within
 
-named_so : (found : Option LibraryFile)
-    → option_map named (option_map input_of found) ≡ option_map (λ (file : LibraryFile). Library file.library) found
-named_so None = refl
-named_so (Some file) = refl
-
 first_named : (contents : Contents) (first : List InputFile) (libraries : List LibraryFile) → all.AreWithin contents first
-    → option_map named (all.first_overfull contents (first ++ inputs_of libraries))
-    ≡ option_map (λ (file : LibraryFile). Library file.library) (first_overfull contents libraries)
-first_named contents first libraries within =
-    ap (option_map named) (files_behind contents first libraries within) ∙ named_so (first_overfull contents libraries)
+    → option_map named (all.first_overfull contents (first ++ inputs_of libraries)) ≡ option_map named (all.first_overfull contents (inputs_of libraries))
+first_named contents first libraries within = ap (option_map named) (behind_first contents first (inputs_of libraries) within)
 
 -- ---- why a run stops
 
@@ -182,7 +160,7 @@ reads_behind libraries files a b c input same fails = record {
 
 -- at the libraries' files, where the first files were read
 library_stops : (status : Status) (first : List InputFile) (libraries : List LibraryFile) (files : Option Contents) (a b c : Counts) → SameCounts a b
-    → IfSome files (λ contents. all.AreWithin contents first) → StopsAt status libraries (flow files b c)
+    → IfSome files (λ contents. all.AreWithin contents first) → StopsAtLibraries status libraries (flow files b c)
     → Stops status first libraries (flow files a c)
 library_stops (OpenFault input) first libraries files a b c same fits stops = fails_behind first libraries files a b c input same stops
 library_stops (ReadFault input) first libraries files a b c same fits stops = inr (reads_behind libraries files a b c input same stops)
@@ -289,7 +267,7 @@ stopped_first AreTexts status before file after libraries shelf out notes fits s
 -- a run that read those, and stops at the libraries' files
 pub stopped_at_libraries : (AreTexts : RunTexts) (status : Status) (first : List InputFile) (libraries : List LibraryFile) (files : Option Contents)
     (a b c : Counts) (out notes : Outflow) → SameCounts a b → IfSome files (λ contents. all.AreWithin contents first)
-    → StopsAt status libraries (flow files b c) → Keeps out.old out.new
+    → StopsAtLibraries status libraries (flow files b c) → Keeps out.old out.new
     → IsRunOver first libraries AreTexts (flow files a c) out notes status
 stopped_at_libraries AreTexts status first libraries files a b c out notes same fits stops keeps =
     stopped_run AreTexts status first libraries (flow files a c) out notes (library_stops status first libraries files a b c same fits stops) keeps

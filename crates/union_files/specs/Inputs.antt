@@ -1,39 +1,22 @@
 -- The inputs of a run: the files of libraries in the order of the command, as a shelf has them.
-use Rattle.std.specs.Prelude.{◌≡◌, ◌≢◌, ◌⊎◌, ⊤, ℕ, Bool, true, false, nat_lt, List, [], ◌∷◌, length, map, Ok, Err, Some, None, IfSome, IsTrue}
-use Rattle.std.specs.List.{find, AllByRecursion}
-use Rattle.std.specs.Option.{option_map}
+use Rattle.std.specs.Prelude.{◌≡◌, ◌≢◌, ◌⊎◌, ⊤, ℕ, Bool, true, false, List, [], ◌∷◌, map, Ok, Err, IfSome, IsTrue}
+use Rattle.std.specs.List.{AllByRecursion}
 use Rattle.std.specs.declared.option.Option.{Option}
 use Rattle.std.specs.declared.result.Result.{Result}
 use Rattle.iso2709_frame.specs.Frames.{frames}
-use Rattle.library_batches.specs.Reading.{most_bytes}
 use Rattle.union_io.specs.Causes.{Rose}
 use Rattle.union_io.specs.Files.{told_file}
-use Rattle.union_io.specs.Names.{is_among, AddsName}
+use Rattle.union_io.specs.Names.{is_among}
 use Rattle.union_words.specs.Flows.{ShelfFlow, IsCalm, InputFile, FailsAt}
 pub use Rattle.union_words.specs.Stops.{input_of, inputs_of}
 use Rattle.union_words.specs.Words.{LibraryFile}
 use Rattle.union_words.specs.declared.input.Input.{Input}
-use Rattle.union_words.specs.declared.input.Input.TheVariants.{Library}
 use Rattle.union_words.specs.declared.status.Status.{Status}
 use Rattle.union_words.specs.declared.status.Status.TheVariants.{Done, DoneWithRefusals, Usage, OpenFault, ReadFault, WriteFault, TooLong, Memory}
 use Rattle.union_files.specs.Deliveries.{Delivery, delivery}
+use Rattle.union_files.specs.Limits.{AreWithin, IsTooLongAt}
+use Rattle.union_files.specs.Openings.{OpensUpTo}
 use Rattle.union_files.specs.declared.opened_file.OpenedFile.{OpenedFile}
-
--- the library's file is too long: it has more bytes than are read
-abbrev pub is_overfull : (List ℕ → List ℕ) → LibraryFile → Bool
-is_overfull contents file = nat_lt most_bytes (length (contents file.path))
-
--- the first of the libraries' files that is too long
-abbrev pub first_overfull : (List ℕ → List ℕ) → List LibraryFile → Option LibraryFile
-first_overfull contents libraries = find (is_overfull contents) libraries
-
--- none of the libraries' files is too long
-abbrev pub AreWithin : (List ℕ → List ℕ) → List LibraryFile → Type 0
-AreWithin contents libraries = first_overfull contents libraries ≡ None
-
--- the input is that of the first library whose file is too long
-abbrev pub IsTooLongAt : (List ℕ → List ℕ) → List LibraryFile → Input → Type 0
-IsTooLongAt contents libraries input = option_map (λ file. Library file.library) (first_overfull contents libraries) ≡ Some input
 
 -- what the files deliver, where the records are loaded by that preference
 abbrev pub deliveries : List (List ℕ) → (List ℕ → List ℕ) → List LibraryFile → List Delivery
@@ -58,16 +41,16 @@ pub record FailsEarliest (inputs : List InputFile) (shelf : ShelfFlow) (input : 
   pub failed : Rose (shelf.before file.path) (shelf.after file.path)
   pub others : (name : List ℕ) → IsElsewhere name inputs → shelf.after name ≡ shelf.before name
 
--- the run stops at its inputs with this status
-abbrev pub StopsAt : Status → List LibraryFile → ShelfFlow → Type 0
-StopsAt (OpenFault input) libraries shelf = FailsAt (inputs_of libraries) shelf input
-StopsAt (ReadFault input) libraries shelf = FailsEarliest (inputs_of libraries) shelf input
-StopsAt (TooLong input) libraries shelf = IsCalm shelf × IfSome shelf.files (λ contents. IsTooLongAt contents libraries input)
-StopsAt Memory libraries shelf = IsCalm shelf
-StopsAt Done libraries shelf = ⊥
-StopsAt DoneWithRefusals libraries shelf = ⊥
-StopsAt Usage libraries shelf = ⊥
-StopsAt WriteFault libraries shelf = ⊥
+-- the run stops with this status at the libraries' files, of which each is open before one is read
+abbrev pub StopsAtLibraries : Status → List LibraryFile → ShelfFlow → Type 0
+StopsAtLibraries (OpenFault input) libraries shelf = FailsAt (inputs_of libraries) shelf input
+StopsAtLibraries (ReadFault input) libraries shelf = FailsEarliest (inputs_of libraries) shelf input
+StopsAtLibraries (TooLong input) libraries shelf = IsCalm shelf × IfSome shelf.files (λ contents. IsTooLongAt contents (inputs_of libraries) input)
+StopsAtLibraries Memory libraries shelf = IsCalm shelf
+StopsAtLibraries Done libraries shelf = ⊥
+StopsAtLibraries DoneWithRefusals libraries shelf = ⊥
+StopsAtLibraries Usage libraries shelf = ⊥
+StopsAtLibraries WriteFault libraries shelf = ⊥
 
 -- the run stops with this status where it opens its inputs
 abbrev pub StopsOpening : Status → List LibraryFile → ShelfFlow → Type 0
@@ -80,17 +63,9 @@ StopsOpening DoneWithRefusals libraries shelf = ⊥
 StopsOpening Usage libraries shelf = ⊥
 StopsOpening WriteFault libraries shelf = ⊥
 
--- the files were opened in their order, each after the one before it, up to that of the input, and none after that. A file that could not
--- be opened is among the names of the shelf too
-abbrev pub OpensUpTo : Input → List LibraryFile → List (List ℕ) → List (List ℕ) → Type 0
-OpensUpTo input [] before after = ⊥
-OpensUpTo input (file ∷ rest) before after =
-    ((input ≡ Library file.library) × AddsName before after file.path)
-    ⊎ ((between : List (List ℕ)) × AddsName before between file.path × OpensUpTo input rest between after)
-
 -- the names that were opened, where a run ends with that status since a file could not be opened; of another status nothing is said
 abbrev pub OpensInOrder : Status → List LibraryFile → List (List ℕ) → List (List ℕ) → Type 0
-OpensInOrder (OpenFault input) libraries before after = OpensUpTo input libraries before after
+OpensInOrder (OpenFault input) libraries before after = OpensUpTo input (inputs_of libraries) before after
 OpensInOrder status libraries before after = ⊤
 
 -- an input could not be opened
@@ -101,8 +76,8 @@ is_open_fault status = false
 -- each of the files was read to its end, or the run stops there. What was found is so of all their contents
 abbrev pub Gathers : {T : Type 0} → Result T Status → List LibraryFile → ShelfFlow → (T → (List ℕ → List ℕ) → Type 0) → Type 0
 Gathers (Ok found) libraries shelf IsOf =
-    IsCalm shelf × IfSome shelf.files (λ contents. AreWithin contents libraries × IsOf found contents)
-Gathers (Err status) libraries shelf IsOf = StopsAt status libraries shelf
+    IsCalm shelf × IfSome shelf.files (λ contents. AreWithin contents (inputs_of libraries) × IsOf found contents)
+Gathers (Err status) libraries shelf IsOf = StopsAtLibraries status libraries shelf
 
 -- an opened file: its library, the name under which it was opened, the bytes that are left, where they are told, and how
 -- often a read of it failed

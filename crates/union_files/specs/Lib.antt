@@ -4,6 +4,7 @@ pub mod Endings
 pub mod Deliveries
 pub mod Interleavings
 pub mod Unions
+pub mod Openings
 pub mod Inputs
 pub mod Runs
 pub mod Courses

@@ -1,10 +1,14 @@
 //! A file that is read whole: a script, a file of questions, or a library's file whose text is wanted at once.
-ghost use Rattle.std.specs.Prelude.{◌≡◌};
+ghost use Rattle.std.specs.Prelude.{◌≡◌, ◌∷◌, IfOk, IfErr, List};
 ghost use Rattle.union_files.specs.Limits.{limit_of};
+ghost use Rattle.union_files.specs.Openings.{OpensInTurn};
 ghost use Rattle.union_files.specs.Readings.{ReadsFile};
+ghost use Rattle.union_io.specs.Names.{AddsName};
+ghost use Rattle.union_words.specs.Flows.{InputFile};
 
 use crate::stops::stopped_with;
 use crate::whole::read_whole;
+use library_stream::frame_reader::LARGEST_SOURCE;
 use std::alloc::Global;
 use union_base::bytes::Bytes;
 use union_io::shelf::{OpenFail, Shelf};
@@ -14,23 +18,20 @@ use union_words::status::Status;
 /// The most bytes that a script or a file of questions has.
 pub const LARGEST_TEXT: usize = 1_048_576;
 
-/// The most bytes that a library's file or a file of names has, 2^40.
-pub const LARGEST_FILE: usize = 1_099_511_627_776;
-
 /// The most bytes that are read of the input.
 fn limit_of(input: &Input) -> usize
     ensures { result ≡ limit_of input.now }
 {
     match input {
         Input::Asks | Input::Script => LARGEST_TEXT,
-        Input::Library(_) | Input::Names => LARGEST_FILE,
+        Input::Library(_) | Input::Names => LARGEST_SOURCE as usize,
     }
 }
 
 /// Opens the file of an input, reads it whole and gives it back.
 ///
 /// Answers `OpenFault` and `ReadFault` of the input only where an open or a read of it failed, `TooLong` of the input exactly
-/// where it has more bytes than are read of such an input and nothing failed, and `Memory` if allocation fails.
+/// where it has more bytes than are read of such an input and nothing failed, and `Memory` if allocation fails. Opens no other file.
 pub fn read_text_file<F: Shelf>(
     alloc: Global,
     path: &Bytes,
@@ -45,6 +46,11 @@ pub fn read_text_file<F: Shelf>(
           after = F.faults shelf.new;
         })
         (λ text bytes. text.items ≡ bytes) }
+    ensures opened { IfOk result (λ _. AddsName (F.opened shelf.old) (F.opened shelf.new) path.now) }
+    ensures in_turn { IfErr result (λ status. (rest : List InputFile)
+        → OpensInTurn (F.files shelf.old) status
+        (record { input = input; path = path.now } ∷ rest)
+        (F.opened shelf.old) (F.opened shelf.new)) }
 {
     match shelf.open(alloc, path) {
         Ok(mut source) => {

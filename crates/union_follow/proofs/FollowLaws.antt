@@ -7,9 +7,9 @@ use Rattle.iso2709_frame.specs.Frames.{frames}
 use Rattle.library_batches.specs.declared.stop.Stop.{Stop}
 use Rattle.library_batches.specs.declared.stop.Stop.TheVariants.{TooLong, Failed, Memory}
 use Rattle.library_stream.specs.declared.frame_reader.TheConstants.{LARGEST_SOURCE}
-use Rattle.union_files.specs.Inputs.{AreWithin, OpenedState, file_of, files_of, is_overfull, first_overfull}
+use Rattle.union_files.specs.Inputs.{OpenedState, file_of, files_of, input_of, inputs_of}
 use Rattle.union_io.specs.Files.{told_file}
-use Rattle.union_files.specs.Limits.{Contents}
+use Rattle.union_files.specs.Limits.{Contents, is_overfull, first_overfull, AreWithin}
 use Rattle.union_files.specs.Readings.{IsStop, Reads}
 use Rattle.union_files.proofs.LimitLaws.{on_both}
 use Rattle.union_files.specs.declared.reports.Reports.{Reports}
@@ -18,23 +18,23 @@ use Rattle.union_follow.specs.Turning.{AreCalm, AreTurnedFrom, AreUnread, HaltsI
 use Rattle.union_follow.specs.declared.libraries.Halt.{Halt}
 
 -- a file that fits is not overfull
-fits_whole : (contents : Contents) (file : LibraryFile) → length (contents file.path) ≤ LARGEST_SOURCE → is_overfull contents file ≡ false
+fits_whole : (contents : Contents) (file : LibraryFile) → length (contents file.path) ≤ LARGEST_SOURCE → is_overfull contents (input_of file) ≡ false
 fits_whole contents file fits = grind (arith, nat_tests, fits)
 
-within_more : (contents : Contents) (file : LibraryFile) (rest : List LibraryFile) → is_overfull contents file ≡ false → AreWithin contents rest
-    → AreWithin contents (file ∷ rest)
-within_more contents file rest fits later = ap (λ b. cond b (Some file) (first_overfull contents rest)) fits ∙ later
+within_more : (contents : Contents) (file : LibraryFile) (rest : List LibraryFile) → is_overfull contents (input_of file) ≡ false
+    → AreWithin contents (inputs_of rest) → AreWithin contents (inputs_of (file ∷ rest))
+within_more contents file rest fits later = ap (λ b. cond b (Some (input_of file)) (first_overfull contents (inputs_of rest))) fits ∙ later
 
-overfull_more : (contents : Contents) (file other : LibraryFile) (rest : List LibraryFile) → is_overfull contents file ≡ false
-    → first_overfull contents rest ≡ Some other → first_overfull contents (file ∷ rest) ≡ Some other
-overfull_more contents file other rest fits later = ap (λ b. cond b (Some file) (first_overfull contents rest)) fits ∙ later
+overfull_more : (contents : Contents) (file other : LibraryFile) (rest : List LibraryFile) → is_overfull contents (input_of file) ≡ false
+    → first_overfull contents (inputs_of rest) ≡ Some (input_of other) → first_overfull contents (inputs_of (file ∷ rest)) ≡ Some (input_of other)
+overfull_more contents file other rest fits later = ap (λ b. cond b (Some (input_of file)) (first_overfull contents (inputs_of rest))) fits ∙ later
 
 -- a file that does not fit is the first overfull one
 overfull_first : (contents : Contents) (file : LibraryFile) (rest : List LibraryFile) → LARGEST_SOURCE < length (contents file.path)
-    → first_overfull contents (file ∷ rest) ≡ Some file
+    → first_overfull contents (inputs_of (file ∷ rest)) ≡ Some (input_of file)
 overfull_first contents file rest long =
-    let over : is_overfull contents file ≡ true = grind (arith, nat_tests, long) in
-    ap (λ b. cond b (Some file) (first_overfull contents rest)) over
+    let over : is_overfull contents (input_of file) ≡ true = grind (arith, nat_tests, long) in
+    ap (λ b. cond b (Some (input_of file)) (first_overfull contents (inputs_of rest))) over
 
 -- unread files are calm
 unread_calm : (told : Option Contents) (states : List OpenedState) → AreUnread told states → AreCalm states
@@ -42,7 +42,7 @@ unread_calm told [] unread = tt
 unread_calm told (state ∷ states) unread = (unread.0.1, unread_calm told states unread.1)
 
 stops_more : (stop : Stop) (place : ℕ) (file : LibraryFile) (told : Option Contents) (s s' : OpenedState) (rest rest' : List OpenedState) → s'.faults ≡ 0
-    → IfSome told (λ contents. is_overfull contents (file_of s) ≡ false) → StopsIn stop place file told (files_of rest) rest'
+    → IfSome told (λ contents. is_overfull contents (input_of (file_of s)) ≡ false) → StopsIn stop place file told (files_of rest) rest'
     → StopsIn stop (suc place) file told (files_of (s ∷ rest)) (s' ∷ rest')
 stops_more Failed place file told s s' rest rest' calm fits stops = (calm, stops)
 stops_more TooLong place file told s s' rest rest' calm fits stops =
@@ -75,7 +75,7 @@ halts_here halt first told s s' rest R is unread left stop fresh =
     (0, file_of s, omega (arith, is), refl, stops_here halt.stop stop)
   where
     too_long : (told : Option Contents) → IfSome (told_file told s.name) (λ bytes. LARGEST_SOURCE < length bytes)
-        → IfSome told (λ contents. first_overfull contents (file_of s ∷ files_of rest) ≡ Some (file_of s))
+        → IfSome told (λ contents. first_overfull contents (inputs_of (file_of s ∷ files_of rest)) ≡ Some (input_of (file_of s)))
     too_long None long = tt
     too_long (Some contents) long = overfull_first contents (file_of s) (files_of rest) long
 

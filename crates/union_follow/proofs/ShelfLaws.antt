@@ -4,7 +4,8 @@ use Rattle.std.specs.Prelude.{Option, Some, Ok, Err, IfSome, slice_get, IsTrue}
 use Rattle.catalogue_editions.specs.declared.history_entry.HistoryEntry.{HistoryEntry}
 use Rattle.library_batches.specs.declared.stop.Stop.{Stop}
 use Rattle.library_batches.specs.declared.stop.Stop.TheVariants.{TooLong, Failed, Memory}
-use Rattle.union_files.specs.Inputs.{AreFresh, AreWithin, OpenedState, file_of, files_of}
+use Rattle.union_files.specs.Inputs.{AreFresh, OpenedState, file_of, files_of, inputs_of}
+use Rattle.union_files.specs.Limits.{AreWithin}
 use Rattle.union_files.specs.Limits.{Contents}
 use Rattle.union_files.proofs.FileLaws.{Counts, flow}
 use Rattle.union_files.proofs.InterleavingLaws.{unmapped-at}
@@ -93,7 +94,7 @@ halts_at R halt files before now libraries a b halts same are calm raises =
 pub gathers_all : (files : Option Contents) (before now : List OpenedState) (libraries : List LibraryFile) (history after : List HistoryEntry)
     (told texts : Reports) → libraries ≡ files_of before → history ≡ []
     → HaltsIn {T = Unit {0}} (Ok tt) 0 files before now (λ contents. AreTurnedFrom contents 0 (files_of before) history after told texts)
-    → IfSome files (λ contents. AreWithin contents libraries × AreTurnedFrom contents 0 libraries [] after told texts)
+    → IfSome files (λ contents. AreWithin contents (inputs_of libraries) × AreTurnedFrom contents 0 libraries [] after told texts)
 gathers_all files before now libraries history after told texts are none halts =
-    subst (λ (fs : List LibraryFile). IfSome files (λ contents. AreWithin contents fs × AreTurnedFrom contents 0 fs [] after told texts)) (sym are)
-    (subst (λ (h : List HistoryEntry). IfSome files (λ contents. AreWithin contents (files_of before) × AreTurnedFrom contents 0 (files_of before) h after told texts)) none halts.1)
+    subst (λ (fs : List LibraryFile). IfSome files (λ contents. AreWithin contents (inputs_of fs) × AreTurnedFrom contents 0 fs [] after told texts)) (sym are)
+    (subst (λ (h : List HistoryEntry). IfSome files (λ contents. AreWithin contents (inputs_of (files_of before)) × AreTurnedFrom contents 0 (files_of before) h after told texts)) none halts.1)

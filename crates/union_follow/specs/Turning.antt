@@ -17,7 +17,8 @@ use Rattle.catalogue_core.specs.Entries.{entries_of}
 use Rattle.library_batches.specs.Tallies.{found}
 use Rattle.snapshot_desk.specs.States.{Publishing}
 use Rattle.union_files.specs.Deliveries.{delivery, has_refused}
-use Rattle.union_files.specs.Inputs.{OpenedState, AreWithin, files_of, first_overfull, states_of}
+use Rattle.union_files.specs.Inputs.{OpenedState, input_of, inputs_of, files_of, states_of}
+use Rattle.union_files.specs.Limits.{AreWithin, first_overfull}
 use Rattle.union_files.specs.declared.opened_file.OpenedFile.{OpenedFile}
 use Rattle.union_io.specs.Causes.{Rose}
 use Rattle.union_io.specs.Counts.{SameElsewhere}
@@ -88,18 +89,18 @@ FailsOnly (suc place) (state ∷ states) = (state.faults ≡ 0) × FailsOnly pla
 -- why the file at that place was not read to its end
 abbrev pub StopsIn : Stop → ℕ → LibraryFile → Option (List ℕ → List ℕ) → List LibraryFile → List OpenedState → Type 0
 StopsIn Failed place file told files now = FailsOnly place now
-StopsIn TooLong place file told files now = AreCalm now × IfSome told (λ contents. first_overfull contents files ≡ Some file)
+StopsIn TooLong place file told files now = AreCalm now × IfSome told (λ contents. first_overfull contents (inputs_of files) ≡ Some (input_of file))
 StopsIn Memory place file told files now = AreCalm now
 
 -- the same at a shelf, to which the files were given back: the count of its name rose where a read failed, and else none
 abbrev pub HaltsAt : Stop → LibraryFile → List LibraryFile → ShelfFlow → Type 0
 HaltsAt Failed file files shelf = Rose (shelf.before file.path) (shelf.after file.path) × SameElsewhere shelf.before shelf.after file.path
-HaltsAt TooLong file files shelf = IsCalm shelf × IfSome shelf.files (λ contents. first_overfull contents files ≡ Some file)
+HaltsAt TooLong file files shelf = IsCalm shelf × IfSome shelf.files (λ contents. first_overfull contents (inputs_of files) ≡ Some (input_of file))
 HaltsAt Memory file files shelf = IsCalm shelf
 
 -- each of the opened files was read to its end, or not, at the place that is told
 abbrev pub HaltsIn : {T : Type 0} → Result T Halt → ℕ → Option (List ℕ → List ℕ) → List OpenedState → List OpenedState → ((List ℕ → List ℕ) → Type 0) → Type 0
-HaltsIn (Ok done) first told before now IsOf = AreCalm now × IfSome told (λ contents. AreWithin contents (files_of before) × IsOf contents)
+HaltsIn (Ok done) first told before now IsOf = AreCalm now × IfSome told (λ contents. AreWithin contents (inputs_of (files_of before)) × IsOf contents)
 HaltsIn (Err halt) first told before now IsOf =
     (place : ℕ) × (file : LibraryFile) × (halt.place ≡ first + place) × (slice_get (files_of before) place ≡ Some file)
     × StopsIn halt.stop place file told (files_of before) now

@@ -4,7 +4,7 @@ ghost use Rattle.std.specs.Cmp.Lexicographic.{pointwise};
 ghost use Rattle.union_words.specs.Flows.{ShelfFlow};
 ghost use Rattle.union_words.specs.Meanings.{file_meaning, libraries_meaning};
 ghost use Rattle.union_words.specs.Words.{LibraryFile};
-ghost use Rattle.union_files.specs.Inputs.{StopsAt, is_open_fault};
+ghost use Rattle.union_files.specs.Inputs.{StopsAtLibraries, is_open_fault};
 ghost use Rattle.union_follow.specs.Turning.{HaltsAt};
 
 use crate::libraries::Halt;
@@ -50,7 +50,7 @@ pub fn status_of(libraries: &Libraries<'_>, halt: &Halt) -> Status
     ensures stops { (file : LibraryFile) (shelf : ShelfFlow)
         → slice_get (libraries_meaning libraries.now) halt.now.place ≡ Some file
         → HaltsAt halt.now.stop file (libraries_meaning libraries.now) shelf
-        → StopsAt result (libraries_meaning libraries.now) shelf }
+        → StopsAtLibraries result (libraries_meaning libraries.now) shelf }
     ensures other { is_open_fault result ≡ false }
 {
     let place = halt.place as usize;

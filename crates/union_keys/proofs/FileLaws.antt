@@ -19,15 +19,15 @@ files-next contents all place file a b c here taken later =
 
 -- a file that is not too long, and none of those after it
 pub within-next : (contents : List ℕ → List ℕ) (all : List LibraryFile) (place : ℕ) (file : LibraryFile) → slice_get all place ≡ Some file
-    → length (contents file.path) ≤ 1099511627776 → AreWithin contents (inputs_of (drop (place + 1) all)) → AreWithin contents (inputs_of (drop place all))
+    → length (contents file.path) ≤ limit_of (input_of file).input → AreWithin contents (inputs_of (drop (place + 1) all)) → AreWithin contents (inputs_of (drop place all))
 within-next contents all place file here fits later =
     let rest = first_overfull contents (inputs_of (drop (place + 1) all)) in
     subst (λ files. AreWithin contents (inputs_of files)) (sym (drop-get all place file here))
-    (ap (λ over. if over then Some (input_of file) else rest) (le-ltb 1099511627776 (length (contents file.path)) fits) ∙ later)
+    (ap (λ over. if over then Some (input_of file) else rest) (le-ltb (limit_of (input_of file).input) (length (contents file.path)) fits) ∙ later)
 
 -- what is told of a file that was read to its end
 pub told-within : (files : Option (List ℕ → List ℕ)) (contents : List ℕ → List ℕ) (file : LibraryFile) (P : (List ℕ → List ℕ) → Type 0) → files ≡ Some contents
-    → IfSome files (λ told. (length (told file.path) ≤ limit_of (input_of file).input) × P told) → length (contents file.path) ≤ 1099511627776
+    → IfSome files (λ told. (length (told file.path) ≤ limit_of (input_of file).input) × P told) → length (contents file.path) ≤ limit_of (input_of file).input
 told-within files contents file P is read = (subst (λ fs. IfSome fs (λ told. (length (told file.path) ≤ limit_of (input_of file).input) × P told)) is read).0
 
 pub told-taken : (files : Option (List ℕ → List ℕ)) (contents : List ℕ → List ℕ) (file : LibraryFile) (a b : Read) → files ≡ Some contents

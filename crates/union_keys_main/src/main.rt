@@ -2,13 +2,13 @@
 #![tactic(auto)]
 
 use library_batches::stop::Stop;
+use library_stream::frame_reader::LARGEST_SOURCE;
 use std::alloc::Global;
 use std::env;
 use std::io::ErrorKind;
 use std::process::ExitCode;
 use union_base::bytes::Bytes;
 use union_base::memory::Memory;
-use union_files::text_file::LARGEST_FILE;
 use union_files::whole::read_whole;
 use union_io::failed::Failed;
 use union_io::file_shelf::FileShelf;
@@ -162,7 +162,7 @@ fn groups_in<F: Shelf>(alloc: Global, path: &[u8], shelf: &mut F) -> Result<Vec<
     };
     match shelf.open(alloc, &path) {
         Ok(mut source) => {
-            let text = read_whole(alloc, &mut source, LARGEST_FILE);
+            let text = read_whole(alloc, &mut source, LARGEST_SOURCE as usize);
             shelf.give_back(source);
             match text {
                 Ok(text) => Ok(text),

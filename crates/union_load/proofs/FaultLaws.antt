@@ -10,7 +10,7 @@ use Rattle.union_io.specs.Counts.{SameCounts}
 use Rattle.union_files.specs.Limits.{Contents}
 use Rattle.union_files.proofs.FileLaws.{Counts, flow}
 use Rattle.union_files.proofs.InputLaws.{drop_at}
-use Rattle.union_files.specs.Inputs.{Gathers, input_of, inputs_of, IsEarliest, IsElsewhere, StopsAt}
+use Rattle.union_files.specs.Inputs.{Gathers, input_of, inputs_of, IsEarliest, IsElsewhere, StopsAtLibraries}
 use Rattle.load_sessions.specs.declared.session.Session.{Session}
 use Rattle.union_files.specs.Courses.{Course, file_of_course}
 use Rattle.union_load.specs.Sessions.{course_of, courses_of, Closes, fails_on, is_failed_in, first_failed, NoneFailed, RaisesFailed}
@@ -114,7 +114,7 @@ mapped_none (Some file) is = cc
 pub failed-first : (courses : List Course) (libraries : List LibraryFile) (library : List ℕ) (files : Option Contents) (a b : Counts)
     → map file_of_course courses ≡ libraries → RaisesFailed courses a b
     → Some library ≡ option_map (λ (file : LibraryFile). file.library) (first_failed courses libraries)
-    → StopsAt (ReadFault (Library library)) libraries (flow files a b)
+    → StopsAtLibraries (ReadFault (Library library)) libraries (flow files a b)
 failed-first courses libraries library files a b same raises is =
     let found = mapped_some (first_failed courses libraries) library is in
     let at = earliest courses libraries (flow files a b) found.0 raises found.1 in

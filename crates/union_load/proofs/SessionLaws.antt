@@ -16,29 +16,29 @@ use Rattle.load_sessions.specs.declared.session.Session.{Session}
 use Rattle.union_io.specs.Causes.{Rose}
 use Rattle.union_io.specs.Files.{told_file}
 use Rattle.union_io.specs.Names.{is_among}
-use Rattle.union_files.specs.Limits.{Contents}
+use Rattle.union_files.specs.Limits.{Contents, is_overfull, first_overfull, AreWithin, IsTooLongAt}
 use Rattle.union_files.proofs.LimitLaws.{on_both}
-use Rattle.union_files.specs.Inputs.{is_overfull, first_overfull, AreWithin, IsTooLongAt, IsFresh, AreFresh, files_of}
+use Rattle.union_files.specs.Inputs.{input_of, inputs_of, IsFresh, AreFresh, files_of}
 use Rattle.union_files.specs.Courses.{file_of_course, AreNumbered}
 use Rattle.union_load.specs.Sessions.{is_fault, Closes, IsReadyAs, AreReady, courses_of, session_state, session_states, HasRun, HaveRun}
+use Rattle.union_words.specs.Flows.{InputFile}
 use Rattle.union_words.specs.Words.{LibraryFile}
 use Rattle.union_words.specs.declared.input.Input.{Input}
-use Rattle.union_words.specs.declared.input.Input.TheVariants.{Library}
 use Rattle.union_words.specs.declared.status.Status.{Status}
 use Rattle.union_words.specs.declared.status.Status.TheVariants.{TooLong, Memory}
 
 -- ---- two ends, one after the other
 
-abbrev named : LibraryFile → Input
-named file = Library file.library
+abbrev named : InputFile → Input
+named file = file.input
 
-too_long_behind : (contents : Contents) (file : LibraryFile) (rest : List LibraryFile) (i : Input) → AreWithin contents (file ∷ [])
+too_long_behind : (contents : Contents) (file : InputFile) (rest : List InputFile) (i : Input) → AreWithin contents (file ∷ [])
     → IsTooLongAt contents rest i → IsTooLongAt contents (file ∷ rest) i
 too_long_behind contents file rest i within at =
     elim (is_overfull contents file) as (λ b. cond b (Some file) None ≡ None → option_map named (cond b (Some file) (first_overfull contents rest)) ≡ Some i)
     [ true ↦ λ within. cc | false ↦ λ within. at ] within
 
-within_both : (contents : Contents) (file : LibraryFile) (rest : List LibraryFile) → AreWithin contents (file ∷ []) → AreWithin contents rest
+within_both : (contents : Contents) (file : InputFile) (rest : List InputFile) → AreWithin contents (file ∷ []) → AreWithin contents rest
     → AreWithin contents (file ∷ rest)
 within_both contents file rest within later =
     elim (is_overfull contents file) as (λ b. cond b (Some file) None ≡ None → cond b (Some file) (first_overfull contents rest) ≡ None)
@@ -46,12 +46,12 @@ within_both contents file rest within later =
 
 -- an end after an input that was read
 pub closes_behind : {T : Type 0} (later : Result T Status) (file : LibraryFile) (rest : List LibraryFile) (files : Option Contents) (P Q R : Contents → Type 0)
-    → ((contents : Contents) → P contents → Q contents → R contents) → IfSome files (λ contents. AreWithin contents (file ∷ []) × P contents)
+    → ((contents : Contents) → P contents → Q contents → R contents) → IfSome files (λ contents. AreWithin contents (inputs_of (file ∷ [])) × P contents)
     → Closes later rest files Q → Closes later (file ∷ rest) files R
 closes_behind (Ok done) file rest files P Q R both here behind =
-    on_both files (λ contents p q. (within_both contents file rest p.0 q.0, both contents p.1 q.1)) here behind
+    on_both files (λ contents p q. (within_both contents (input_of file) (inputs_of rest) p.0 q.0, both contents p.1 q.1)) here behind
 closes_behind (Err (TooLong input)) file rest files P Q R both here behind =
-    on_both files (λ contents p at. too_long_behind contents file rest input p.0 at) here behind
+    on_both files (λ contents p at. too_long_behind contents (input_of file) (inputs_of rest) input p.0 at) here behind
 closes_behind (Err Memory) file rest files P Q R both here behind = tt
 closes_behind (Err status) file rest files P Q R both here behind = absurd behind
 

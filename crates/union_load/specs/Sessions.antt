@@ -19,7 +19,8 @@ use Rattle.load_sessions.specs.declared.session.Session.{Session}
 use Rattle.union_io.specs.Causes.{Rose}
 use Rattle.union_io.specs.Files.{told_file}
 use Rattle.union_io.specs.Names.{is_among}
-use Rattle.union_files.specs.Inputs.{AreWithin, IsTooLongAt, OpenedState}
+use Rattle.union_files.specs.Inputs.{OpenedState, inputs_of}
+use Rattle.union_files.specs.Limits.{AreWithin, IsTooLongAt}
 use Rattle.union_files.specs.Courses.{Course}
 use Rattle.union_words.specs.Words.{LibraryFile}
 use Rattle.union_words.specs.declared.status.Status.{Status}
@@ -32,13 +33,13 @@ is_fault end = false
 
 -- one of the files is too long, or memory ran out
 abbrev pub StopsBehind : Status → List LibraryFile → Option (List ℕ → List ℕ) → Type 0
-StopsBehind (TooLong input) libraries files = IfSome files (λ contents. IsTooLongAt contents libraries input)
+StopsBehind (TooLong input) libraries files = IfSome files (λ contents. IsTooLongAt contents (inputs_of libraries) input)
 StopsBehind Memory libraries files = ⊤
 StopsBehind status libraries files = ⊥
 
 -- all files were read to their ends, and what was made of their bytes is so; or one was not, and the status says which
 abbrev pub Closes : {T : Type 0} → Result T Status → List LibraryFile → Option (List ℕ → List ℕ) → ((List ℕ → List ℕ) → Type 0) → Type 0
-Closes (Ok done) libraries files IsOf = IfSome files (λ contents. AreWithin contents libraries × IsOf contents)
+Closes (Ok done) libraries files IsOf = IfSome files (λ contents. AreWithin contents (inputs_of libraries) × IsOf contents)
 Closes (Err status) libraries files IsOf = StopsBehind status libraries files
 
 -- a read of the file of that name failed in the session

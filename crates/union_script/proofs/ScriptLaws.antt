@@ -18,6 +18,7 @@ use Rattle.union_words.specs.declared.input.Input.TheVariants.{Library, Script}
 use Rattle.union_words.specs.declared.status.Status.{Status}
 use Rattle.union_words.specs.declared.status.Status.TheVariants.{Done, DoneWithRefusals, Usage, OpenFault, ReadFault, WriteFault, TooLong, Memory}
 use Rattle.union_script.specs.Inputs.{files_loaded, inputs_with, inputs_of}
+use Rattle.library_batches.specs.Reading.{most_bytes}
 use Rattle.union_files.specs.Limits.{is_overfull, first_overfull, AreWithin, IsTooLongAt, Contents}
 use Rattle.union_script.specs.Lines.{HasRun, WritesFront, StopsLoading, StopsFor, FailsUnder, LinesStop, LinesRun}
 use Rattle.union_files.specs.Readings.{StopsAt}
@@ -223,7 +224,7 @@ lines_fault (Some contents) path script shelf i old new read stop fails = record
 }
 
 lines_long : (contents : Contents) (path script : List ℕ) (i : Input) (old new : Known) → IsRead path script contents
-    → (stop : StopsLoading i (script_of script) [] (Some contents) old new) → 1099511627776 < length (contents stop.file.path)
+    → (stop : StopsLoading i (script_of script) [] (Some contents) old new) → most_bytes < length (contents stop.file.path)
     → IsTooLongAt contents (inputs_of contents path) i
 lines_long contents path script i old new read stop more =
     let p = is_overfull contents in
@@ -235,12 +236,12 @@ lines_long contents path script i old new read stop more =
     ∙ ap (find p) (files_around (script_of (contents path)) stop.first stop.others stop.told stop.file (ap script_of (sym read.1) ∙ stop.parts))
     ∙ find-append p xs (file ∷ ys)
     ∙ ap (λ found. option_or found (find p (file ∷ ys))) stop.before.within
-    ∙ ap (λ over. cond over (Some file) (find p ys)) (lt-ltb 1099511627776 (length (contents stop.file.path)) more) in
+    ∙ ap (λ over. cond over (Some file) (find p ys)) (lt-ltb most_bytes (length (contents stop.file.path)) more) in
     ap (option_map (λ (file : InputFile). file.input)) found ∙ ap Some (sym stop.named)
 
 -- the files that a run tells, and those of which its script was read
 long_told : (files : Option Contents) (path script : List ℕ) (i : Input) (old new : Known) → IfSome files (IsRead path script)
-    → (stop : StopsLoading i (script_of script) [] files old new) → IfSome files (λ contents. 1099511627776 < length (contents stop.file.path))
+    → (stop : StopsLoading i (script_of script) [] files old new) → IfSome files (λ contents. most_bytes < length (contents stop.file.path))
     → IfSome files (λ contents. IsTooLongAt contents (inputs_of contents path) i)
 long_told None path script i old new read stop more = tt
 long_told (Some contents) path script i old new read stop more = lines_long contents path script i old new read stop more

@@ -15,6 +15,7 @@ use Rattle.union_words.specs.declared.input.Input.TheVariants.{Library}
 use Rattle.union_words.specs.declared.status.Status.{Status}
 use Rattle.union_words.specs.declared.status.Status.TheVariants.{Done, DoneWithRefusals, Usage, OpenFault, ReadFault, WriteFault, TooLong, Memory}
 use Rattle.union_script.specs.Texts.{ScriptText, has_refusals}
+use Rattle.library_batches.specs.Reading.{most_bytes}
 use Rattle.union_files.specs.Limits.{Contents, AreWithin}
 use Rattle.union_script.specs.Inputs.{files_loaded}
 
@@ -65,7 +66,7 @@ abbrev pub StopsFor : Status → List ℕ → ShelfFlow → Type 0
 StopsFor (OpenFault input) name shelf = FailsUnder name shelf
 StopsFor (ReadFault input) name shelf = FailsUnder name shelf
 StopsFor (TooLong input) name shelf =
-    IsCalm shelf × IfSome shelf.files (λ contents. 1099511627776 < length (contents name))
+    IsCalm shelf × IfSome shelf.files (λ contents. most_bytes < length (contents name))
 StopsFor Done name shelf = ⊥
 StopsFor DoneWithRefusals name shelf = ⊥
 StopsFor Usage name shelf = ⊥

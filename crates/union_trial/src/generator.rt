@@ -1,6 +1,6 @@
 //! The generator of the frames' draws.
 ghost use Rattle.std.specs.Prelude.{◌≡◌, ◌<◌, ◌≤◌};
-ghost use Rattle.union_trial.specs.Draws.{next_state, number_below, draws_of, state_behind};
+ghost use Rattle.union_trial.specs.Draws.{most_frames, next_state, number_below, draws_of, state_behind};
 
 use crate::draws::Draws;
 
@@ -14,9 +14,6 @@ const LOW_BITS: u32 = 33;
 
 /// The year of the earliest records.
 const FIRST_YEAR: u32 = 1990;
-
-/// The most frames that are generated.
-pub const MOST_FRAMES: u32 = 200_000;
 
 /// The state of the generator.
 #[derive(Clone, Copy, Debug, PartialEq, Eq)]
@@ -39,7 +36,7 @@ impl Generator {
     /// What is drawn for the next frame, where `count` are generated.
     pub fn draws(&mut self, count: u32) -> Draws
         requires some { 0 < count }
-        requires most { count ≤ MOST_FRAMES }
+        requires most { count ≤ most_frames }
         ensures state { self.new.state ≡ state_behind self.old.state }
         ensures draws { result ≡ draws_of count self.old.state }
     {

@@ -1,10 +1,10 @@
 //! The loading of a library's stream.
 ghost use Rattle.std.specs.Prelude.{◌≡◌, [], ◌<◌, ◌≤◌, IfOk, OnOk};
 ghost use Rattle.union_trial.specs.Blocks.{IsBlockOf};
+ghost use Rattle.union_trial.specs.Draws.{most_frames};
 ghost use Rattle.union_trial.specs.Streams.{library_code, Loads, still_drawn, AreLoaded};
 
 use crate::drawing::LIBRARIES;
-use crate::generator::MOST_FRAMES;
 use crate::library_draws::LibraryDraws;
 use crate::operations::operation;
 use catalogue_core::batch::Batch;
@@ -68,7 +68,7 @@ fn load_library<R: Threads + Sync, L: Ledger>(
     steps: &mut Steps<L>,
 ) -> Result<(), Memory>
     requires some { 0 < count }
-    requires most { count ≤ MOST_FRAMES }
+    requires most { count ≤ most_frames }
     requires place { place < 3 }
     requires some_worker { 1 ≤ crew.workers }
     requires most_workers { crew.workers ≤ 64 }
@@ -103,7 +103,7 @@ pub fn load_all<R: Threads + Sync, L: Ledger>(
     steps: &mut Steps<L>,
 ) -> Result<(), Memory>
     requires some { 0 < count }
-    requires most { count ≤ MOST_FRAMES }
+    requires most { count ≤ most_frames }
     requires some_worker { 1 ≤ crew.workers }
     requires most_workers { crew.workers ≤ 64 }
     requires new { catalogue.old.history ≡ [] }

@@ -17,7 +17,7 @@ use Rattle.union_words.specs.Flows.{ShelfFlow, IsCalm, InputFile, Outflow, HasFa
 use Rattle.union_words.specs.Statuses.{is_done, is_early, end_by}
 use Rattle.union_words.specs.Texts.{early_text}
 use Rattle.union_files.specs.Deliveries.{reports_of}
-use Rattle.union_files.specs.Inputs.{inputs_of, AreWithin}
+use Rattle.union_files.specs.Inputs.{inputs_of}
 use Rattle.union_files.specs.Interleavings.{IsInterleaving}
 use Rattle.union_files.specs.Runs.{RunTexts, IsRunOver}
 use Rattle.union_files.specs.declared.loaded.Loaded.{Loaded}
@@ -109,7 +109,7 @@ ended_run AreTexts refused shown noted status first libraries shelf out notes ca
 pub loaded_run : (showing : Showing) (names : Named) (loaded : Loaded) (status : Status) (loading : Loading) (shelf : ShelfFlow) (out notes : Outflow)
     → IsCalm shelf
     → IfSome shelf.files (λ contents. all.AreWithin contents (names_inputs loading.names) × IsNamedBy contents loading.names names)
-    → IfSome shelf.files (λ contents. AreWithin contents loading.libraries × HasTurned IsInterleaving names (deliveries_of contents loading) loaded)
+    → IfSome shelf.files (λ contents. all.AreWithin contents (inputs_of loading.libraries) × HasTurned IsInterleaving names (deliveries_of contents loading) loaded)
     → Shows showing loaded out notes status → IsUnionRun showing loading shelf out notes status
 loaded_run showing names loaded status loading shelf out notes calm named turned shows =
     let editions = shows.0 in

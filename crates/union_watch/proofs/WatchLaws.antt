@@ -10,7 +10,7 @@ use Rattle.union_files.specs.Limits as all
 use Rattle.union_files.specs.Limits.{Contents}
 use Rattle.union_files.proofs.LimitLaws.{on_both}
 use Rattle.union_files.specs.Deliveries.{has_refused}
-use Rattle.union_files.specs.Inputs.{AreWithin}
+use Rattle.union_files.specs.Inputs.{inputs_of}
 use Rattle.union_files.specs.declared.loaded.Loaded.{Loaded}
 use Rattle.union_files.proofs.RunLaws.{within_all}
 use Rattle.union_watch.specs.AskLines.{asked_lines, has_refused_line}
@@ -29,7 +29,7 @@ pub record HasRead (watch : Watch) (text : List ℕ) (names : Named) (contents :
 
 pub asked_run : (AreTurns : Order) (watch : Watch) (text : List ℕ) (names : Named) (loaded : Loaded) (told : List Told) (refused : Bool) (status : Status)
     (shelf : ShelfFlow) (out notes : Outflow) → IsCalm shelf → IfSome shelf.files (HasRead watch text names)
-    → IfSome shelf.files (λ contents. AreWithin contents watch.libraries × HasTurned AreTurns names (deliveries_of contents watch) loaded)
+    → IfSome shelf.files (λ contents. all.AreWithin contents (inputs_of watch.libraries) × HasTurned AreTurns names (deliveries_of contents watch) loaded)
     → AreTold names.table loaded.catalogue.history (asked_lines text) told
     → AreTimely watch.workers (length loaded.catalogue.history) (numbers_of told) → refused ≡ has_refused_line text
     → Written (watch_text loaded.catalogue.history told) loaded.reports.items (end_by (loaded.refused || refused)) out notes status

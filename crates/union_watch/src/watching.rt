@@ -1,6 +1,9 @@
 //! The command `watch`: what was loaded and asked is written, the text on `out` and the reports on `notes` after it.
-ghost use Rattle.std.specs.Prelude.{◌≡◌, ◌++◌, ◌||◌, map};
+ghost use Rattle.std.specs.Prelude.{◌≡◌, ◌++◌, ◌||◌, ◌∷◌, IfOk, IfErr, List, map};
+ghost use Rattle.union_files.specs.Openings.{OpensInTurn};
 ghost use Rattle.union_files.specs.Readings.{ReadsFile};
+ghost use Rattle.union_io.specs.Names.{AddsName};
+ghost use Rattle.union_words.specs.Flows.{InputFile};
 ghost use Rattle.union_words.specs.Statuses.{end_by};
 ghost use Rattle.union_watch.specs.AskLines.{line_meaning};
 ghost use Rattle.union_watch.specs.Told.{told_of};
@@ -32,6 +35,11 @@ pub fn read_asks<F: Shelf>(alloc: Global, path: &[u8], shelf: &mut F) -> Result<
           after = F.faults shelf.new;
         })
         (λ text bytes. text.items ≡ bytes) }
+    ensures opened { IfOk result (λ _. AddsName (F.opened shelf.old) (F.opened shelf.new) path.now) }
+    ensures in_turn { IfErr result (λ status. (rest : List InputFile)
+        → OpensInTurn (F.files shelf.old) status
+        (record { input = Input.Asks; path = path.now } ∷ rest)
+        (F.opened shelf.old) (F.opened shelf.new)) }
 {
     match Bytes::of(alloc, path) {
         Ok(path) => read_text_file(alloc, &path, Input::Asks, shelf),

@@ -9,7 +9,8 @@ use Rattle.snapshot_desk.proofs.Prefixes.{prefix_trans}
 use Rattle.union_base.specs.Both.{both_true}
 use Rattle.union_files.proofs.DistinctLaws.{distinct_deliveries}
 use Rattle.union_files.proofs.FileLaws.{same_more}
-use Rattle.union_files.specs.Inputs.{AreWithin, deliveries}
+use Rattle.union_files.specs.Inputs.{deliveries, inputs_of}
+use Rattle.union_files.specs.Limits.{AreWithin}
 use Rattle.catalogue_query.specs.Replies.{AreReplies}
 use Rattle.union_words.specs.Meanings.{libraries_meaning}
 use Rattle.union_words.specs.Words.{is_library_word, have_distinct_codes, most_libraries}
@@ -32,7 +33,7 @@ returns-in-Ok-ask_late-clause-gathers g c =
     (both_true (nat_le 1 (length words) && nat_le (length words) most_libraries) (list_all is_library_word words && have_distinct_codes words) c.args.libraries.now.words_are_libraries).1).1 in (
       same_more (g.F.Shelf.faults c.args.shelf.now) (g.F.Shelf.faults c.open_rest.new.shelf) (g.F.Shelf.faults c.gather-gathered.new.shelf)
           c.in_ok-opened.ensures.calm gathers.0,
-      subst (λ files. IfSome files (λ contents. AreWithin contents libraries × HasFollowed (deliveries [] contents libraries) loaded)) c.in_ok-opened.ensures.files
+      subst (λ files. IfSome files (λ contents. AreWithin contents (inputs_of libraries) × HasFollowed (deliveries [] contents libraries) loaded)) c.in_ok-opened.ensures.files
           (IfSome_then (g.F.Shelf.files c.open_rest.new.shelf) gathers.1 (λ contents read. (
             read.0,
             followed contents libraries loaded none after

@@ -20,7 +20,8 @@ use Rattle.load_sessions.proofs.ReplyLaws.{replied_over}
 use Rattle.union_load.proofs.ReplyLaws.{numbered_below}
 use Rattle.union_load.proofs.SessionLaws.{have_ended, ready_all}
 use Rattle.union_files.specs.Deliveries.{codes_of, AreDistinct, has_refused}
-use Rattle.union_files.specs.Inputs.{AreWithin, StopsAt, deliveries}
+use Rattle.union_files.specs.Inputs.{StopsAtLibraries, deliveries, inputs_of}
+use Rattle.union_files.specs.Limits.{AreWithin}
 use Rattle.union_files.specs.Courses.{course_text, delivery_of, ended_of, file_of_course}
 use Rattle.union_load.specs.Sessions.{courses_of}
 use Rattle.union_files.specs.Unions.{HasUnited}
@@ -65,10 +66,10 @@ returns-in_err-end_all-clause-gathers g c =
     let between = g.F.Shelf.faults c.start_sessions.new.shelf in
     let after = g.F.Shelf.faults c.end_all.new.shelf in
     let p = err_from_is_err_and c.from_residual-in_err-end_all.result c.from_residual-in_err-end_all.ensures.1 in
-    let stops : StopsAt status libraries (flow files between after)
-    = subst (λ told. StopsAt status libraries (flow told between after)) c.in_ok-sessions.ensures.files c.in_err-end_all.ensures.gathers in
+    let stops : StopsAtLibraries status libraries (flow files between after)
+    = subst (λ told. StopsAtLibraries status libraries (flow told between after)) c.in_ok-sessions.ensures.files c.in_err-end_all.ensures.gathers in
     rw (p.1 ∙ ap Err p.2)
-    (subst (λ before. StopsAt status libraries (flow files before after)) (fun_ext c.in_ok-sessions.ensures.calm) stops)
+    (subst (λ before. StopsAtLibraries status libraries (flow files before after)) (fun_ext c.in_ok-sessions.ensures.calm) stops)
 
 pub close_desk-requires-clause-known : goal.close_desk-requires-clause-known
 close_desk-requires-clause-known g c = λ lifetimes outlive.
@@ -121,7 +122,7 @@ returns-in-Ok-close_desk-clause-gathers g c =
     (both_true (nat_le 1 (length words) && nat_le (length words) most_libraries) (list_all is_library_word words && have_distinct_codes words) c.args.loading.now.libraries.words_are_libraries).1).1 in (
       same_more (g.F.Shelf.faults c.args.shelf.now) (g.F.Shelf.faults c.start_sessions.new.shelf) (g.F.Shelf.faults c.end_all.new.shelf)
           c.in_ok-sessions.ensures.calm c.in_ok-end_all.ensures.gathers.0,
-      subst (λ files. IfSome files (λ contents. AreWithin contents libraries × HasUnited names (deliveries prefer contents libraries) loaded)) c.in_ok-sessions.ensures.files
+      subst (λ files. IfSome files (λ contents. AreWithin contents (inputs_of libraries) × HasUnited names (deliveries prefer contents libraries) loaded)) c.in_ok-sessions.ensures.files
           (IfSome_then (g.F.Shelf.files c.start_sessions.new.shelf) c.in_ok-end_all.ensures.gathers.1 (λ contents read. (
             read.0,
             let all : map (delivery_of contents) courses ≡ deliveries prefer contents libraries

@@ -1,4 +1,5 @@
-use Rattle.std.proofs.Common.{◌≡◌, ◌-◌, ◌≤◌, ◌^◌}
+use Rattle.std.proofs.Common.{◌≡◌, ◌-◌, ◌≤◌}
+use Rattle.library_batches.specs.Reading.{most_bytes}
 use Rattle.union_explain.specs.Readings.{ahead, GoesOn}
 use Rattle.union_explain.proofs.LocateLaws.{Gathers}
 use Rattle.union_explain.proofs.locator.Locator.next.Given as goal
@@ -12,8 +13,8 @@ invariant-loop-self g l = record {
       l.fn.self.at l.self-inside.reader.at l.self-inside.frame;
   goes : GoesOn l.fn.self.at (ahead l.fn.self.unread (g.S.Source.left l.fn.source))
       l.self-inside.reader.at (ahead l.self-inside.reader.unread (g.S.Source.left l.source));
-  within : l.self-inside.reader.at ≤ 2 ^ 40;
+  within : l.self-inside.reader.at ≤ most_bytes;
 }
 
 abbrev pub decreases-loop-self : goal.decreases-loop-self
-decreases-loop-self g l = 2 ^ 40 - l.self-inside.reader.at
+decreases-loop-self g l = most_bytes - l.self-inside.reader.at
