@@ -17,5 +17,6 @@ pub mod EditionLaws
 pub mod WritingLaws
 pub mod ExportLaws
 mod PartLaws
+mod ShareLaws
 pub mod AroundLaws
 mod WorkWalk

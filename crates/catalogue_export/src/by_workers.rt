@@ -1,9 +1,10 @@
 //! The export of a catalogue, made by several workers.
 //!
 //! The editions are taken in rounds. In a round each worker makes the records of a share of neighbouring editions, and then the
-//! shares are written in order, so what is written is what one worker writes. Memory does not grow with the export: a round is
-//! written before the next one is made. Cost: a thread for each worker but one in each round.
-ghost use Rattle.std.specs.Prelude.{◌≡◌, ◌++◌, ◌≤◌, map, OnOk, OnErr, IfOk, List};
+//! shares are written in order, so what is written is what one worker writes. The shares of a round are equal, so no worker waits long
+//! for another one. Memory does not grow with the export: a round is written before the next one is made. Cost: a thread for each
+//! worker but one in each round.
+ghost use Rattle.std.specs.Prelude.{◌≡◌, ◌++◌, ◌≤◌, ◌<◌, map, OnOk, OnErr, IfOk, List};
 ghost use Rattle.std.specs.List.{flat_map};
 ghost use Rattle.catalogue_core.specs.Histories.{AreEditionsOf};
 ghost use Rattle.catalogue_editions.specs.declared.edition.Edition.{Edition as EditionModel};
@@ -17,6 +18,7 @@ use crate::export_fail::ExportFail;
 use crate::form::ExportForm;
 use crate::listing::Listing;
 use crate::pending::hand_on_rest;
+use crate::shares::share_of;
 use authority_names::name_table::NameTable;
 use catalogue_core::edition::Edition;
 use gathered_catalogue::finished::Finished;
@@ -27,8 +29,8 @@ use union_base::memory::Memory;
 use union_base::record_id::RecordId;
 use union_io::sink::Sink;
 
-/// How many editions a worker makes the records of in a round.
-const SHARE: usize = 2_048;
+/// How many editions a worker makes the records of in a round at most.
+const LARGEST_SHARE: usize = 2_048;
 
 /// The records of neighbouring editions, and those of the editions of which fields were left out.
 #[derive(Drop)]
@@ -121,12 +123,17 @@ fn write_by_workers<R: Threads + Sync, F: ExportForm + Send, O: Sink>(
     if workers == 1 {
         return write_editions::<F, O>(alloc, names, editions, out, left);
     }
-    let most = workers as usize * SHARE;
     let mut done = 0;
     'rounds: while done < editions.len() {
-        let end = done + most.min(editions.len() - done);
+        let rest = editions.len() - done;
+        let share = share_of(rest, workers).min(LARGEST_SHARE);
+        let end = done + share.saturating_mul(workers as usize).clamp(1, rest);
         let round = &editions[done..end];
-        match write_round::<R, F, O>(rt, alloc, names, round, out, left) {
+        let listing = Listing {
+            names,
+            editions: round,
+        };
+        match write_round::<R, F, O>(rt, alloc, &listing, share, out, left) {
             Ok(()) => done = end,
             Err(fail) => return Err(fail),
         }
@@ -134,24 +141,26 @@ fn write_by_workers<R: Threads + Sync, F: ExportForm + Send, O: Sink>(
     Ok(())
 }
 
-/// Makes the records of the editions, those of each share by a worker of its own, and writes them in order.
+/// Makes the records of the editions, those of each share of so many by a worker of its own, and writes them in order.
 fn write_round<R: Threads + Sync, F: ExportForm + Send, O: Sink>(
     rt: &R,
     alloc: Global,
-    names: &NameTable,
-    editions: &[&Edition],
+    listing: &Listing<'_>,
+    size: usize,
     out: &mut O,
     left: &mut Vec<(RecordId, usize)>,
 ) -> Result<(), ExportFail>
-    ensures { IsExport (F.shown names.now) (left_of_one names.now)
-        (map (λ e. e.now) editions.now)
+    requires { 0 < size }
+    ensures { IsExport (F.shown listing.now.names.now) (left_of_one listing.now.names.now)
+        (map (λ e. e.now) listing.now.editions.now)
         (outflow O.written O.faults out.old out.new) left.old.items left.new.items result }
 {
+    let names = listing.names;
     let make = |_start: usize, share: &[&Edition]| -> Result<Part, Memory>
         ensures { IfOk result (IsPartOf (F.shown names.entry.now)
             (left_of_one names.entry.now) (map (λ e. e.now) share.now)) }
     { part_of::<F>(alloc, names, share) };
-    let parts = thread::map_chunks(rt, alloc, editions, SHARE, &make)?;
+    let parts = thread::map_chunks(rt, alloc, listing.editions, size, &make)?;
     for made in parts {
         let part = made?;
         match write_part(part, out, left) {

@@ -24,5 +24,6 @@ pub mod laws;
 pub mod listing;
 mod own_fields;
 pub mod pending;
+mod shares;
 mod shown_fields;
 pub mod works_text;

@@ -1,5 +1,5 @@
 //! The list of a catalogue's works.
-ghost use Rattle.std.specs.Prelude.{◌≡◌, ◌++◌, map, OnOk, IfOk, List};
+ghost use Rattle.std.specs.Prelude.{◌≡◌, ◌++◌, ◌≤◌, map, OnOk, IfOk, List};
 ghost use Rattle.std.specs.List.{flat_map};
 ghost use Rattle.catalogue_core.specs.Histories.{AreEditionsOf};
 ghost use Rattle.catalogue_editions.specs.declared.edition.Edition.{Edition as EditionModel};
@@ -10,12 +10,15 @@ ghost use Rattle.catalogue_export.specs.Writing.{HasMoved, HasWritten, outflow};
 
 use crate::export_fail::ExportFail;
 use crate::pending::{hand_on, hand_on_rest};
+use crate::shares::share_of;
 use authority_names::name_table::NameTable;
 use catalogue_core::catalogue::Catalogue;
 use catalogue_editions::edition::Edition;
 use edition_blocks::grouping::work_pair;
 use gathered_catalogue::finished::Finished;
 use std::alloc::Global;
+use std::thread;
+use std::thread::Threads;
 use union_base::bytes::Bytes;
 use union_base::memory::Memory;
 use union_base::record_id::RecordId;
@@ -43,24 +46,32 @@ pub fn works_text<O: Sink>(
     }
 }
 
-/// Writes the works of the editions of a catalogue when all is loaded, as `works_text` does.
+/// Writes the works of the editions of a catalogue when all is loaded, as `works_text` does, their keys made by `workers` workers, 1 to 64.
+/// One worker makes no thread.
 ///
 /// Answers `WriteFault` only where a write of `out` failed, and `Memory` where memory ran out. A prefix of the text was written
 /// then.
-pub fn finished_works_text<O: Sink>(
+pub fn finished_works_text<R: Threads + Sync, O: Sink>(
+    rt: &R,
     alloc: Global,
     catalogue: &Finished,
+    workers: u32,
     out: &mut O,
 ) -> Result<(), ExportFail>
+    requires least { 1 ≤ workers }
+    requires most { workers ≤ 64 }
     ensures { (all : List EditionModel) × AreEditionsOf catalogue.now.history all
         × HasWritten (works_text_of catalogue.now.names all)
         (outflow O.written O.faults out.old out.new) result }
 {
     match catalogue.editions(alloc) {
-        Ok(editions) => match works_of(alloc, catalogue.names(), editions.as_slice()) {
-            Ok(works) => write_works(alloc, &works, out),
-            Err(Memory) => Err(ExportFail::Memory),
-        },
+        Ok(editions) => {
+            let names = catalogue.names();
+            match works_of(rt, alloc, names, editions.as_slice(), workers) {
+                Ok(works) => write_works(alloc, &works, out),
+                Err(Memory) => Err(ExportFail::Memory),
+            }
+        }
         Err(Memory) => Err(ExportFail::Memory),
     }
 }
@@ -81,13 +92,47 @@ fn pairs_of(
     Ok(pairs)
 }
 
-/// The works of the editions by the names. Returns `Memory` if allocation fails.
-fn works_of(alloc: Global, names: &NameTable, editions: &[&Edition]) -> Result<Works, Memory>
+/// The same by so many workers, where each makes the pairs of a share of neighbouring editions. Returns `Memory` if allocation fails.
+fn pairs_by_workers<R: Threads + Sync>(
+    rt: &R,
+    alloc: Global,
+    names: &NameTable,
+    editions: &[&Edition],
+    workers: u32,
+) -> Result<Vec<(Bytes, RecordId)>, Memory>
+    requires { 1 ≤ workers }
+    ensures { IfOk result (λ pairs. pairs.items
+        ≡ work_pairs names.now (map (λ e. e.now) editions.now)) }
+{
+    let size = share_of(editions.len(), workers);
+    let make = |_start: usize, share: &[&Edition]| -> Result<Vec<(Bytes, RecordId)>, Memory>
+        ensures { IfOk result (λ pairs. pairs.items
+            ≡ work_pairs names.entry.now (map (λ e. e.now) share.now)) }
+    { pairs_of(alloc, names, share) };
+    let parts = thread::map_chunks(rt, alloc, editions, size, &make)?;
+    let mut pairs = Vec::with_capacity(alloc, editions.len())?;
+    for made in parts {
+        let mut part = made?;
+        pairs.append(&mut part)?;
+    }
+    Ok(pairs)
+}
+
+/// The works of the editions by the names, whose keys are made by so many workers. Returns `Memory` if allocation fails.
+fn works_of<R: Threads + Sync>(
+    rt: &R,
+    alloc: Global,
+    names: &NameTable,
+    editions: &[&Edition],
+    workers: u32,
+) -> Result<Works, Memory>
+    requires { 1 ≤ workers }
     ensures { IfOk result (λ works. works.works
         ≡ works_of (work_pairs names.now (map (λ e. e.now) editions.now))) }
 {
     let mut works = Works::empty(alloc);
-    let change = works.plan(Vec::new(alloc), pairs_of(alloc, names, editions)?);
+    let pairs = pairs_by_workers(rt, alloc, names, editions, workers)?;
+    let change = works.plan(Vec::new(alloc), pairs);
     works.make_room(alloc, &change)?;
     works.install(change);
     Ok(works)

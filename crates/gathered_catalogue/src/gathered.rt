@@ -156,6 +156,8 @@ impl Gathered {
     }
 
     /// The catalogue, resolved. Returns `Memory` if allocation fails.
+    ///
+    /// The places of the records are given up first, so that their memory serves the resolving.
     pub fn into_resolved<R: Threads + Sync>(
         self,
         rt: &R,
@@ -166,12 +168,14 @@ impl Gathered {
         requires most { workers ≤ 64 }
         ensures { IfOk result (λ resolved. resolved ≡ self) }
     {
-        let editions = self.editions(rt, alloc, workers)?;
         let Gathered {
             history,
-            libraries: _,
+            libraries,
             names,
         } = self;
+        let records = current_records(alloc, history.as_slice(), &libraries)?;
+        drop(libraries);
+        let editions = resolved_in_order(rt, names.hashing(), records, workers)?;
         Ok(Resolved::of(history, editions, names))
     }
 

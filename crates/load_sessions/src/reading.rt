@@ -9,9 +9,19 @@ use crate::preparing::change_of;
 use gathered_catalogue::change::Change;
 use library_batches::batch_reader::BatchReader;
 use library_batches::stop::Stop;
-use std::alloc::Global;
+use std::alloc::{AllocError, Global};
 use std::thread::Threads;
 use union_io::source::Source;
+
+/// How much room is taken ahead of a batch, in bytes: somewhat more than a batch of usual records comes to.
+const ROOM_AHEAD: usize = 1_048_576;
+
+/// Takes room for a batch, and gives it back, so that the heap of this thread has grown by then. The C library lets a thread's heap grow
+/// by as much as is asked for at once, which is mostly one page, and each growth makes the other threads wait. Where there is no such
+/// room nothing is lost.
+fn take_room_ahead(alloc: Global) {
+    let _room: Result<Vec<u8>, AllocError> = Vec::with_capacity(alloc, ROOM_AHEAD);
+}
 
 /// The next batch of the source, read and made a change by the crew, and None where it ended within the limit and each of its batches
 /// was handed out.
@@ -36,6 +46,7 @@ pub(crate) fn read_change<R: Threads + Sync, S: Source>(
     ensures fewer { IfOk result (λ next. OnSome next
         (most_ahead reader.new.stream < most_ahead reader.old.stream)) }
 {
+    take_room_ahead(alloc);
     match reader.next_by(rt, alloc, source, crew.workers)? {
         Some(batch) => Ok(Some(change_of(rt, alloc, batch, crew)?)),
         None => Ok(None),

@@ -140,8 +140,8 @@ fn run_each<R: Threads + Wait + Sync, S: Source + Send, G: Gate>(
 ///
 /// Each session reads its source, cuts and checks its frames, and makes a turn with its pass for each batch of accepted
 /// operations; `gate` is told before and after each turn. With one worker the sessions run in their order and the asker runs
-/// last. With more they run on as many threads, each of which has neighbouring sessions, and the asker runs beside them. Where there
-/// are twice as many workers as sessions, each session reads its next batch while it makes a turn.
+/// last. With more they run on as many threads, each of which has neighbouring sessions, and the asker runs beside them, or last where
+/// it has no question. Where there are twice as many workers as sessions, each session reads its next batch while it makes a turn.
 ///
 /// A session ends with `ReadFault` only where a read of its source failed, with `TooLong` where its source gave `limit` bytes
 /// and at least one more, with `Memory` where allocation failed, and else with `Done`. The batches that a session turned are the
@@ -169,7 +169,7 @@ pub fn run_sessions<R: Threads + Wait + Sync, S: Source + Send, G: Gate>(
         desk,
         gate,
     };
-    if crew.workers == 1 {
+    if crew.workers == 1 || asker.questions.is_empty() {
         run_each(&turning, sessions, crew);
         ask_all(rt, alloc, desk, asker);
         return;

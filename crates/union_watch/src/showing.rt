@@ -123,9 +123,11 @@ fn write_export<R: Threads + Sync, F: ExportForm + Send, O: Sink, N: Sink>(
     }
 }
 
-/// Writes the list of works, and the reports.
-fn write_works<O: Sink, N: Sink>(
+/// Writes the list of works, whose keys `workers` workers make, and the reports.
+fn write_works<R: Threads + Sync, O: Sink, N: Sink>(
+    rt: &R,
     alloc: Global,
+    workers: Workers,
     loaded: Loaded,
     out: &mut O,
     notes: &mut N,
@@ -146,7 +148,7 @@ fn write_works<O: Sink, N: Sink>(
         })
         result }
 {
-    match finished_works_text(alloc, &loaded.catalogue, out) {
+    match finished_works_text(rt, alloc, &loaded.catalogue, workers.number(), out) {
         Ok(()) => write_reports(alloc, loaded, &[], notes),
         Err(ExportFail::WriteFault) => Status::WriteFault,
         Err(ExportFail::Memory) => {
@@ -189,6 +191,6 @@ pub fn write_shown<R: Threads + Sync, O: Sink, N: Sink>(
         Shown::Export(Form::Json) => {
             write_export::<R, JsonLines, O, N>(rt, alloc, workers, loaded, out, notes)
         }
-        Shown::Works => write_works(alloc, loaded, out, notes),
+        Shown::Works => write_works(rt, alloc, workers, loaded, out, notes),
     }
 }

@@ -14,9 +14,9 @@ rounds-init g c = record {
 pub rounds-preserved : goal.rounds-preserved
 rounds-preserved g c =
     let editions = c.args.listing.now.editions.now in
-    let end = c.rounds.done + c.min.result in
+    let end = c.rounds.done + c.clamp.result in
     record {
-      within = omega (arith, c.min.ensures, c.rounds-test.true);
+      within = omega (arith, c.clamp.ensures, c.rounds-test.true);
       exported = to-more (g.F.ExportForm.shown c.args.listing.now.names.now) (left_of_one c.args.listing.now.names.now)
           editions (drop c.rounds.done editions) (slice_range editions c.rounds.done end) (drop end editions)
           (g.O.Sink.written c.args.out.now) (g.O.Sink.written c.rounds.out) (g.O.Sink.written c.write_round.new.out)
@@ -28,7 +28,7 @@ rounds-preserved g c =
 pub returns-in-Err : goal.returns-in-Err
 returns-in-Err g c =
     let editions = c.args.listing.now.editions.now in
-    let end = c.rounds.done + c.min.result in
+    let end = c.rounds.done + c.clamp.result in
     to-stop (g.F.ExportForm.shown c.args.listing.now.names.now) (left_of_one c.args.listing.now.names.now)
     editions (drop c.rounds.done editions) (slice_range editions c.rounds.done end) (drop end editions)
     (g.O.Sink.written c.args.out.now) (g.O.Sink.written c.rounds.out) (g.O.Sink.written c.write_round.new.out)
