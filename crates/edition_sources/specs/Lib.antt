@@ -1,0 +1,3 @@
+pub mod GivingFields
+pub mod Values
+pub mod Shown
