@@ -1,3 +1,4 @@
 pub mod GivingFields
 pub mod Values
 pub mod Shown
+pub mod Members

@@ -106,11 +106,7 @@ pub fn issn_field<'a>(content: &'a Content, wanted: &[u8; 8]) -> Option<&'a Fiel
 }
 
 /// Whether the subfield is that number of the Library of Congress. Returns `Memory` if allocation fails.
-fn is_lccn(
-    alloc: Global,
-    subfield: &Subfield<'_>,
-    wanted: &(Bytes, Bytes),
-) -> Result<bool, Memory>
+fn is_lccn(alloc: Global, subfield: &Subfield<'_>, wanted: &(Bytes, Bytes)) -> Result<bool, Memory>
     ensures { IfOk result (λ is. is ≡ has pairs_cmp (lccn_in subfield.now) wanted.now) }
 {
     if subfield.code != NUMBER {

@@ -8,6 +8,7 @@
 #![tactic(auto)]
 
 pub mod giving_fields;
+pub mod laws;
 pub mod ranking;
 pub mod shown_once;
 pub mod values;
