@@ -12,8 +12,8 @@ use union_base::sorted_list::{Element, SortedList};
 /// The bibliographic level of a serial (MARC 21, leader/07).
 const SERIAL: u8 = b's';
 
-/// Whether the value stands in the list.
-fn has<K: Element>(list: &[K], value: &K) -> bool
+/// Whether the value stands in the list. Takes no memory.
+pub fn has<K: Element>(list: &[K], value: &K) -> bool
     ensures { result ≡ has K.cmp list.now value.now }
 {
     list.iter().any(|other| value.cmp(other).is_eq())

@@ -2,7 +2,7 @@
 use Rattle.std.specs.Prelude.{ℕ, List, [], ◌++◌, codes, decimal, Option, Some, None, is_some, if◌then◌else◌}
 use Rattle.union_base.specs.declared.record_id.RecordId.{RecordId}
 use Rattle.union_keys.specs.declared.standing.Standing.{Standing}
-use Rattle.union_why.specs.Ids.{id_text}
+use Rattle.why_texts.specs.Ids.{id_text}
 
 -- its file withdraws it, by the record that has so many bytes before it
 unfoldable pub withdrawn_text : RecordId → ℕ → List ℕ

@@ -1,8 +1,3 @@
-pub mod Ids
-pub mod Reasons
-pub mod Steps
-pub mod Differences
-pub mod Answers
 pub mod Fates
 pub mod Records
 pub mod Requests

@@ -12,7 +12,7 @@ use Rattle.edition_derivations.specs.Answers.{Answers}
 use Rattle.edition_derivations.specs.Steps.{holds, IsDerivation, IsEditionOf}
 use Rattle.union_keys.specs.Groups.{Table}
 use Rattle.union_keys.specs.Lines.{editions_in}
-use Rattle.union_why.specs.Answers.{alone_text, answer_text}
+use Rattle.why_texts.specs.Answers.{members, alone_text, answer_text}
 
 -- what the last records of their ids load, in descending order of the ids
 abbrev pub records_in : Table → List Edition
@@ -25,7 +25,7 @@ pub record TellsOne (records : List Edition) (id : RecordId) (text : List ℕ) :
   pub of : IsEditionOf records edition
   pub has : IsTrue (holds edition id)
   pub derived : IsDerivation records steps edition
-  pub told : text ≡ alone_text id edition steps
+  pub told : text ≡ alone_text id edition (members records edition) steps
 
 -- the two are told by the editions to which the records resolve
 pub record TellsTwo (records : List Edition) (one other : RecordId) (text : List ℕ) : Type 0 where
@@ -33,4 +33,4 @@ pub record TellsTwo (records : List Edition) (one other : RecordId) (text : List
   pub resolved : IsResolution match join records editions
   pub answer : AnswerInPlace
   pub answers : Answers records editions one other (Some answer)
-  pub told : text ≡ answer_text one other answer
+  pub told : text ≡ answer_text one other records answer

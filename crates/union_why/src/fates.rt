@@ -3,11 +3,11 @@ ghost use Rattle.std.specs.Prelude.{◌≡◌, ◌++◌, OnOk};
 ghost use Rattle.std.specs.Option.{option_copied};
 ghost use Rattle.union_why.specs.Fates.{withdrawn_text, absent_text, fate_text};
 
-use crate::ids::add_id;
-use crate::numbers::add_number;
 use std::alloc::AllocError;
 use union_base::record_id::RecordId;
 use union_keys::standing::Standing;
+use why_texts::ids::add_id;
+use why_texts::numbers::add_number;
 
 /// Adds that the record of this many bytes before it withdraws the id.
 fn add_withdrawn(text: &mut Vec<u8>, id: &RecordId, first: u64) -> Result<(), AllocError>

@@ -3,11 +3,10 @@ ghost use Rattle.std.specs.Prelude.{◌≡◌, ◌++◌, IfOk, IfSome, OnOk};
 ghost use Rattle.std.specs.Option.{option_to_list};
 ghost use Rattle.union_why.specs.Records.{records_in, TellsOne, TellsTwo};
 
-use crate::answers::{add_alone, add_answer};
 use catalogue_editions::edition::Edition;
 use edition_derivations::asking::answer_of;
 use edition_derivations::holding::holder;
-use edition_derivations::merging::derivation;
+use edition_derivations::merging::{derivation, members_of};
 use key_hashing::hashing::Hashing;
 use std::alloc::Global;
 use std::collections::BTreeMap;
@@ -16,6 +15,8 @@ use swoosh_halves::halves::resolve_halves;
 use union_base::memory::Memory;
 use union_base::record_id::RecordId;
 use union_keys::standing::Standing;
+use why_texts::answers::{add_alone, add_answer};
+use why_texts::steps::Told;
 
 /// Pushes what the record loads. Returns `Memory` if allocation fails.
 fn push_loaded(records: &mut Vec<Edition>, standing: Standing) -> Result<(), Memory>
@@ -77,8 +78,13 @@ pub fn tell_one<Rt: Threads + Sync>(
         None => Ok(None),
         Some(edition) => {
             let steps = derivation(alloc, records, edition)?;
+            let members = members_of(alloc, records, edition)?;
+            let told = Told {
+                records: members.as_slice(),
+                steps: steps.as_slice(),
+            };
             let mut text = Vec::new(alloc);
-            add_alone(&mut text, id, edition, steps.as_slice())?;
+            add_alone(alloc, &mut text, id, edition, &told)?;
             Ok(Some(text))
         }
     }
@@ -103,7 +109,7 @@ pub fn tell_two<Rt: Threads + Sync>(
         None => Ok(None),
         Some(told) => {
             let mut text = Vec::new(alloc);
-            add_answer(&mut text, one, other, &told)?;
+            add_answer(alloc, &mut text, one, other, records, &told)?;
             Ok(Some(text))
         }
     }

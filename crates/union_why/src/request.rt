@@ -41,6 +41,11 @@ WHAT IS WRITTEN
     why          each rule by which the sides match, with one value for each of
                  its parts, in normal form, which both sides have
 
+    Below it a line for each of these values says where it was read: the tag,
+    the record and the field of either side, such as
+
+        020 of LIBA.a1 $a0306406152 = 020 of LIBB.b1 $a0-306-40615-2
+
     Of two records of two editions: for each kind of feature whether the two
     editions have a value in common, and which; else what each has.
 

@@ -20,5 +20,12 @@ returns g c =
       of = record { editions = editions; resolved = resolved; among = among };
       has = c.in-Some.ensures.holds;
       derived = c.in_ok-steps-in-Some.ensures;
-      told = rw (c.in_ok-add_alone-in-Some.ensures, c.as_slice-in-Some.ensures.value, c.new-text.ensures.items) refl;
+      told = rw (
+        c.in_ok-add_alone-in-Some.ensures,
+        c.as_slice-in-Some-2.ensures.value,
+        c.as_slice-in-Some.ensures.value,
+        c.in_ok-members-in-Some.ensures,
+        c.new-text.ensures.items,
+      )
+          refl;
     }

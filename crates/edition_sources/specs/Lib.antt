@@ -1,0 +1,4 @@
+pub mod GivingFields
+pub mod Values
+pub mod Shown
+pub mod Members

@@ -1,7 +1,0 @@
-use Rattle.std.proofs.Common.{◌≡◌, ◌++◌, take}
-use Rattle.std.specs.List.{flat_map}
-use Rattle.union_why.specs.Differences.{next_value}
-use Rattle.union_why.proofs.differences.add_later.Given as goal
-
-abbrev pub invariant-loop-value : goal.invariant-loop-value
-invariant-loop-value g l = l.text.items ≡ l.initial.text.items ++ flat_map (next_value g.K.Spelled.spelled) (take l.value-index l.values)

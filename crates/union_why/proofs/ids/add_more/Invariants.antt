@@ -1,6 +1,0 @@
-use Rattle.std.proofs.Common.{◌≡◌, ◌++◌, take}
-use Rattle.union_why.specs.Ids.{more_ids}
-use Rattle.union_why.proofs.ids.add_more.Given as goal
-
-abbrev pub invariant-loop-id : goal.invariant-loop-id
-invariant-loop-id l = l.text.items ≡ l.initial.text.items ++ more_ids (take l.id-index l.ids)

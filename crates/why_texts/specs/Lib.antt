@@ -1,0 +1,7 @@
+pub mod Ids
+pub mod FieldTexts
+pub mod Reasons
+pub mod Sources
+pub mod Steps
+pub mod Differences
+pub mod Answers
