@@ -2,4 +2,3 @@ mod AnsweredLaws
 mod FollowLaws
 mod JobLaws
 mod JsonLaws
-mod OpeningLaws
