@@ -1,10 +1,10 @@
 //! What an export writes.
-use crate::sources::Sources;
+use authority_names::name_table::NameTable;
 use catalogue_editions::edition::Edition;
 
-/// Editions, in the order in which they are written, and what the export takes of their catalogue beside them.
+/// Editions, in the order in which they are written, and the names by which their works have keys.
 #[derive(Clone, Copy)]
 pub struct Listing<'a> {
-    pub sources: &'a Sources<'a>,
+    pub names: &'a NameTable,
     pub editions: &'a [&'a Edition],
 }

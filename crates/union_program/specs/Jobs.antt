@@ -21,7 +21,7 @@ module _ (help version : List ℕ) (unopened : Type 0) (shelf : ShelfFlow) (out 
   Does (Check file) = IsCheck file.library (file_flow shelf file.path) out status × SameElsewhere shelf.before shelf.after file.path
   Does (ToJson file) = IsToJsonRun file.library (file_flow shelf file.path) out notes status × SameElsewhere shelf.before shelf.after file.path
   Does (FromJson file) = IsFromJsonRun file.library (file_flow shelf file.path) out notes status × SameElsewhere shelf.before shelf.after file.path
-  Does (Export exporting loading) = IsUnionRun (exported_as exporting) loading shelf out notes status
+  Does (Export form loading) = IsUnionRun (exported_as form) loading shelf out notes status
   Does (Works loading) = IsUnionRun listed loading shelf out notes status
   Does (Watch asks loading) = IsWatchRun (watch_of asks loading) shelf out notes status
   Does (Follow asks libraries) = IsFollowRun asks libraries shelf out notes status
