@@ -3,5 +3,3 @@ mod TakingLaws
 mod GroupLaws
 mod FileLaws
 mod PlacesLaws
-mod RowLaws
-mod TableLaws

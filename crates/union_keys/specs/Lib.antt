@@ -4,5 +4,3 @@ pub mod Readings
 pub mod Lines
 pub mod Groups
 pub mod Requests
-pub mod Tables
-pub mod GroupTables

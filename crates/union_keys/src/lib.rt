@@ -12,7 +12,6 @@
 #![tactic(auto)]
 
 mod frame_cut;
-pub mod group_table;
 pub mod groups;
 mod key_text;
 pub mod laws;
@@ -21,5 +20,4 @@ pub mod reading;
 pub mod request;
 pub mod run;
 pub mod standing;
-pub mod table;
 mod words;
