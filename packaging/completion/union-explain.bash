@@ -13,7 +13,7 @@ _union_tools() {
   case ${1##*/}:$COMP_CWORD in
     union-explain:1) options="--csv --help --version" ;;
     union-keys:1) options="--groups= --help --version" ;;
-    union-why:1) options="--fields --help --version" ;;
+    union-why:1) options="--help --version" ;;
     union-overlap:*)
       if [[ $word == -* ]]; then
         options="--csv --help --version"

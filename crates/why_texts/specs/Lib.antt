@@ -5,4 +5,3 @@ pub mod Sources
 pub mod Steps
 pub mod Differences
 pub mod Answers
-pub mod Fields

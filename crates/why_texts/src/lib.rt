@@ -11,7 +11,6 @@
 pub mod answers;
 pub mod differences;
 pub mod field_texts;
-pub mod fields;
 pub mod ids;
 pub mod numbers;
 pub mod reasons;
