@@ -2,3 +2,4 @@ mod AnsweredLaws
 mod FollowLaws
 mod JobLaws
 mod JsonLaws
+mod OpeningLaws

@@ -1,30 +1,50 @@
 -- What a run does, by the job that its words ask for: the clauses of `union_run`, as one fact for `run_words`, which is private. Whoever
 -- reads the contract of `union_run` needs none of it.
-use Rattle.std.specs.Prelude.{◌≡◌, ◌≢◌, Option, Some, None, List, ℕ}
+use Rattle.std.specs.Prelude.{◌≡◌, ◌≢◌, ◌++◌, Option, Some, None, List, ℕ}
 use Rattle.std.specs.Io.KnownBytes.{Keeps}
 use Rattle.union_io.specs.Counts.{SameElsewhere}
 use Rattle.union_watch.specs.Runs.{exported_as, listed, IsCheck, IsUnionRun, IsTold}
 use Rattle.union_json.specs.Runs.{IsToJsonRun, IsFromJsonRun}
 use Rattle.union_script.specs.Runs.{IsScript}
 use Rattle.union_trial.specs.Trials.{IsTrial}
-use Rattle.union_watch.specs.WatchRuns.{watch_of, IsWatchRun}
-use Rattle.union_words.specs.Flows.{ShelfFlow, Outflow, file_flow}
+use Rattle.names_file.specs.Named.{names_inputs}
+use Rattle.union_files.specs.Inputs.{inputs_of}
+use Rattle.union_files.specs.Openings.{OpensInTurn}
+use Rattle.union_watch.specs.WatchRuns.{first_files, watch_of, IsWatchRun}
+use Rattle.union_words.specs.Flows.{ShelfFlow, InputFile, Outflow, file_flow}
 use Rattle.union_words.specs.Words.{Job, Check, ToJson, FromJson, Export, Works, Watch, Follow, Script, Trial, Help, Version}
 use Rattle.union_words.specs.declared.status.Status.{Status}
 use Rattle.union_words.specs.declared.status.Status.TheVariants.{Usage}
-use Rattle.union_program.specs.Follow.{IsFollowRun}
+use Rattle.union_program.specs.Follow.{followed, IsFollowRun}
 
--- by these texts of the program's own, what is told of the shelf and the outputs, and whether the shelf was left alone
-module _ (help version : List ℕ) (unopened : Type 0) (shelf : ShelfFlow) (out notes : Outflow) (status : Status) where
+-- the files of a command that loads the files of libraries, in the order in which they are opened: that of questions, that of names, and
+-- those of the libraries
+abbrev pub loaded_files : Job → Option (List InputFile)
+loaded_files (Export form loading) = Some (names_inputs loading.names ++ inputs_of loading.libraries)
+loaded_files (Works loading) = Some (names_inputs loading.names ++ inputs_of loading.libraries)
+loaded_files (Watch asks loading) = Some (first_files (watch_of asks loading) ++ inputs_of loading.libraries)
+loaded_files (Follow asks libraries) = Some (first_files (followed asks libraries) ++ inputs_of libraries)
+loaded_files job = None
+
+-- by these texts of the program's own, what is told of the shelf and the outputs, whether the shelf was left alone, and which names it
+-- lists as opened
+module _ (help version : List ℕ) (unopened : Type 0) (shelf : ShelfFlow) (out notes : Outflow) (status : Status) (listed_before listed_after : List (List ℕ)) where
+  -- the files were opened in their order
+  abbrev pub Opens : List InputFile → Type 0
+  Opens files = OpensInTurn shelf.files status files listed_before listed_after
+
   -- what the run of a job did; of files no other than its own is at fault
   abbrev pub Does : Job → Type 0
   Does (Check file) = IsCheck file.library (file_flow shelf file.path) out status × SameElsewhere shelf.before shelf.after file.path
   Does (ToJson file) = IsToJsonRun file.library (file_flow shelf file.path) out notes status × SameElsewhere shelf.before shelf.after file.path
   Does (FromJson file) = IsFromJsonRun file.library (file_flow shelf file.path) out notes status × SameElsewhere shelf.before shelf.after file.path
-  Does (Export form loading) = IsUnionRun (exported_as form) loading shelf out notes status
-  Does (Works loading) = IsUnionRun listed loading shelf out notes status
-  Does (Watch asks loading) = IsWatchRun (watch_of asks loading) shelf out notes status
-  Does (Follow asks libraries) = IsFollowRun asks libraries shelf out notes status
+  Does (Export form loading) =
+      IsUnionRun (exported_as form) loading shelf out notes status × Opens (names_inputs loading.names ++ inputs_of loading.libraries)
+  Does (Works loading) = IsUnionRun listed loading shelf out notes status × Opens (names_inputs loading.names ++ inputs_of loading.libraries)
+  Does (Watch asks loading) =
+      IsWatchRun (watch_of asks loading) shelf out notes status × Opens (first_files (watch_of asks loading) ++ inputs_of loading.libraries)
+  Does (Follow asks libraries) =
+      IsFollowRun asks libraries shelf out notes status × Opens (first_files (followed asks libraries) ++ inputs_of libraries)
   Does (Script path) = IsScript path shelf out status
   Does (Trial seed count workers) = IsTrial seed count out status × unopened
   Does Help = IsTold help out status × unopened

@@ -1,10 +1,11 @@
 //! The loading of libraries' files, and the answers to the questions of a file beside it.
-ghost use Rattle.std.specs.Prelude.{◌≡◌, ◌++◌, [], map, length, IfOk};
+ghost use Rattle.std.specs.Prelude.{◌≡◌, ◌++◌, [], map, length, IfOk, IfErr};
 ghost use Rattle.std.specs.FinMap.{empty};
 ghost use Rattle.names_file.specs.Named.{named_by};
 ghost use Rattle.union_words.specs.Flows.{shelf_flow};
 ghost use Rattle.union_words.specs.Meanings.{libraries_meaning, loading_meaning};
-ghost use Rattle.union_files.specs.Inputs.{Gathers, deliveries};
+ghost use Rattle.union_files.specs.Inputs.{Gathers, deliveries, inputs_of};
+ghost use Rattle.union_files.specs.Openings.{OpensInTurn};
 ghost use Rattle.union_files.specs.Interleavings.{IsInterleaving};
 ghost use Rattle.union_follow.specs.Following.{HasFollowed};
 ghost use Rattle.catalogue_query.specs.Replies.{AreReplies};
@@ -107,6 +108,8 @@ pub fn load_by_names<R: Threads + Wait + Sync, F: Shelf, G: Gate>(
         (shelf_flow F.files F.faults shelf.old shelf.new)
         (λ watched contents. HasTurned IsInterleaving (named_by names)
         (deliveries_of contents (loading_meaning loading.now)) watched.loaded) }
+    ensures in_turn { IfErr result (λ status. OpensInTurn (F.files shelf.old) status
+        (inputs_of (libraries_meaning loading.now.libraries)) (F.opened shelf.old) (F.opened shelf.new)) }
     ensures beside { IfOk result (λ watched. AreReplies names.table
         watched.loaded.catalogue.history 0 questions.beside.items watched.beside.items) }
     ensures late { IfOk result (λ watched. AreReplies names.table watched.loaded.catalogue.history
@@ -153,6 +156,8 @@ pub fn load_and_answer<'a, R: Threads + Wait + Sync, F: Shelf, G: Gate>(
         (λ answered contents. HasTurned IsInterleaving (named_by names)
         (deliveries_of contents (loading_meaning loading.now))
         answered.loaded) }
+    ensures in_turn { IfErr result (λ status. OpensInTurn (F.files shelf.old) status
+        (inputs_of (libraries_meaning loading.now.libraries)) (F.opened shelf.old) (F.opened shelf.new)) }
     ensures lines { IfOk result (λ answered. map line_meaning answered.lines.items
         ≡ lines_in text.now) }
     ensures told { IfOk result (λ answered. AreTold names.table answered.loaded.catalogue.history
@@ -193,6 +198,8 @@ pub fn follow_and_answer<'a, R: Threads + Wait + Sync, F: Shelf, G>(
         (shelf_flow F.files F.faults shelf.old shelf.new)
         (λ answered contents. HasFollowed (deliveries [] contents (libraries_meaning libraries.now))
         answered.loaded) }
+    ensures in_turn { IfErr result (λ status. OpensInTurn (F.files shelf.old) status
+        (inputs_of (libraries_meaning libraries.now)) (F.opened shelf.old) (F.opened shelf.new)) }
     ensures lines { IfOk result (λ answered. map line_meaning answered.lines.items
         ≡ lines_in text.now) }
     ensures told { IfOk result (λ answered. AreTold empty answered.loaded.catalogue.history

@@ -2,7 +2,7 @@
 //!
 //! It does all that the program does, over whatever shelf of files and outputs it is handed. Each answer other than
 //! `Done` and `DoneWithRefusals` has its cause in a clause, and those two have the whole result.
-ghost use Rattle.std.specs.Prelude.{◌≡◌, ◌≢◌, ◌↔◌, ◌⊎◌, ℕ, List, IsTrue, Some, None, false, true};
+ghost use Rattle.std.specs.Prelude.{◌≡◌, ◌≢◌, ◌↔◌, ◌⊎◌, ◌++◌, ℕ, List, IfSome, IsTrue, Some, None, false, true};
 ghost use Rattle.std.specs.Option.{option_map_or};
 ghost use Rattle.std.specs.Io.KnownBytes.{Keeps};
 ghost use Rattle.union_io.specs.Counts.{SameElsewhere};
@@ -14,9 +14,12 @@ ghost use Rattle.union_words.specs.Statuses.{is_early};
 ghost use Rattle.union_words.specs.declared.form.Form.{Form as ExportForm};
 ghost use Rattle.union_script.specs.Runs.{IsScript};
 ghost use Rattle.union_trial.specs.Trials.{IsTrial};
-ghost use Rattle.union_watch.specs.WatchRuns.{watch_of, IsWatchRun};
-ghost use Rattle.union_program.specs.Follow.{IsFollowRun};
-ghost use Rattle.union_program.specs.Jobs.{HasDone};
+ghost use Rattle.names_file.specs.Named.{names_inputs};
+ghost use Rattle.union_files.specs.Inputs.{inputs_of};
+ghost use Rattle.union_files.specs.Openings.{OpensInTurn};
+ghost use Rattle.union_watch.specs.WatchRuns.{first_files, watch_of, IsWatchRun};
+ghost use Rattle.union_program.specs.Follow.{followed, IsFollowRun};
+ghost use Rattle.union_program.specs.Jobs.{loaded_files, HasDone};
 ghost use Rattle.union_watch.specs.Runs.{exported_as, listed, showing_of, IsCheck, IsUnionRun, IsTold};
 ghost use Rattle.union_json.specs.Runs.{IsToJsonRun, IsFromJsonRun};
 
@@ -205,6 +208,10 @@ fn run_union<R: Threads + Wait + Sync, F: Shelf, O: Sink, N: Sink, G: Gate>(
         (outflow N.written N.faults notes.old notes.new) result }
     ensures noted { IsTrue (is_early result)
         → IsNoted (outflow N.written N.faults notes.old notes.new) (early_text result) }
+    ensures in_turn { OpensInTurn (F.files shelf.old) result
+        (names_inputs (loading_meaning loading.now).names
+        ++ inputs_of (libraries_meaning loading.now.libraries))
+        (F.opened shelf.old) (F.opened shelf.new) }
 {
     match names_of(host.alloc, host.hashing, loading.names, shelf) {
         Ok(names) => {
@@ -237,6 +244,10 @@ fn run_watch<R: Threads + Wait + Sync, F: Shelf, O: Sink, N: Sink, G: Gate>(
         (outflow N.written N.faults notes.old notes.new) result }
     ensures noted { IsTrue (is_early result)
         → IsNoted (outflow N.written N.faults notes.old notes.new) (early_text result) }
+    ensures in_turn { OpensInTurn (F.files shelf.old) result
+        (first_files (watch_of asks.now (loading_meaning loading.now))
+        ++ inputs_of (libraries_meaning loading.now.libraries))
+        (F.opened shelf.old) (F.opened shelf.new) }
 {
     match read_asks(host.alloc, asks, shelf) {
         Ok(text) => match names_of(host.alloc, host.hashing, loading.names, shelf) {
@@ -265,6 +276,10 @@ fn run_follow<R: Threads + Wait + Sync, F: Shelf, O: Sink, N: Sink, G>(
         (outflow N.written N.faults notes.old notes.new) result }
     ensures noted { IsTrue (is_early result)
         → IsNoted (outflow N.written N.faults notes.old notes.new) (early_text result) }
+    ensures in_turn { OpensInTurn (F.files shelf.old) result
+        (first_files (followed asks.now (libraries_meaning libraries.now))
+        ++ inputs_of (libraries_meaning libraries.now))
+        (F.opened shelf.old) (F.opened shelf.new) }
 {
     match read_asks(host.alloc, asks, shelf) {
         Ok(text) => match follow_and_answer(host, text.as_slice(), libraries, shelf) {
@@ -287,7 +302,7 @@ fn run_words<R: Threads + Wait + Sync, F: Shelf, O: Sink, N: Sink, G: Gate>(
         (shelf_flow F.files F.faults shelf.old shelf.new)
         (outflow O.written O.faults out.old out.new)
         (outflow N.written N.faults notes.old notes.new)
-        result (Words.job_of words.now) }
+        result (F.opened shelf.old) (F.opened shelf.new) (Words.job_of words.now) }
     ensures noted { IsTrue (is_early result)
         → IsNoted (outflow N.written N.faults notes.old notes.new)
         (early_text result) }
@@ -412,6 +427,11 @@ pub fn union_run<R: Threads + Wait + Sync, F: Shelf, O: Sink, N: Sink, G: Gate>(
     ensures quiet { (job : Words.Job) → Words.job_of words.now ≡ Some job
         → Words.has_report job ≡ false
         → is_early result ≡ false → Keeps (N.written notes.old) (N.written notes.new) }
+
+    // the order in which files are opened
+    ensures in_turn { (job : Words.Job) → Words.job_of words.now ≡ Some job
+        → IfSome (loaded_files job) (λ files. OpensInTurn (F.files shelf.old) result files
+        (F.opened shelf.old) (F.opened shelf.new)) }
 
     // A run of words in no form writes nothing else. The shelf is left alone where the words name no file; and of files only one
     // that the words name can be at fault: of an export, of works, of watch and of a script their own clauses say which.

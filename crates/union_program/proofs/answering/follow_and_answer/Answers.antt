@@ -1,5 +1,7 @@
 use Rattle.std.specs.FinMap.{empty}
+use Rattle.union_words.specs.Meanings.{libraries_meaning}
 use Rattle.union_program.proofs.AnsweredLaws.{told-answered}
+use Rattle.union_program.proofs.OpeningLaws.{load_in_turn}
 use Rattle.union_program.proofs.answering.follow_and_answer.Goals as goal
 
 pub returns-in-Ok-follow_and_ask-clause-told : goal.returns-in-Ok-follow_and_ask-clause-told
@@ -18,3 +20,9 @@ returns-in-Ok-follow_and_ask-clause-timely g c =
 
 pub returns-in-Ok-follow_and_ask-clause-gathers : goal.returns-in-Ok-follow_and_ask-clause-gathers
 returns-in-Ok-follow_and_ask-clause-gathers g c = rw c.answered.ensures.loaded c.in-Ok-follow_and_ask.ensures.gathers
+
+pub returns-clause-in_turn : goal.returns-clause-in_turn
+returns-clause-in_turn g c =
+    load_in_turn (g.F.Shelf.files c.args.shelf.now) c.in-Err.status (libraries_meaning c.args.libraries.now)
+    (g.F.Shelf.faults c.args.shelf.now) (g.F.Shelf.faults c.follow_and_ask.new.shelf)
+    (g.F.Shelf.opened c.args.shelf.now) (g.F.Shelf.opened c.follow_and_ask.new.shelf) c.in-Err.ensures.gathers c.in-Err.ensures.in_order

@@ -1,5 +1,5 @@
-use Rattle.std.proofs.Common.{◌≡◌, ◌≤◌, ◌++◌, [], length, refl, sym, subst}
-use Rattle.std.specs.Prelude.{IfSome}
+use Rattle.std.proofs.Common.{◌≡◌, ◌≤◌, ◌++◌, ◌∷◌, [], length, refl, sym, subst}
+use Rattle.std.specs.Prelude.{◌||◌, IfSome}
 use Rattle.names_file.specs.Named.{no_names}
 use Rattle.union_words.specs.Meanings.{libraries_meaning}
 use Rattle.union_files.specs.Limits as all
@@ -7,6 +7,8 @@ use Rattle.union_files.specs.declared.text_file.TheConstants.{LARGEST_TEXT}
 use Rattle.union_files.proofs.FileLaws.{flow, same_more}
 use Rattle.union_files.proofs.LimitLaws.{on_files}
 use Rattle.union_files.specs.Inputs.{inputs_of, StopsAtLibraries}
+use Rattle.union_files.specs.Openings.{OpensInTurn}
+use Rattle.union_files.proofs.OpeningLaws.{in_turn_behind}
 use Rattle.union_files.proofs.RunLaws.{stopped_at_libraries, within_cons}
 use Rattle.union_follow.specs.Following.{HasFollowed}
 use Rattle.union_watch.specs.AskLines.{lines_in}
@@ -16,6 +18,7 @@ use Rattle.union_watch.proofs.RunLaws.{keeps_all}
 use Rattle.union_watch.proofs.WatchLaws.{asked_run, HasRead}
 use Rattle.union_program.specs.Follow.{AreInOrder, followed}
 use Rattle.union_program.proofs.FollowLaws.{followed-turned}
+use Rattle.union_program.proofs.OpeningLaws.{written_in_turn}
 use Rattle.union_program.proofs.run.run_follow.Goals as goal
 
 pub returns-in-Ok-follow_and_answer-clause-run : goal.returns-in-Ok-follow_and_answer-clause-run
@@ -62,3 +65,23 @@ returns-in-Ok-clause-run g c =
     rw c.end.ensures.same
     (stopped_at_libraries (IsWatchOf AreInOrder watch) status (first_files watch) watch.libraries files
     (g.F.Shelf.faults c.args.shelf.now) before after _ _ c.in-Ok.ensures.reads.0 first stops (keeps_all (g.O.Sink.written c.args.out.now)))
+
+pub returns-in-Ok-follow_and_answer-clause-in_turn : goal.returns-in-Ok-follow_and_answer-clause-in_turn
+returns-in-Ok-follow_and_answer-clause-in_turn g c =
+    let answered = c.in-Ok-follow_and_answer.answered in
+    written_in_turn (g.F.Shelf.files c.args.shelf.now) (answered.loaded.refused || answered.refused) c.write_answered.result _ _ _ c.write_answered.ensures.kinds
+
+pub returns-in-Ok-clause-in_turn : goal.returns-in-Ok-clause-in_turn
+returns-in-Ok-clause-in_turn g c =
+    let watch = followed c.args.asks.now (libraries_meaning c.args.libraries.now) in
+    let status = c.in-Err-follow_and_answer.status in
+    let asked = g.F.Shelf.opened c.read_asks.new.shelf in
+    let after = g.F.Shelf.opened c.follow_and_answer.new.shelf in
+    rw c.end.ensures.same
+    (in_turn_behind (g.F.Shelf.files c.args.shelf.now) status (asks_file watch ∷ []) (inputs_of watch.libraries)
+    (g.F.Shelf.opened c.args.shelf.now) asked after (asked, c.in-Ok.ensures.opened, refl)
+    (subst (λ told. OpensInTurn told status (inputs_of watch.libraries) asked after) c.in-Ok.ensures.files c.in-Err-follow_and_answer.ensures.in_turn))
+
+pub returns-clause-in_turn : goal.returns-clause-in_turn
+returns-clause-in_turn g c =
+    rw c.end-in-Err.ensures.same (c.in-Err.ensures.in_turn (inputs_of (libraries_meaning c.args.libraries.now)))

@@ -8,6 +8,8 @@ use Rattle.union_files.specs.declared.text_file.TheConstants.{LARGEST_TEXT}
 use Rattle.union_files.proofs.FileLaws.{flow, same_more}
 use Rattle.union_files.proofs.LimitLaws.{on_both, on_files}
 use Rattle.union_files.specs.Inputs.{inputs_of, StopsAtLibraries}
+use Rattle.union_files.specs.Openings.{OpensInTurn}
+use Rattle.union_files.proofs.OpeningLaws.{in_turn_behind}
 use Rattle.union_files.specs.Interleavings.{IsInterleaving}
 use Rattle.union_files.proofs.RunLaws.{stopped_at_libraries, within_cons}
 use Rattle.union_watch.specs.AskLines.{lines_in}
@@ -16,6 +18,7 @@ use Rattle.union_watch.specs.Told.{told_of}
 use Rattle.union_watch.specs.Runs.{HasTurned}
 use Rattle.union_watch.proofs.RunLaws.{keeps_all, stopped_at_names, written_noted}
 use Rattle.union_watch.proofs.WatchLaws.{asked_run, HasRead}
+use Rattle.union_program.proofs.OpeningLaws.{written_in_turn}
 use Rattle.union_program.proofs.run.run_watch.Goals as goal
 
 pub returns-in-Ok-load_and_answer-clause-run : goal.returns-in-Ok-load_and_answer-clause-run
@@ -97,3 +100,38 @@ pub returns-in-Ok-load_and_answer-clause-noted : goal.returns-in-Ok-load_and_ans
 returns-in-Ok-load_and_answer-clause-noted g c =
     let answered = c.in-Ok-load_and_answer.answered in
     λ early. written_noted _ _ (answered.loaded.refused || answered.refused) c.write_answered.result _ _ c.write_answered.ensures early
+
+pub returns-in-Ok-load_and_answer-clause-in_turn : goal.returns-in-Ok-load_and_answer-clause-in_turn
+returns-in-Ok-load_and_answer-clause-in_turn g c =
+    let answered = c.in-Ok-load_and_answer.answered in
+    written_in_turn (g.F.Shelf.files c.args.shelf.now) (answered.loaded.refused || answered.refused) c.write_answered.result _ _ _ c.write_answered.ensures.kinds
+
+pub returns-in-Ok-names_of-clause-in_turn : goal.returns-in-Ok-names_of-clause-in_turn
+returns-in-Ok-names_of-clause-in_turn g c =
+    let watch = watch_of c.args.asks.now (loading_meaning c.args.loading.now) in
+    let status = c.in-Err-load_and_answer.status in
+    let asked = g.F.Shelf.opened c.read_asks.new.shelf in
+    let named = g.F.Shelf.opened c.names_of.new.shelf in
+    let after = g.F.Shelf.opened c.load_and_answer.new.shelf in
+    rw c.end.ensures.same
+    (in_turn_behind (g.F.Shelf.files c.args.shelf.now) status (first_files watch) (inputs_of watch.libraries)
+    (g.F.Shelf.opened c.args.shelf.now) named after (asked, c.in-Ok.ensures.opened, c.in-Ok-names_of.ensures.opened)
+    (subst (λ told. OpensInTurn told status (inputs_of watch.libraries) named after) c.in-Ok.ensures.files
+    (subst (λ told. OpensInTurn told status (inputs_of watch.libraries) named after) c.in-Ok-names_of.ensures.files c.in-Err-load_and_answer.ensures.in_turn)))
+
+pub returns-in-Ok-clause-in_turn : goal.returns-in-Ok-clause-in_turn
+returns-in-Ok-clause-in_turn g c =
+    let watch = watch_of c.args.asks.now (loading_meaning c.args.loading.now) in
+    let status = c.in-Err-names_of.status in
+    let rest = names_inputs watch.names ++ inputs_of watch.libraries in
+    let asked = g.F.Shelf.opened c.read_asks.new.shelf in
+    let named = g.F.Shelf.opened c.names_of.new.shelf in
+    rw c.end-in-Err-names_of.ensures.same
+    (in_turn_behind (g.F.Shelf.files c.args.shelf.now) status (asks_file watch ∷ []) rest
+    (g.F.Shelf.opened c.args.shelf.now) asked named (asked, c.in-Ok.ensures.opened, refl)
+    (subst (λ told. OpensInTurn told status rest asked named) c.in-Ok.ensures.files (c.in-Err-names_of.ensures.in_turn (inputs_of watch.libraries))))
+
+pub returns-clause-in_turn : goal.returns-clause-in_turn
+returns-clause-in_turn g c =
+    let watch = watch_of c.args.asks.now (loading_meaning c.args.loading.now) in
+    rw c.end-in-Err.ensures.same (c.in-Err.ensures.in_turn (names_inputs watch.names ++ inputs_of watch.libraries))

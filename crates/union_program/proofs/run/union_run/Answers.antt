@@ -1,7 +1,7 @@
 use Rattle.std.proofs.Common.{ap, true, ◌∙◌}
 use Rattle.std.specs.Option.{option_map_or}
 use Rattle.union_words.specs.Words.{has_report}
-use Rattle.union_program.proofs.JobLaws.{does_job, does_none, usage_words, unopened_words}
+use Rattle.union_program.proofs.JobLaws.{does_job, does_none, opens_job, usage_words, unopened_words}
 use Rattle.union_program.proofs.run.union_run.Goals as goal
 
 pub returns-clause-usage : goal.returns-clause-usage
@@ -17,16 +17,16 @@ pub returns-clause-from_json : goal.returns-clause-from_json
 returns-clause-from_json g c = λ file is. (does_job c.run_words.ensures.has is).0
 
 pub returns-clause-export : goal.returns-clause-export
-returns-clause-export g c = λ form loading is. does_job c.run_words.ensures.has is
+returns-clause-export g c = λ form loading is. (does_job c.run_words.ensures.has is).0
 
 pub returns-clause-works : goal.returns-clause-works
-returns-clause-works g c = λ loading is. does_job c.run_words.ensures.has is
+returns-clause-works g c = λ loading is. (does_job c.run_words.ensures.has is).0
 
 pub returns-clause-watch : goal.returns-clause-watch
-returns-clause-watch g c = λ asks loading is. does_job c.run_words.ensures.has is
+returns-clause-watch g c = λ asks loading is. (does_job c.run_words.ensures.has is).0
 
 pub returns-clause-follow : goal.returns-clause-follow
-returns-clause-follow g c = λ asks libraries is. does_job c.run_words.ensures.has is
+returns-clause-follow g c = λ asks libraries is. (does_job c.run_words.ensures.has is).0
 
 pub returns-clause-script : goal.returns-clause-script
 returns-clause-script g c = λ path is. does_job c.run_words.ensures.has is
@@ -61,3 +61,6 @@ returns-clause-to_json_others g c = λ file is. (does_job c.run_words.ensures.ha
 
 pub returns-clause-from_json_others : goal.returns-clause-from_json_others
 returns-clause-from_json_others g c = λ file is. (does_job c.run_words.ensures.has is).1
+
+pub returns-clause-in_turn : goal.returns-clause-in_turn
+returns-clause-in_turn g c = λ job is. opens_job job c.run_words.ensures.has is
