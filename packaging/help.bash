@@ -18,7 +18,7 @@ commands_of() {
 # The options of a command, in their order.
 options_of() {
   case $1 in
-    export) echo "--workers=N --prefer=LIB,.. --names=PATH --json" ;;
+    export) echo "--workers=N --prefer=LIB,.. --names=PATH --json --owners" ;;
     works) echo "--workers=N --prefer=LIB,.. --names=PATH" ;;
     watch) echo "--ask=PATH --workers=N --prefer=LIB,.. --names=PATH" ;;
     follow) echo "--ask=PATH" ;;
@@ -200,6 +200,7 @@ wrong_word() {
         shift
       fi
       [ "$command" = export ] && [ "${1-}" = --json ] && shift
+      [ "$command" = export ] && [ "${1-}" = --owners ] && shift
       [ -n "$wrong" ] || wrong=$(wrong_libraries 64 "$@")
       ;;
     *) wrong=$(wrong_libraries 1 "$@") ;;

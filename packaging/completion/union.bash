@@ -20,7 +20,7 @@ _union() {
       mapfile -t COMPREPLY < <(compgen -f -- "$word")
       ;;
     export)
-      mapfile -t COMPREPLY < <(compgen -W "--workers= --prefer= --names= --json" -- "$word")
+      mapfile -t COMPREPLY < <(compgen -W "--workers= --prefer= --names= --json --owners" -- "$word")
       ;;
     works)
       mapfile -t COMPREPLY < <(compgen -W "--workers= --prefer= --names=" -- "$word")

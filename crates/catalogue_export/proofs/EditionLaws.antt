@@ -14,10 +14,13 @@ use Rattle.authority_names.specs.Leads.{Table, AreTexts}
 use Rattle.record_editions.proofs.KeyTexts.{key-work_key}
 use Rattle.catalogue_core.specs.Ids.{first_id, least}
 use Rattle.catalogue_core.specs.EditionKeys.{work_key_by}
+use Rattle.catalogue_core.specs.Histories.{MapOf}
 use Rattle.catalogue_editions.specs.declared.edition.Edition.{Edition}
 use Rattle.catalogue_export.specs.Editions.{edition_text}
 use Rattle.catalogue_export.specs.Exported.{exported}
 use Rattle.catalogue_export.specs.ExportedLaws.{EditionIsAccepted, EditionIsNumberedTooLong, EditionIsUtf8}
+use Rattle.catalogue_export.specs.Owners.{owned_content}
+use Rattle.catalogue_export.proofs.OwnersProof.{owned-sound}
 use Rattle.catalogue_export.proofs.ExportedProof.{exported-unbroken, exported-numbered_too_long, exported-utf8}
 
 -- the contributors after the first
@@ -52,6 +55,11 @@ edition-numbered_too_long names texts e many =
 -- the texts of the record under a key that is UTF-8 are UTF-8
 pub utf8-by_key : (e : Edition) (key : List ℕ) → is_utf8 key ≡ true → list_all is_utf8_field (exported e.content key).fields ≡ true
 utf8-by_key e key unicode = exported-utf8 e.content (least e) (later_ids e.content.contributors) key e.sound (contributors e) unicode
+
+-- and so are those of the record in which local fields tell whose they are
+pub utf8-with_owners : (records : MapOf Edition) (e : Edition) (key : List ℕ) → is_utf8 key ≡ true → list_all is_utf8_field (exported (owned_content records e) key).fields ≡ true
+utf8-with_owners records e key unicode =
+    exported-utf8 (owned_content records e) (least e) (later_ids e.content.contributors) key (owned-sound records e) (contributors e) unicode
 
 pub edition-utf8 : EditionIsUtf8
 edition-utf8 names texts e = utf8-by_key e (work_key_by names e) (utf8-work_key e names texts)

@@ -71,7 +71,7 @@ printing_low b is = grind (arith, nat_tests)
 pub low_utf8 : (t : List ℕ) → list_all (λ b. nat_lt b 128) t ≡ true → IsUtf8 t
 low_utf8 t all = IsUtf8-from_ascii t (all_low t all)
 
-library-utf8 : (id : RecordId) → is_id id ≡ true → IsUtf8 id.library
+pub library-utf8 : (id : RecordId) → is_id id ≡ true → IsUtf8 id.library
 library-utf8 id is =
     let code = (and_parts (is_library_code id.library) (has_number_shape id.control) is).0 in
     low_utf8 id.library (all_weaker may_stand (λ b. nat_lt b 128) code_low id.library (and_parts _ (list_all may_stand id.library) code).1)

@@ -15,6 +15,9 @@ pub mod ExportedParts
 pub mod ExportedProof
 pub mod EditionLaws
 pub mod WritingLaws
+mod OwnedLaws
+pub mod OwnersProof
+mod HomeLaws
 pub mod ExportLaws
 mod PartLaws
 mod ShareLaws

@@ -11,13 +11,13 @@ use Rattle.union_base.specs.LibraryCodes.{is_library_code, may_stand}
 use Rattle.union_base.specs.Bodies.{Body, Control, Data}
 use Rattle.union_base.specs.declared.field.Field.{Field}
 use Rattle.union_base.specs.declared.record_id.RecordId.{RecordId}
-use Rattle.marc_fields.specs.Spelling.{stored, is_short, longest_frame, frame_size}
+use Rattle.marc_fields.specs.Spelling.{stored, is_short, longest_frame, frame_size, record_of}
 use Rattle.marc_fields.specs.Appending.{too_long}
 use Rattle.catalogue_export.specs.Fitting.{fitting, frame_rest}
 use Rattle.catalogue_export.specs.TagOrder.{in_tag_order}
 use Rattle.catalogue_export.proofs.FittingLaws.{fitting_in-bound, fitting_in-all}
 use Rattle.catalogue_export.proofs.TagOrderLaws.{in_tag_order-all, in_tag_order-size, in_tag_order-bytes}
-use Rattle.marc_leader.specs.Codes.{is_printable}
+use Rattle.marc_leader.specs.Codes.{Codes, is_printable}
 use Rattle.marc_parts.specs.Parts.{has_tag}
 use Rattle.marc_parts.specs.Loads.{has_number_shape, is_utf8_field}
 use Rattle.field_merge.specs.Contents.{is_main_entry, is_united}
@@ -176,6 +176,16 @@ all_storable-short (f ∷ fields) h =
     let parts = both_true (is_storable f) (list_all is_storable fields) h in
     true_both (is_short f) (list_all is_short fields) (both_true (is_short f) (is_utf8_field f) parts.0).0 (all_storable-short fields parts.1)
 
+-- as many short fields as a frame has room for can be spelled
+pub kept-fits : (cs : Codes) (all : List Field) → list_all is_short all ≡ true → too_long (record_of cs (in_tag_order (fitting all))) ≡ None
+kept-fits cs all short =
+    let each : list_all is_short (in_tag_order (fitting all)) ≡ true
+    = in_tag_order-all is_short (fitting all) ∙ fitting_in-all is_short (longest_frame - frame_rest) all short in
+    let size : frame_size (record_of cs (in_tag_order (fitting all))) ≤ longest_frame
+    = omega (arith, in_tag_order-size (fitting all), in_tag_order-bytes stored (fitting all), fitting_in-bound 99973 all) in
+    let few : nat_le (frame_size (record_of cs (in_tag_order (fitting all)))) longest_frame ≡ true = yes_le _ _ size in
+    rw (each, few) refl
+
 module _ (c : Content) (sound : is_sound c ≡ true) where
   -- each field of a sound content is short
   united-short : list_all is_short c.united ≡ true
@@ -205,17 +215,6 @@ module _ (c : Content) (sound : is_sound c ≡ true) where
   pub parts-short : (key : List ℕ) → list_all is_short (parts c key) ≡ true
   parts-short key = short_append (own_parts c key) c.united (own_parts-short key) united-short
 
-  exported-short : (key : List ℕ) → list_all is_short (in_tag_order (fitting (parts c key))) ≡ true
-  exported-short key =
-      in_tag_order-all is_short (fitting (parts c key)) ∙ fitting_in-all is_short (longest_frame - frame_rest) (parts c key) (parts-short key)
-
-  exported-size : (key : List ℕ) → frame_size (exported c key) ≤ longest_frame
-  exported-size key =
-      omega (arith, in_tag_order-size (fitting (parts c key)), in_tag_order-bytes stored (fitting (parts c key)), fitting_in-bound 99973 (parts c key))
-
   -- the exported record can be spelled
   pub exported-fits : (key : List ℕ) → too_long (exported c key) ≡ None
-  exported-fits key =
-      let short = exported-short key in
-      let few : nat_le (frame_size (exported c key)) longest_frame ≡ true = yes_le _ _ (exported-size key) in
-      rw (short, few) refl
+  exported-fits key = kept-fits c.fixed.codes (parts c key) (parts-short key)

@@ -23,11 +23,3 @@ fields_left names e = left_out e.content (work_key_by names e)
 -- an edition by its least contributor, where `count` of its fields were left out
 abbrev pub noted : Edition → ℕ → List (RecordId × ℕ)
 noted e count = if count == 0 then [] else (least e, count) ∷ []
-
--- the same by the fields that its record has no room for
-abbrev pub left_of_one : Table → Edition → List (RecordId × ℕ)
-left_of_one names e = noted e (fields_left names e)
-
--- the same of a list of editions, in order
-abbrev pub left_of : Table → List Edition → List (RecordId × ℕ)
-left_of names editions = flat_map (left_of_one names) editions

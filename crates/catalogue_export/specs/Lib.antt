@@ -9,3 +9,9 @@ pub mod Writing
 pub mod Parts
 pub mod WorkLists
 pub mod JsonExport
+pub mod OwnersLaws
+pub mod Owners
+pub mod Sources
+pub mod ToldFields
+pub mod Holdings
+pub mod Homes

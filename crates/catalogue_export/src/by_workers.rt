@@ -8,7 +8,8 @@ ghost use Rattle.std.specs.Prelude.{◌≡◌, ◌++◌, ◌≤◌, ◌<◌, map
 ghost use Rattle.std.specs.List.{flat_map};
 ghost use Rattle.catalogue_core.specs.Histories.{AreEditionsOf};
 ghost use Rattle.catalogue_editions.specs.declared.edition.Edition.{Edition as EditionModel};
-ghost use Rattle.catalogue_export.specs.Editions.{left_of_one, left_of};
+ghost use Rattle.catalogue_export.specs.Sources.{left_of_one, left_of, plain, with_records};
+ghost use Rattle.turn_plans.specs.Histories.{current};
 ghost use Rattle.catalogue_export.specs.Parts.{IsPartOf};
 ghost use Rattle.catalogue_export.specs.Writing.{GainsFront, HasWritten, IsExport, outflow};
 
@@ -18,8 +19,9 @@ use crate::export_fail::ExportFail;
 use crate::form::ExportForm;
 use crate::listing::Listing;
 use crate::pending::hand_on_rest;
+use crate::records::Records;
 use crate::shares::share_of;
-use authority_names::name_table::NameTable;
+use crate::sources::Sources;
 use catalogue_core::edition::Edition;
 use gathered_catalogue::finished::Finished;
 use std::alloc::Global;
@@ -55,19 +57,59 @@ pub fn export_by_workers<R: Threads + Sync, F: ExportForm + Send, O: Sink>(
     requires least { 1 ≤ workers }
     requires most { workers ≤ 64 }
     ensures { (all : List EditionModel) × AreEditionsOf catalogue.now.history all
-        × HasWritten (flat_map (F.shown catalogue.now.names) all)
+        × HasWritten (flat_map (F.shown (plain catalogue.now.names)) all)
         (outflow O.written O.faults out.old out.new) result
-        × OnOk result (left.new.items ≡ left.old.items ++ left_of catalogue.now.names all)
+        × OnOk result (left.new.items ≡ left.old.items ++ left_of (plain catalogue.now.names) all)
         × OnErr result (left.new.items ≡ left.old.items) }
 {
     match catalogue.editions(alloc) {
         Ok(editions) => {
+            let sources = Sources::plain(catalogue.names());
             let listing = Listing {
-                names: catalogue.names(),
+                sources: &sources,
                 editions: editions.as_slice(),
             };
             write_listing::<R, F, O>(rt, alloc, &listing, workers, out, left)
         }
+        Err(Memory) => Err(ExportFail::Memory),
+    }
+}
+
+/// Writes the export of a catalogue as `export_by_workers` does, where each local field tells whose it is: it comes once for each library
+/// of which a current record in the edition has it, with the library's code in a last subfield 5 (specs/Owners.antt).
+///
+/// Returns `WriteFault` only where a write of `out` failed, and `Memory` if allocation fails. A prefix of the export was
+/// written then, and `left` is as it was.
+pub fn owners_by_workers<R: Threads + Sync, F: ExportForm + Send, O: Sink>(
+    rt: &R,
+    alloc: Global,
+    catalogue: &Finished,
+    workers: u32,
+    out: &mut O,
+    left: &mut Vec<(RecordId, usize)>,
+) -> Result<(), ExportFail>
+    requires least { 1 ≤ workers }
+    requires most { workers ≤ 64 }
+    ensures { (all : List EditionModel) × AreEditionsOf catalogue.now.history all
+        × HasWritten (flat_map (F.shown (with_records catalogue.now.names
+        (current catalogue.now.history))) all)
+        (outflow O.written O.faults out.old out.new) result
+        × OnOk result (left.new.items ≡ left.old.items
+        ++ left_of (with_records catalogue.now.names (current catalogue.now.history)) all)
+        × OnErr result (left.new.items ≡ left.old.items) }
+{
+    match catalogue.editions(alloc) {
+        Ok(editions) => match Records::of(alloc, catalogue) {
+            Ok(records) => {
+                let sources = Sources::with_records(catalogue.names(), &records);
+                let listing = Listing {
+                    sources: &sources,
+                    editions: editions.as_slice(),
+                };
+                write_listing::<R, F, O>(rt, alloc, &listing, workers, out, left)
+            }
+            Err(Memory) => Err(ExportFail::Memory),
+        },
         Err(Memory) => Err(ExportFail::Memory),
     }
 }
@@ -83,11 +125,11 @@ fn write_listing<R: Threads + Sync, F: ExportForm + Send, O: Sink>(
 ) -> Result<(), ExportFail>
     requires least { 1 ≤ workers }
     requires most { workers ≤ 64 }
-    ensures written { HasWritten (flat_map (F.shown listing.now.names.now)
+    ensures written { HasWritten (flat_map (F.shown listing.now.sources.now)
         (map (λ e. e.now) listing.now.editions.now))
         (outflow O.written O.faults out.old out.new) result }
     ensures gained { OnOk result (left.new.items ≡ left.old.items
-        ++ left_of listing.now.names.now (map (λ e. e.now) listing.now.editions.now)) }
+        ++ left_of listing.now.sources.now (map (λ e. e.now) listing.now.editions.now)) }
     ensures unchanged { OnErr result (left.new.items ≡ left.old.items) }
 {
     let had = left.len();
@@ -114,14 +156,14 @@ fn write_by_workers<R: Threads + Sync, F: ExportForm + Send, O: Sink>(
 ) -> Result<(), ExportFail>
     requires least { 1 ≤ workers }
     requires most { workers ≤ 64 }
-    ensures { IsExport (F.shown listing.now.names.now) (left_of_one listing.now.names.now)
+    ensures { IsExport (F.shown listing.now.sources.now) (left_of_one listing.now.sources.now)
         (map (λ e. e.now) listing.now.editions.now)
         (outflow O.written O.faults out.old out.new) left.old.items left.new.items result }
 {
-    let names = listing.names;
+    let sources = listing.sources;
     let editions = listing.editions;
     if workers == 1 {
-        return write_editions::<F, O>(alloc, names, editions, out, left);
+        return write_editions::<F, O>(alloc, sources, editions, out, left);
     }
     let mut done = 0;
     'rounds: while done < editions.len() {
@@ -130,7 +172,7 @@ fn write_by_workers<R: Threads + Sync, F: ExportForm + Send, O: Sink>(
         let end = done + share.saturating_mul(workers as usize).clamp(1, rest);
         let round = &editions[done..end];
         let listing = Listing {
-            names,
+            sources,
             editions: round,
         };
         match write_round::<R, F, O>(rt, alloc, &listing, share, out, left) {
@@ -151,15 +193,15 @@ fn write_round<R: Threads + Sync, F: ExportForm + Send, O: Sink>(
     left: &mut Vec<(RecordId, usize)>,
 ) -> Result<(), ExportFail>
     requires { 0 < size }
-    ensures { IsExport (F.shown listing.now.names.now) (left_of_one listing.now.names.now)
+    ensures { IsExport (F.shown listing.now.sources.now) (left_of_one listing.now.sources.now)
         (map (λ e. e.now) listing.now.editions.now)
         (outflow O.written O.faults out.old out.new) left.old.items left.new.items result }
 {
-    let names = listing.names;
+    let sources = listing.sources;
     let make = |_start: usize, share: &[&Edition]| -> Result<Part, Memory>
-        ensures { IfOk result (IsPartOf (F.shown names.entry.now)
-            (left_of_one names.entry.now) (map (λ e. e.now) share.now)) }
-    { part_of::<F>(alloc, names, share) };
+        ensures { IfOk result (IsPartOf (F.shown sources.entry.now)
+            (left_of_one sources.entry.now) (map (λ e. e.now) share.now)) }
+    { part_of::<F>(alloc, sources, share) };
     let parts = thread::map_chunks(rt, alloc, listing.editions, size, &make)?;
     for made in parts {
         let part = made?;
@@ -174,17 +216,17 @@ fn write_round<R: Threads + Sync, F: ExportForm + Send, O: Sink>(
 /// Makes the records of the editions, and notes those of which fields were left out. Returns `Memory` if allocation fails.
 fn part_of<F: ExportForm>(
     alloc: Global,
-    names: &NameTable,
+    sources: &Sources<'_>,
     editions: &[&Edition],
 ) -> Result<Part, Memory>
-    ensures { IfOk result (IsPartOf (F.shown names.now)
-        (left_of_one names.now) (map (λ e. e.now) editions.now)) }
+    ensures { IfOk result (IsPartOf (F.shown sources.now)
+        (left_of_one sources.now) (map (λ e. e.now) editions.now)) }
 {
     let mut part = Part {
         text: Vec::new(alloc),
         left: Vec::new(alloc),
     };
-    append_editions::<F>(alloc, names, editions, &mut part.text, &mut part.left)?;
+    append_editions::<F>(alloc, sources, editions, &mut part.text, &mut part.left)?;
     Ok(part)
 }
 

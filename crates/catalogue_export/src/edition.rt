@@ -1,13 +1,18 @@
 //! The record that is shown of an edition.
-ghost use Rattle.std.specs.Prelude.{◌≡◌, map, IfOk, IsTrue};
+ghost use Rattle.std.specs.Prelude.{◌≡◌, ◌-◌, length, map, IfOk, IsTrue};
+ghost use Rattle.std.specs.List.{list_all};
 ghost use Rattle.union_base.specs.Fields.{is_text};
 ghost use Rattle.marc_fields.specs.Appending.{Appends};
+ghost use Rattle.marc_fields.specs.Spelling.{is_short, record_of, spelling};
 ghost use Rattle.catalogue_export.specs.Exported.{exported, edition_bytes, left_out};
+ghost use Rattle.catalogue_export.specs.Fitting.{fitting};
+ghost use Rattle.catalogue_export.specs.TagOrder.{in_tag_order};
 
 use crate::own_fields::own_fields;
-use crate::shown_fields::shown_fields;
+use crate::shown_fields::{all_fields, kept_fields};
 use catalogue_core::shown::Shown;
 use marc_fields::encoding::{EncodeRefusal, encode_fields};
+use marc_leader::codes::LeaderCodes;
 use marc_parts::marc_record::Record;
 use std::alloc::Global;
 use union_base::bytes::Bytes;
@@ -51,7 +56,7 @@ pub fn edition_record(
     exported(alloc, content, key.bytes())
 }
 
-/// Appends the record that is shown of an edition with this work key, and answers how many of its fields were left out of it,
+/// Appends the record that is shown of an edition with this work key, and answers how many of its fields were left out,
 /// since a frame has no room for more. The edition's own fields are written from where they lie.
 fn append_content(
     alloc: Global,
@@ -66,7 +71,24 @@ fn append_content(
 {
     let codes = content.fixed().codes;
     let own = own_fields(alloc, content, key)?;
-    let (shown, left) = shown_fields(alloc, content, &own)?;
+    let all = all_fields(alloc, content, &own)?;
+    append_kept(codes, all, into)
+}
+
+/// Appends the record of as many of the fields as a frame has room for, and answers how many were left out.
+pub(crate) fn append_kept(
+    codes: LeaderCodes,
+    all: Vec<&Field>,
+    into: &mut Vec<u8>,
+) -> Result<usize, Memory>
+    requires { IsTrue (list_all is_short (map (λ f. f.now) all.items)) }
+    ensures text { Appends result into.old.items into.new.items
+        (spelling (record_of codes
+        (in_tag_order (fitting (map (λ f. f.now) all.entry.items))))) }
+    ensures left { IfOk result (λ n. n ≡ length (map (λ f. f.now) all.entry.items)
+        - length (fitting (map (λ f. f.now) all.entry.items))) }
+{
+    let (shown, left) = kept_fields(all)?;
     match encode_fields(codes, shown.as_slice(), into) {
         Ok(()) => Ok(left),
         Err(EncodeRefusal::Memory) => Err(Memory),
@@ -83,7 +105,23 @@ fn exported(alloc: Global, content: &Shown<'_>, key: &[u8]) -> Result<(Record, u
 {
     let codes = content.fixed().codes;
     let own = own_fields(alloc, content, key)?;
-    let (shown, left) = shown_fields(alloc, content, &own)?;
+    let all = all_fields(alloc, content, &own)?;
+    kept_record(alloc, codes, all)
+}
+
+/// The record of as many of the fields as a frame has room for, and how many were left out.
+pub(crate) fn kept_record(
+    alloc: Global,
+    codes: LeaderCodes,
+    all: Vec<&Field>,
+) -> Result<(Record, usize), Memory>
+    requires { IsTrue (list_all is_short (map (λ f. f.now) all.items)) }
+    ensures value { IfOk result (λ r. r.0 ≡ record_of codes
+        (in_tag_order (fitting (map (λ f. f.now) all.entry.items)))) }
+    ensures left { IfOk result (λ r. r.1 ≡ length (map (λ f. f.now) all.entry.items)
+        - length (fitting (map (λ f. f.now) all.entry.items))) }
+{
+    let (shown, left) = kept_fields(all)?;
     let rec = Record {
         leader: codes,
         fields: Sequence::from(copies_of(alloc, shown.as_slice())?),

@@ -1,10 +1,12 @@
 //! The export of several editions.
 ghost use Rattle.std.specs.Prelude.{◌≡◌, ◌++◌, map, OnOk, OnErr, IfOk};
 ghost use Rattle.std.specs.List.{flat_map};
-ghost use Rattle.catalogue_export.specs.Editions.{edition_text, fields_left, left_of, noted};
+ghost use Rattle.catalogue_export.specs.Editions.{edition_text, fields_left, noted};
+ghost use Rattle.catalogue_export.specs.Sources.{left_of};
 
 use crate::edition::edition_bytes;
 use crate::form::ExportForm;
+use crate::sources::Sources;
 use authority_names::name_table::NameTable;
 use catalogue_core::edition::Edition;
 use record_editions::work_key::work_key_of;
@@ -13,25 +15,26 @@ use union_base::copied::Copied;
 use union_base::memory::Memory;
 use union_base::record_id::RecordId;
 
-/// Appends the records of the editions in this form, one after the other, each under its own work key by the names; and
+/// Appends the records of the editions in this form, one after the other, each under its own work key by the names of what the export
+/// takes of their catalogue; and
 /// appends to `left`, for each edition of which fields were left out since a frame has no room for more, its least contributor
 /// and their number.
 ///
 /// Returns `Memory` if allocation fails.
 pub fn append_editions<F: ExportForm>(
     alloc: Global,
-    names: &NameTable,
+    sources: &Sources<'_>,
     editions: &[&Edition],
     into: &mut Vec<u8>,
     left: &mut Vec<(RecordId, usize)>,
 ) -> Result<(), Memory>
     ensures text { OnOk result (into.new.items ≡ into.old.items
-        ++ flat_map (F.shown names.now) (map (λ e. e.now) editions.now)) }
+        ++ flat_map (F.shown sources.now) (map (λ e. e.now) editions.now)) }
     ensures left { OnOk result (left.new.items ≡ left.old.items
-        ++ left_of names.now (map (λ e. e.now) editions.now)) }
+        ++ left_of sources.now (map (λ e. e.now) editions.now)) }
 {
     for edition in editions {
-        let count = F::append(alloc, names, edition, into)?;
+        let count = F::append(alloc, sources, edition, into)?;
         note_left(alloc, edition, count, left)?;
     }
     Ok(())

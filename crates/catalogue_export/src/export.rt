@@ -3,14 +3,15 @@ ghost use Rattle.std.specs.Prelude.{◌≡◌, ◌++◌, map, OnOk, OnErr, List}
 ghost use Rattle.std.specs.List.{flat_map};
 ghost use Rattle.catalogue_core.specs.Histories.{AreEditionsOf};
 ghost use Rattle.catalogue_editions.specs.declared.edition.Edition.{Edition as EditionModel};
-ghost use Rattle.catalogue_export.specs.Editions.{export_text, left_of_one, left_of};
+ghost use Rattle.catalogue_export.specs.Editions.{export_text};
+ghost use Rattle.catalogue_export.specs.Sources.{left_of_one, left_of, plain};
 ghost use Rattle.catalogue_export.specs.Writing.{GainsFront, HasMoved, HasWritten, IsExport, outflow};
 
 use crate::editions::note_left;
 use crate::export_fail::ExportFail;
 use crate::form::{ExportForm, Iso2709};
 use crate::pending::{hand_on, hand_on_rest};
-use authority_names::name_table::NameTable;
+use crate::sources::Sources;
 use catalogue_core::catalogue::Catalogue;
 use catalogue_core::edition::Edition;
 use std::alloc::Global;
@@ -33,13 +34,13 @@ pub fn export<O: Sink>(
     ensures { (all : List EditionModel) × AreEditionsOf catalogue.now.history all
         × HasWritten (export_text catalogue.now.names all)
         (outflow O.written O.faults out.old out.new) result
-        × OnOk result (left.new.items ≡ left.old.items ++ left_of catalogue.now.names all)
+        × OnOk result (left.new.items ≡ left.old.items ++ left_of (plain catalogue.now.names) all)
         × OnErr result (left.new.items ≡ left.old.items) }
 {
     match catalogue.editions(alloc) {
         Ok(editions) => {
-            let names = catalogue.names();
-            write_listed::<Iso2709, O>(alloc, names, editions.as_slice(), out, left)
+            let sources = Sources::plain(catalogue.names());
+            write_listed::<Iso2709, O>(alloc, &sources, editions.as_slice(), out, left)
         }
         Err(Memory) => Err(ExportFail::Memory),
     }
@@ -48,19 +49,19 @@ pub fn export<O: Sink>(
 /// Writes the records of the editions as `write_editions` does. Where that stops, `left` is as it was.
 fn write_listed<F: ExportForm, O: Sink>(
     alloc: Global,
-    names: &NameTable,
+    sources: &Sources<'_>,
     editions: &[&Edition],
     out: &mut O,
     left: &mut Vec<(RecordId, usize)>,
 ) -> Result<(), ExportFail>
-    ensures written { HasWritten (flat_map (F.shown names.now) (map (λ e. e.now) editions.now))
+    ensures written { HasWritten (flat_map (F.shown sources.now) (map (λ e. e.now) editions.now))
         (outflow O.written O.faults out.old out.new) result }
     ensures gained { OnOk result (left.new.items ≡ left.old.items
-        ++ left_of names.now (map (λ e. e.now) editions.now)) }
+        ++ left_of sources.now (map (λ e. e.now) editions.now)) }
     ensures unchanged { OnErr result (left.new.items ≡ left.old.items) }
 {
     let had = left.len();
-    match write_editions::<F, O>(alloc, names, editions, out, left) {
+    match write_editions::<F, O>(alloc, sources, editions, out, left) {
         Ok(()) => Ok(()),
         Err(fail) => {
             left.truncate(had);
@@ -72,18 +73,18 @@ fn write_listed<F: ExportForm, O: Sink>(
 /// Writes the records of the editions in this form, one after the other, and notes those of which fields were left out.
 pub(crate) fn write_editions<F: ExportForm, O: Sink>(
     alloc: Global,
-    names: &NameTable,
+    sources: &Sources<'_>,
     editions: &[&Edition],
     out: &mut O,
     left: &mut Vec<(RecordId, usize)>,
 ) -> Result<(), ExportFail>
-    ensures { IsExport (F.shown names.now) (left_of_one names.now)
+    ensures { IsExport (F.shown sources.now) (left_of_one sources.now)
         (map (λ e. e.now) editions.now)
         (outflow O.written O.faults out.old out.new) left.old.items left.new.items result }
 {
     let mut pending = Vec::new(alloc);
     for edition in editions {
-        match write_edition::<F, O>(alloc, names, edition, &mut pending, left, out) {
+        match write_edition::<F, O>(alloc, sources, edition, &mut pending, left, out) {
             Ok(()) => {}
             Err(fail) => return Err(fail),
         }
@@ -94,21 +95,21 @@ pub(crate) fn write_editions<F: ExportForm, O: Sink>(
 /// Writes the record of an edition after what is pending, and notes the edition where fields of it were left out.
 fn write_edition<F: ExportForm, O: Sink>(
     alloc: Global,
-    names: &NameTable,
+    sources: &Sources<'_>,
     edition: &Edition,
     pending: &mut Vec<u8>,
     left: &mut Vec<(RecordId, usize)>,
     out: &mut O,
 ) -> Result<(), ExportFail>
-    ensures text { HasMoved (pending.old.items ++ F.shown names.now edition.now)
+    ensures text { HasMoved (pending.old.items ++ F.shown sources.now edition.now)
         pending.new.items
         (outflow O.written O.faults out.old out.new) result }
     ensures left { OnOk result (left.new.items ≡ left.old.items
-        ++ left_of_one names.now edition.now) }
+        ++ left_of_one sources.now edition.now) }
     ensures stopped { OnErr result (GainsFront left.old.items left.new.items
-        (left_of_one names.now edition.now)) }
+        (left_of_one sources.now edition.now)) }
 {
-    let count = F::append(alloc, names, edition, pending)?;
+    let count = F::append(alloc, sources, edition, pending)?;
     note_left(alloc, edition, count, left)?;
     hand_on(pending, out)
 }

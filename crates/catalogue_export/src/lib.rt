@@ -6,7 +6,8 @@
 //! Guarantee: `edition::edition_bytes` and `editions::append_editions` append exactly the bytes that specs/Exported.antt and
 //! specs/Editions.antt define, and an export has these in order, whether one worker makes it (`export`) or several do
 //! (`by_workers`). A record is written in a form (`form::ExportForm`): by its bytes, or by a line of JSON (`json_export`,
-//! specs/JsonExport.antt); what is reported of fields left out is the same in each. Cost: an edition's fields are borrowed from the
+//! specs/JsonExport.antt); what is reported of fields left out is the same in each. Where an export is handed the current records
+//! (`sources`, `records`), each local field tells whose it is (specs/Owners.antt). Cost: an edition's fields are borrowed from the
 //! contents of its records, and only those that it does not have are made; they are sorted once by their tags, and each record is
 //! written once, a line without a tree of values.
 #![tactic(auto)]
@@ -23,7 +24,12 @@ pub mod json_export;
 pub mod laws;
 pub mod listing;
 mod own_fields;
+mod owned;
+mod owners;
 pub mod pending;
+pub mod records;
 mod shares;
 mod shown_fields;
+pub mod sources;
+mod told_field;
 pub mod works_text;

@@ -1,10 +1,10 @@
 //! What an export writes.
-use authority_names::name_table::NameTable;
+use crate::sources::Sources;
 use catalogue_editions::edition::Edition;
 
-/// Editions, in the order in which they are written, and the names by which their works have keys.
+/// Editions, in the order in which they are written, and what the export takes of their catalogue beside them.
 #[derive(Clone, Copy)]
 pub struct Listing<'a> {
-    pub names: &'a NameTable,
+    pub sources: &'a Sources<'a>,
     pub editions: &'a [&'a Edition],
 }

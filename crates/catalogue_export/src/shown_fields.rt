@@ -10,6 +10,7 @@ ghost use Rattle.catalogue_export.specs.TagOrder.{in_tag_order};
 
 use crate::fitting::fitting_count;
 use crate::own_fields::OwnFields;
+use crate::told_field::ToldField;
 use catalogue_core::shown::Shown;
 use field_merge::slot::Slot;
 use std::alloc::Global;
@@ -19,20 +20,15 @@ use union_base::memory::Memory;
 /// How many fields an edition has at most beside its contributors' and its united ones: 001, 003, 991, 008 and six slots.
 const OTHER_FIELDS: usize = 10;
 
-/// The fields that are shown of an edition: as many as a frame has room for, in order of their tags. Beside them, how many
-/// were left out.
-pub(crate) fn shown_fields<'a>(
-    alloc: Global,
-    content: &'a Shown<'_>,
-    own: &'a OwnFields,
-) -> Result<(Vec<&'a Field>, usize), Memory>
-    requires { IsTrue (list_all is_short (all_fields own.now content.now)) }
+/// Of all fields of an edition as many as a frame has room for, in order of their tags. Beside them, how many were left out.
+pub(crate) fn kept_fields(all: Vec<&Field>) -> Result<(Vec<&Field>, usize), Memory>
+    requires { IsTrue (list_all is_short (map (λ f. f.now) all.items)) }
     ensures value { IfOk result (λ r. map (λ f. f.now) r.0.items
-        ≡ in_tag_order (fitting (all_fields own.now content.now))) }
-    ensures left { IfOk result (λ r. r.1 ≡ length (all_fields own.now content.now)
-        - length (fitting (all_fields own.now content.now))) }
+        ≡ in_tag_order (fitting (map (λ f. f.now) all.entry.items))) }
+    ensures left { IfOk result (λ r. r.1 ≡ length (map (λ f. f.now) all.entry.items)
+        - length (fitting (map (λ f. f.now) all.entry.items))) }
 {
-    let mut fields = all_fields(alloc, content, own)?;
+    let mut fields = all;
     let all = fields.len();
     let shown = fitting_count(fields.as_slice());
     fields.truncate(shown);
@@ -53,7 +49,7 @@ fn in_tag_order<'a>(mut fields: Vec<&'a Field>) -> Result<Vec<&'a Field>, Memory
 }
 
 /// All fields of an edition, in the order in which they are kept where not all of them fit.
-fn all_fields<'a>(
+pub(crate) fn all_fields<'a>(
     alloc: Global,
     content: &'a Shown<'_>,
     own: &'a OwnFields,
@@ -65,6 +61,34 @@ fn all_fields<'a>(
     push_own(content, own, &mut fields)?;
     content.push_united(alloc, &mut fields)?;
     Ok(fields)
+}
+
+/// The same with these united fields.
+pub(crate) fn all_with<'a>(
+    alloc: Global,
+    content: &'a Shown<'_>,
+    own: &'a OwnFields,
+    united: &'a [ToldField<'_>],
+) -> Result<Vec<&'a Field>, Memory>
+    ensures { IfOk result (λ all. map (λ f. f.now) all.items
+        ≡ own_list own.now content.now ++ united.now) }
+{
+    let room = OTHER_FIELDS.saturating_add(own.contributors.len());
+    let mut fields = Vec::with_capacity(alloc, room.saturating_add(united.len()))?;
+    push_own(content, own, &mut fields)?;
+    push_told(united, &mut fields)?;
+    Ok(fields)
+}
+
+/// Adds each field, wherever it is.
+fn push_told<'a>(fields: &'a [ToldField<'_>], into: &mut Vec<&'a Field>) -> Result<(), Memory>
+    ensures { OnOk result (map (λ f. f.now) into.new.items
+        ≡ map (λ f. f.now) into.old.items ++ fields.now) }
+{
+    for field in fields {
+        into.push(field.field())?;
+    }
+    Ok(())
 }
 
 /// Adds the fields before the united ones.

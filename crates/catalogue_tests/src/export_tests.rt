@@ -3,6 +3,7 @@ use crate::worked::{BLUE, BRIDGE, RED, edition_in};
 use catalogue_core::catalogue::Catalogue;
 use catalogue_export::editions::append_editions;
 use catalogue_export::form::Iso2709;
+use catalogue_export::sources::Sources;
 use key_hashing::hashing::Hashing;
 use merge_laws::join::Join;
 use std::test::Fail;
@@ -31,7 +32,7 @@ fn two_editions_one_behind_the_other(rt: HostRuntime) -> Result<(), Fail> {
     let catalogue = Catalogue::empty(alloc, Hashing::fixed())?;
     append_editions::<Iso2709>(
         alloc,
-        catalogue.names(),
+        &Sources::plain(catalogue.names()),
         &[&ships, &cat],
         &mut text,
         &mut left,

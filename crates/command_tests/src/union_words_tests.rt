@@ -84,10 +84,13 @@ fn told(alloc: Global, job: &Option<Job<'_>>) -> Result<Vec<u8>, AllocError> {
             text.extend_from_slice(b"from json")?;
             tell_file(&mut text, file)?;
         }
-        Some(Job::Export(form, loading)) => {
+        Some(Job::Export(exporting, loading)) => {
             tell_loading(&mut text, b"export ", loading)?;
-            if *form == Form::Json {
+            if exporting.form == Form::Json {
                 text.extend_from_slice(b" json")?;
+            }
+            if exporting.owners {
+                text.extend_from_slice(b" owners")?;
             }
             tell_libraries(&mut text, &loading.libraries)?;
         }
@@ -130,7 +133,7 @@ fn asks(alloc: Global, line: &[u8], want: &[u8]) -> Result<bool, Fail> {
 }
 
 /// Lines of words, and what each asks for.
-const FORMS: [(&[u8], &[u8]); 31] = [
+const FORMS: [(&[u8], &[u8]); 34] = [
     (b"check LIBA=a", b"check LIBA a"),
     (b"tojson LIBA=a", b"to json LIBA a"),
     (b"tojson LIBA=a=b", b"to json LIBA a=b"),
@@ -140,6 +143,11 @@ const FORMS: [(&[u8], &[u8]); 31] = [
         b"export 4 json LIBA a LIBB b",
     ),
     (b"export --workers=1 --json LIBA=a", b"export 1 json LIBA a"),
+    (b"export --owners LIBA=a", b"export 4 owners LIBA a"),
+    (
+        b"export --json --owners LIBA=a LIBB=b",
+        b"export 4 json owners LIBA a LIBB b",
+    ),
     (b"export LIBA=a", b"export 4 LIBA a"),
     (b"export LIBA=a LIBB=a", b"export 4 LIBA a LIBB a"),
     (b"export B=x A=y C=x", b"export 4 B x A y C x"),
@@ -171,6 +179,10 @@ const FORMS: [(&[u8], &[u8]); 31] = [
     (
         b"export --workers=1 --prefer=LIBB --names=n=o --json LIBA=a",
         b"export 1 LIBB first names n=o json LIBA a",
+    ),
+    (
+        b"export --workers=1 --prefer=LIBB --names=n=o --json --owners LIBA=a",
+        b"export 1 LIBB first names n=o json owners LIBA a",
     ),
     (
         b"works --names=--names= LIBA=a",
@@ -244,8 +256,8 @@ const NO_FORMS: [&[u8]; 52] = [
     b"follow --ask=q --names=n LIBA=a",
 ];
 
-/// Lines of words of MARC in JSON that are in no form.
-const NO_JSON: [&[u8]; 19] = [
+/// Lines of words of MARC in JSON, and of owners, that are in no form.
+const NO_JSON: [&[u8]; 28] = [
     b"tojson",
     b"tojson a.mrc",
     b"tojson LIBA=",
@@ -263,6 +275,15 @@ const NO_JSON: [&[u8]; 19] = [
     b"export --json --workers=1 LIBA=a",
     b"export --json=1 LIBA=a",
     b"export LIBA=a --json",
+    b"export --owners",
+    b"export --owners --owners LIBA=a",
+    b"export --owners --json LIBA=a",
+    b"export --owners --names=n LIBA=a",
+    b"export --owners=1 LIBA=a",
+    b"export LIBA=a --owners",
+    b"works --owners LIBA=a",
+    b"watch --ask=q --owners LIBA=a",
+    b"tojson --owners LIBA=a",
     b"works --json LIBA=a",
     b"watch --ask=q --json LIBA=a",
 ];

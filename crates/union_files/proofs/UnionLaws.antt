@@ -151,9 +151,11 @@ codes-are : (streams : List Stream) → codes_of (map delivered streams) ≡ map
 codes-are [] = refl
 codes-are (s ∷ streams) = ap (λ (codes : List (List ℕ)). s.library ∷ codes) (codes-are streams)
 
-pub one-union : (all other : List Delivery) (streams others : List Stream) (one two : List Edition) → AreDistinct (codes_of all)
-    → AreDistinct (codes_of other) → AreSameDeliveries all other → IsUnion all streams one → IsUnion other others two → one ≡ two
-one-union all other streams others one two distinct distinct_too same p q =
+-- two unions of the same deliveries leave the same records current
+pub same-records : (all other : List Delivery) (streams others : List Stream) (one two : List Edition) → AreDistinct (codes_of all)
+    → AreDistinct (codes_of other) → AreSameDeliveries all other → (p : IsUnion all streams one) (q : IsUnion other others two)
+    → current p.history ≡ current q.history
+same-records all other streams others one two distinct distinct_too same p q =
     let first : AreDistinct (map (λ s. s.library) streams)
     = subst AreDistinct (ap codes_of (sym p.delivered) ∙ codes-are streams) distinct in
     let second : AreDistinct (map (λ s. s.library) others)
@@ -170,6 +172,10 @@ one-union all other streams others one two distinct distinct_too same p q =
           let m = met other all others streams q.delivered p.delivered same.back n t at in
           lacks m.place m.stream m.at (ap (λ (d : Delivery). d.library) m.same ∙ is)))
     ] in
-    let same_map : current p.history ≡ current q.history
-    = one-map (current p.history) (current q.history) (sorted-after [] p.history tt) (sorted-after [] q.history tt) under in
+    one-map (current p.history) (current q.history) (sorted-after [] p.history tt) (sorted-after [] q.history tt) under
+
+pub one-union : (all other : List Delivery) (streams others : List Stream) (one two : List Edition) → AreDistinct (codes_of all)
+    → AreDistinct (codes_of other) → AreSameDeliveries all other → IsUnion all streams one → IsUnion other others two → one ≡ two
+one-union all other streams others one two distinct distinct_too same p q =
+    let same_map = same-records all other streams others one two distinct distinct_too same p q in
     same_editions_of q.history one two (subst (λ map. IsOrderedResolution (values_of map) one) same_map p.resolved) q.resolved

@@ -38,8 +38,8 @@ module _ (help version : List ℕ) (unopened : Type 0) (shelf : ShelfFlow) (out 
   Does (Check file) = IsCheck file.library (file_flow shelf file.path) out status × SameElsewhere shelf.before shelf.after file.path
   Does (ToJson file) = IsToJsonRun file.library (file_flow shelf file.path) out notes status × SameElsewhere shelf.before shelf.after file.path
   Does (FromJson file) = IsFromJsonRun file.library (file_flow shelf file.path) out notes status × SameElsewhere shelf.before shelf.after file.path
-  Does (Export form loading) =
-      IsUnionRun (exported_as form) loading shelf out notes status × Opens (names_inputs loading.names ++ inputs_of loading.libraries)
+  Does (Export exporting loading) =
+      IsUnionRun (exported_as exporting) loading shelf out notes status × Opens (names_inputs loading.names ++ inputs_of loading.libraries)
   Does (Works loading) = IsUnionRun listed loading shelf out notes status × Opens (names_inputs loading.names ++ inputs_of loading.libraries)
   Does (Watch asks loading) =
       IsWatchRun (watch_of asks loading) shelf out notes status × Opens (first_files (watch_of asks loading) ++ inputs_of loading.libraries)

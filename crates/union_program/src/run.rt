@@ -11,7 +11,7 @@ ghost use Rattle.union_words.specs.Texts.{early_text};
 ghost use Rattle.union_words.specs.Words;
 ghost use Rattle.union_words.specs.Flows.{shelf_flow, file_flow, outflow, IsNoted};
 ghost use Rattle.union_words.specs.Statuses.{is_early};
-ghost use Rattle.union_words.specs.declared.form.Form.{Form as ExportForm};
+ghost use Rattle.union_words.specs.declared.form.Exporting.{Exporting};
 ghost use Rattle.union_script.specs.Runs.{IsScript};
 ghost use Rattle.union_trial.specs.Trials.{IsTrial};
 ghost use Rattle.names_file.specs.Named.{names_inputs};
@@ -317,8 +317,8 @@ fn run_words<R: Threads + Wait + Sync, F: Shelf, O: Sink, N: Sink, G: Gate>(
         }
         Some(Job::ToJson(file)) => run_to_json(host.alloc, &file, shelf, out, notes),
         Some(Job::FromJson(file)) => run_from_json(host.alloc, &file, shelf, out, notes),
-        Some(Job::Export(form, loading)) => {
-            run_union(host, Shown::Export(form), &loading, shelf, out, notes)
+        Some(Job::Export(exporting, loading)) => {
+            run_union(host, Shown::Export(exporting), &loading, shelf, out, notes)
         }
         Some(Job::Works(loading)) => run_union(host, Shown::Works, &loading, shelf, out, notes),
         Some(Job::Watch(asks, loading)) => run_watch(host, asks, &loading, shelf, out, notes),
@@ -345,7 +345,7 @@ fn run_words<R: Threads + Wait + Sync, F: Shelf, O: Sink, N: Sink, G: Gate>(
 /// | `check LIB=PATH` | which frames of the library's file are refused | |
 /// | `tojson LIB=PATH` | its records as lines of MARC in JSON | which frames are refused |
 /// | `fromjson LIB=PATH` | the records of lines of JSON, as ISO 2709 | which lines are refused |
-/// | `export LIB=PATH ..` | the union catalogue of the libraries' current records; with `--json` as lines of JSON | the reports |
+/// | `export LIB=PATH ..` | the union catalogue of the libraries' current records; with `--json` as lines of JSON, with `--owners` each local field once for each library that has it | the reports |
 /// | `works LIB=PATH ..` | its works | the reports |
 /// | `watch --ask=PATH LIB=PATH ..` | the turns in the order in which they were made, and the answers to the file's questions | the reports |
 /// | `follow --ask=PATH LIB=PATH ..` | the same, where the libraries are loaded one after the other | the reports |
@@ -387,9 +387,9 @@ pub fn union_run<R: Threads + Wait + Sync, F: Shelf, O: Sink, N: Sink, G: Gate>(
         (outflow O.written O.faults out.old out.new)
         (outflow N.written N.faults notes.old notes.new)
         result }
-    ensures export { (form : ExportForm) (loading : Words.Loading)
-        → Words.job_of words.now ≡ Some (Words.Export form loading)
-        → IsUnionRun (exported_as form) loading (shelf_flow F.files F.faults shelf.old shelf.new)
+    ensures export { (exporting : Exporting) (loading : Words.Loading)
+        → Words.job_of words.now ≡ Some (Words.Export exporting loading)
+        → IsUnionRun (exported_as exporting) loading (shelf_flow F.files F.faults shelf.old shelf.new)
         (outflow O.written O.faults out.old out.new)
         (outflow N.written N.faults notes.old notes.new) result }
     ensures works { (loading : Words.Loading) → Words.job_of words.now ≡ Some (Words.Works loading)

@@ -115,7 +115,8 @@ loaded_run showing names loaded status loading shelf out notes calm named turned
     let editions = shows.0 in
     let table = loaded.catalogue.names in
     let reports = loaded.reports.items in
-    ended_run (IsUnionOf showing loading) loaded.refused (showing.shown table editions) (reports ++ showing.noted table editions) status
+    let history = loaded.catalogue.history in
+    ended_run (IsUnionOf showing loading) loaded.refused (showing.shown table history editions) (reports ++ showing.noted table history editions) status
     (names_inputs loading.names) loading.libraries shelf out notes calm
     (on_both shelf.files (λ contents named turned. (
       within_all contents (names_inputs loading.names) loading.libraries named.0 turned.0,
@@ -130,11 +131,11 @@ loaded_run showing names loaded status loading shelf out notes calm named turned
           interleaving = turned.1.turns;
           resolved = shows.1;
         };
-        shown_is = ap (λ names. showing.shown names editions) turned.1.names_are;
+        shown_is = ap (λ names. showing.shown names history editions) turned.1.names_are;
         noted_is =
-            ap (λ all. all ++ showing.noted table editions) turned.1.reports
-            ∙ append_assoc names.report (reports_of turned.1.streams) (showing.noted table editions)
-            ∙ ap (λ table. names.report ++ (reports_of turned.1.streams ++ showing.noted table editions)) turned.1.names_are;
+            ap (λ all. all ++ showing.noted table history editions) turned.1.reports
+            ∙ append_assoc names.report (reports_of turned.1.streams) (showing.noted table history editions)
+            ∙ ap (λ table. names.report ++ (reports_of turned.1.streams ++ showing.noted table history editions)) turned.1.names_are;
         end_is = ap end_by turned.1.refused;
       },
     )) named turned)

@@ -1,18 +1,17 @@
 -- What a run does, by the form of its words.
-use Rattle.std.specs.Prelude.{◌≡◌, ◌≢◌, ℕ, ◌⊎◌, ◌<◌, ◌≤◌, ◌||◌, false, IsTrue, List, [], ◌∷◌, ◌++◌, length, map, Some, IfSome}
+use Rattle.std.specs.Prelude.{◌≡◌, ◌≢◌, ℕ, ◌⊎◌, ◌≤◌, ◌||◌, Bool, false, IsTrue, if◌then◌else◌, List, [], ◌++◌, length, map, Some, IfSome}
 use Rattle.std.specs.List.{flat_map, list_any}
 use Rattle.std.specs.Io.KnownBytes.{Appends, Keeps}
 use Rattle.authority_names.specs.Leads.{Table}
-use Rattle.catalogue_core.specs.Histories.{AreEditionsOf}
+use Rattle.catalogue_core.specs.Histories.{AreEditionsOf, current}
 use Rattle.catalogue_editions.specs.declared.edition.Edition.{Edition}
-use Rattle.catalogue_export.specs.Editions.{export_text, left_of}
+use Rattle.catalogue_editions.specs.declared.history_entry.HistoryEntry.{HistoryEntry}
+use Rattle.catalogue_export.specs.Sources.{SourcesValue, plain, with_records, text_of, line_of, left_of}
 use Rattle.catalogue_export.specs.WorkLists.{works_text_of}
-use Rattle.catalogue_export.specs.JsonExport.{json_export_text}
 use Rattle.iso2709_frame.specs.Frames.{frames}
 use Rattle.union_io.specs.Writing.{AppendsFront}
 use Rattle.library_batches.specs.Reading.{most_bytes}
 use Rattle.library_batches.specs.Refused.{refused}
-use Rattle.library_batches.specs.declared.refused.RefusedFrame.{RefusedFrame}
 use Rattle.library_batches.specs.Reports.{check_text, left_line}
 use Rattle.names_file.specs.Named.{Named, IsNamedBy, names_inputs}
 use Rattle.union_files.specs.Deliveries.{Delivery, Stream, delivered, batches_of, reports_of, has_refused}
@@ -25,12 +24,12 @@ use Rattle.union_words.specs.Flows.{ShelfFlow, Inflow, HasFailed, Outflow, HasFa
 use Rattle.union_words.specs.Statuses.{is_done, is_early, is_input_fault, end_by}
 use Rattle.union_words.specs.Texts.{early_text}
 use Rattle.union_words.specs.Words.{Loading}
+use Rattle.union_words.specs.declared.form.Exporting.{Exporting}
 use Rattle.union_words.specs.declared.form.Form.{Form}
 use Rattle.union_words.specs.declared.form.Form.TheVariants.{Iso2709, Json}
-use Rattle.union_words.specs.declared.input.Input.{Input}
 use Rattle.union_words.specs.declared.input.Input.TheVariants.{Library}
 use Rattle.union_words.specs.declared.status.Status.{Status}
-use Rattle.union_words.specs.declared.status.Status.TheVariants.{Done, DoneWithRefusals, Usage, OpenFault, ReadFault, WriteFault, TooLong, Memory}
+use Rattle.union_words.specs.declared.status.Status.TheVariants.{Done, Usage, WriteFault, Memory}
 use Rattle.union_files.specs.Endings.{EndsAtInput, end_with}
 use Rattle.union_watch.specs.declared.shown.Shown.{Shown}
 use Rattle.union_watch.specs.declared.shown.Shown.TheVariants.{Export, Works}
@@ -54,39 +53,44 @@ pub record IsCheck (library : List ℕ) (file : Inflow) (out : Outflow) (status 
   pub complete : (bytes : List ℕ) → file.told ≡ Some bytes → length bytes ≤ most_bytes → ¬ HasFailed file → ¬ HasFailedAt out
       → (status ≡ end_of bytes) ⊎ (status ≡ Memory)
 
--- a line for each edition of which fields were left out, where its record shows a work key by these names
-abbrev pub left_lines : Table → List Edition → List ℕ
-left_lines names editions = flat_map left_line (left_of names editions)
+-- what an export takes of a catalogue beside its editions: the names by which works have keys, and, if local fields tell whose they
+-- are, the records that the history leaves current
+abbrev pub sources_of : Bool → Table → List HistoryEntry → SourcesValue
+sources_of owners names history = (if owners then with_records names (current history) else plain names)
 
--- what is shown on the output of the editions of a catalogue by some names, and what is noted of them after the reports
+-- a line for each edition of which fields were left out
+abbrev pub left_lines : SourcesValue → List Edition → List ℕ
+left_lines sources editions = flat_map left_line (left_of sources editions)
+
+-- what is shown on the output of the editions of a catalogue by some names, which has this history, and what is noted of them after
+-- the reports
 pub record Showing : Type 0 where
-  pub shown : Table → List Edition → List ℕ
-  pub noted : Table → List Edition → List ℕ
+  pub shown : Table → List HistoryEntry → List Edition → List ℕ
+  pub noted : Table → List HistoryEntry → List Edition → List ℕ
 
 -- what is shown of each edition in some form, one after the other, and lines on what was left out
-abbrev pub shown_by : (Table → Edition → List ℕ) → Showing
-shown_by shown = record { shown = λ names editions. flat_map (shown names) editions; noted = left_lines }
+abbrev pub shown_by : (SourcesValue → Edition → List ℕ) → Bool → Showing
+shown_by shown owners = record {
+  shown = λ names history editions. flat_map (shown (sources_of owners names history)) editions;
+  noted = λ names history editions. left_lines (sources_of owners names history) editions;
+}
 
--- the export, and lines on what was left out of it
-abbrev pub exported : Showing
-exported = record { shown = export_text; noted = left_lines }
+-- an edition's record in the form
+abbrev pub written_in : Form → SourcesValue → Edition → List ℕ
+written_in Iso2709 = text_of
+written_in Json = line_of
 
--- the export as lines of JSON, and the same lines on what was left out
-abbrev pub exported_in_json : Showing
-exported_in_json = record { shown = json_export_text; noted = left_lines }
-
--- the export in its form
-abbrev pub exported_as : Form → Showing
-exported_as Iso2709 = exported
-exported_as Json = exported_in_json
+-- the export, in its form, and lines on what was left out of it
+abbrev pub exported_as : Exporting → Showing
+exported_as exporting = shown_by (written_in exporting.form) exporting.owners
 
 -- the list of the works
 abbrev pub listed : Showing
-listed = record { shown = works_text_of; noted = λ names editions. [] }
+listed = record { shown = λ names history editions. works_text_of names editions; noted = λ names history editions. [] }
 
 -- what each command shows
 abbrev pub showing_of : Shown → Showing
-showing_of (Export form) = exported_as form
+showing_of (Export exporting) = exported_as exporting
 showing_of Works = listed
 
 -- what the files of a load deliver
@@ -101,8 +105,8 @@ pub record IsUnionOf (showing : Showing) (loading : Loading) (contents : List �
   pub streams : List Stream
   pub editions : List Edition
   pub union : IsUnion (deliveries_of contents loading) streams editions
-  pub shown_is : shown ≡ showing.shown names.table editions
-  pub noted_is : noted ≡ names.report ++ (reports_of streams ++ showing.noted names.table editions)
+  pub shown_is : shown ≡ showing.shown names.table union.history editions
+  pub noted_is : noted ≡ names.report ++ (reports_of streams ++ showing.noted names.table union.history editions)
   pub end_is : end ≡ end_by (names.refused || list_any has_refused (deliveries_of contents loading))
 
 -- a run of `export` or `works`: its texts are those of the union of the libraries' files (IsUnionOf), and for each status it is said what
@@ -146,5 +150,5 @@ pub record Written (shown noted : List ℕ) (end : Status) (out notes : Outflow)
 abbrev pub Shows : Showing → Loaded → Outflow → Outflow → Status → Type 0
 Shows showing loaded out notes status =
     (editions : List Edition) × AreEditionsOf loaded.catalogue.history editions
-    × Written (showing.shown loaded.catalogue.names editions) (loaded.reports.items ++ showing.noted loaded.catalogue.names editions)
-    (end_by loaded.refused) out notes status
+    × Written (showing.shown loaded.catalogue.names loaded.catalogue.history editions)
+    (loaded.reports.items ++ showing.noted loaded.catalogue.names loaded.catalogue.history editions) (end_by loaded.refused) out notes status

@@ -1,17 +1,22 @@
 //! The writing of what libraries came to: of the catalogue's editions on `out`, and of the reports on `notes` after it.
-ghost use Rattle.std.specs.Prelude.{◌≡◌, ◌++◌, IfOk};
+ghost use Rattle.std.specs.Prelude.{◌≡◌, ◌++◌, List, IfOk, OnOk};
 ghost use Rattle.std.specs.List.{flat_map};
 ghost use Rattle.library_batches.specs.Reports.{left_line};
 ghost use Rattle.union_words.specs.Statuses.{end_by};
-ghost use Rattle.union_watch.specs.Runs.{listed, showing_of, shown_by, IsReported, Shows};
+ghost use Rattle.catalogue_core.specs.Histories.{AreEditionsOf};
+ghost use Rattle.catalogue_editions.specs.declared.edition.Edition.{Edition as EditionModel};
+ghost use Rattle.catalogue_export.specs.Sources.{left_of};
+ghost use Rattle.catalogue_export.specs.Writing.{HasWritten, outflow};
+ghost use Rattle.union_watch.specs.Runs.{exported_as, listed, showing_of, shown_by, sources_of, IsReported, Shows};
 
 use crate::notes::put_early;
 use crate::shown::Shown;
-use catalogue_export::by_workers::export_by_workers;
+use catalogue_export::by_workers::{export_by_workers, owners_by_workers};
 use catalogue_export::export_fail::ExportFail;
 use catalogue_export::form::{ExportForm, Iso2709};
 use catalogue_export::json_export::JsonLines;
 use catalogue_export::works_text::finished_works_text;
+use gathered_catalogue::finished::Finished;
 use library_batches::report_texts::add_left_lines;
 use std::alloc::Global;
 use std::mem::forget;
@@ -21,7 +26,7 @@ use union_base::record_id::RecordId;
 use union_files::loaded::Loaded;
 use union_io::failed::Failed;
 use union_io::sink::{Sink, put_all};
-use union_words::form::Form;
+use union_words::form::{Exporting, Form};
 use union_words::status::Status;
 use union_words::workers::Workers;
 
@@ -86,16 +91,23 @@ pub fn write_reports<N: Sink>(
     }
 }
 
-/// Writes the records of the editions in this form, which `workers` workers make, the reports, and what was left out.
+/// Which workers make the records of an export, and whether local fields tell whose they are.
+#[derive(Clone, Copy)]
+struct Making {
+    workers: Workers,
+    owners: bool,
+}
+
+/// Writes the records of the editions in this form, the reports, and what was left out.
 fn write_export<R: Threads + Sync, F: ExportForm + Send, O: Sink, N: Sink>(
     rt: &R,
     alloc: Global,
-    workers: Workers,
+    making: Making,
     loaded: Loaded,
     out: &mut O,
     notes: &mut N,
 ) -> Status
-    ensures { Shows (shown_by F.shown) loaded
+    ensures { Shows (shown_by F.shown making.owners) loaded
         (record {
           old = O.written out.old;
           new = O.written out.new;
@@ -112,14 +124,38 @@ fn write_export<R: Threads + Sync, F: ExportForm + Send, O: Sink, N: Sink>(
         result }
 {
     let mut left = Vec::new(alloc);
-    let catalogue = &loaded.catalogue;
-    match export_by_workers::<R, F, O>(rt, alloc, catalogue, workers.number(), out, &mut left) {
+    match make_export::<R, F, O>(rt, alloc, making, &loaded.catalogue, out, &mut left) {
         Ok(()) => write_reports(alloc, loaded, left.as_slice(), notes),
         Err(ExportFail::WriteFault) => Status::WriteFault,
         Err(ExportFail::Memory) => {
             put_early(notes, &Status::Memory);
             Status::Memory
         }
+    }
+}
+
+/// Writes the records of the editions in this form. Returns `WriteFault` only where a write of `out` failed, and `Memory` if
+/// allocation fails.
+fn make_export<R: Threads + Sync, F: ExportForm + Send, O: Sink>(
+    rt: &R,
+    alloc: Global,
+    making: Making,
+    catalogue: &Finished,
+    out: &mut O,
+    left: &mut Vec<(RecordId, usize)>,
+) -> Result<(), ExportFail>
+    ensures { (all : List EditionModel) × AreEditionsOf catalogue.now.history all
+        × HasWritten (flat_map (F.shown (sources_of making.owners catalogue.now.names
+        catalogue.now.history)) all)
+        (outflow O.written O.faults out.old out.new) result
+        × OnOk result (left.new.items ≡ left.old.items
+        ++ left_of (sources_of making.owners catalogue.now.names catalogue.now.history) all) }
+{
+    let workers = making.workers.number();
+    if making.owners {
+        owners_by_workers::<R, F, O>(rt, alloc, catalogue, workers, out, left)
+    } else {
+        export_by_workers::<R, F, O>(rt, alloc, catalogue, workers, out, left)
     }
 }
 
@@ -185,12 +221,43 @@ pub fn write_shown<R: Threads + Sync, O: Sink, N: Sink>(
         result }
 {
     match shown {
-        Shown::Export(Form::Iso2709) => {
-            write_export::<R, Iso2709, O, N>(rt, alloc, workers, loaded, out, notes)
-        }
-        Shown::Export(Form::Json) => {
-            write_export::<R, JsonLines, O, N>(rt, alloc, workers, loaded, out, notes)
+        Shown::Export(exporting) => {
+            write_exporting(rt, alloc, exporting, workers, loaded, out, notes)
         }
         Shown::Works => write_works(rt, alloc, workers, loaded, out, notes),
+    }
+}
+
+/// Writes the export in this way, and the reports. Its records are made by `workers` workers.
+fn write_exporting<R: Threads + Sync, O: Sink, N: Sink>(
+    rt: &R,
+    alloc: Global,
+    exporting: Exporting,
+    workers: Workers,
+    loaded: Loaded,
+    out: &mut O,
+    notes: &mut N,
+) -> Status
+    ensures { Shows (exported_as exporting) loaded
+        (record {
+          old = O.written out.old;
+          new = O.written out.new;
+          before = O.faults out.old;
+          after
+              = O.faults out.new;
+        })
+        (record {
+          old = N.written notes.old;
+          new = N.written notes.new;
+          before = N.faults notes.old;
+          after = N.faults notes.new;
+        })
+        result }
+{
+    let owners = exporting.owners;
+    let making = Making { workers, owners };
+    match exporting.form {
+        Form::Iso2709 => write_export::<R, Iso2709, O, N>(rt, alloc, making, loaded, out, notes),
+        Form::Json => write_export::<R, JsonLines, O, N>(rt, alloc, making, loaded, out, notes),
     }
 }

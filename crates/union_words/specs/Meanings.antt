@@ -49,7 +49,7 @@ abbrev pub job_meaning : JobInPlace → Job
 job_meaning (CheckInPlace file) = Check (file_meaning file)
 job_meaning (ToJsonInPlace file) = ToJson (file_meaning file)
 job_meaning (FromJsonInPlace file) = FromJson (file_meaning file)
-job_meaning (ExportInPlace form loading) = Export form (loading_meaning loading)
+job_meaning (ExportInPlace exporting loading) = Export exporting (loading_meaning loading)
 job_meaning (WorksInPlace loading) = Works (loading_meaning loading)
 job_meaning (WatchInPlace asks loading) = Watch asks.now (loading_meaning loading)
 job_meaning (FollowInPlace asks libraries) = Follow asks.now (libraries_meaning libraries)

@@ -6,6 +6,7 @@ use Rattle.std.specs.Str.{is_utf8}
 use Rattle.field_merge.specs.Preferences.{preference_of}
 use Rattle.union_base.specs.LibraryCodes.{is_library_code}
 use Rattle.union_words.specs.Numbers.{option_text, workers_word, seed_of, count_of, workers_of}
+use Rattle.union_words.specs.declared.form.Exporting.{Exporting}
 use Rattle.union_words.specs.declared.form.Form.{Form}
 use Rattle.union_words.specs.declared.form.Form.TheVariants.{Iso2709, Json}
 pub use Rattle.union_words.specs.Alike.{is_text}
@@ -28,7 +29,7 @@ pub data Job : Type 0 where
   Check : (file : LibraryFile) → Job
   ToJson : (file : LibraryFile) → Job
   FromJson : (file : LibraryFile) → Job
-  Export : (form : Form) (loading : Loading) → Job
+  Export : (exporting : Exporting) (loading : Loading) → Job
   Works : (loading : Loading) → Job
   Watch : (asks : List ℕ) (loading : Loading) → Job
   Follow : (asks : List ℕ) (libraries : List LibraryFile) → Job
@@ -42,7 +43,7 @@ abbrev pub has_report : Job → Bool
 has_report (Check file) = false
 has_report (ToJson file) = true
 has_report (FromJson file) = true
-has_report (Export form loading) = true
+has_report (Export exporting loading) = true
 has_report (Works loading) = true
 has_report (Watch asks loading) = true
 has_report (Follow asks libraries) = true
@@ -182,6 +183,23 @@ abbrev pub form_in : List (List ℕ) → Form × List (List ℕ)
 form_in [] = (Iso2709, [])
 form_in (word ∷ rest) = (if is_json_word word then (Json, rest) else (Iso2709, word ∷ rest))
 
+-- the word by which local fields tell whose they are
+abbrev pub is_owners_word : List ℕ → Bool
+is_owners_word word = is_text word (codes "--owners")
+
+-- whether they do, by a first word `--owners` where there is one, and the words after it
+abbrev pub owners_in : List (List ℕ) → Bool × List (List ℕ)
+owners_in [] = (false, [])
+owners_in (word ∷ rest) = (if is_owners_word word then (true, rest) else (false, word ∷ rest))
+
+-- an export in this form, and what the words after it say of owners
+abbrev pub exporting_with : Form × List (List ℕ) → Exporting × List (List ℕ)
+exporting_with (form, words) = (record { form = form; owners = (owners_in words).0 }, (owners_in words).1)
+
+-- how an export shows its editions, by `--json` and `--owners` in this order where there are these, and the words after them
+abbrev pub exporting_in : List (List ℕ) → Exporting × List (List ℕ)
+exporting_in words = exporting_with (form_in words)
+
 -- one to 64 words `LIB=PATH`, loaded as the options say
 abbrev pub loading_of : Options → List (List ℕ) → Option Loading
 loading_of options words =
@@ -195,7 +213,7 @@ loading_by options = loading_of options options.rest
 
 -- after `export` and the options that the commands have in common
 abbrev pub export_form_job : Options → Option Job
-export_form_job options = option_map (Export (form_in options.rest).0) (loading_of options (form_in options.rest).1)
+export_form_job options = option_map (Export (exporting_in options.rest).0) (loading_of options (exporting_in options.rest).1)
 
 -- after `export`
 abbrev pub export_job : List (List ℕ) → Option Job

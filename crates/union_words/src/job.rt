@@ -4,7 +4,7 @@ ghost use Rattle.std.specs.Option.{option_copied, option_map};
 ghost use Rattle.union_words.specs.Meanings.{job_meaning};
 ghost use Rattle.union_words.specs.Words;
 
-use crate::form::{Form, form_in};
+use crate::form::{Exporting, exporting_in};
 use crate::libraries::Libraries;
 use crate::library_file::{LibraryFile, is_path};
 use crate::loading::Loading;
@@ -22,8 +22,8 @@ pub enum Job<'a> {
     ToJson(LibraryFile<'a>),
     /// `fromjson LIB=PATH`: write the records of one file of MARC in JSON as ISO 2709.
     FromJson(LibraryFile<'a>),
-    /// `export [--workers=N] [--prefer=LIB,..] [--names=PATH] [--json] LIB=PATH ..`: load and export.
-    Export(Form, Loading<'a>),
+    /// `export [--workers=N] [--prefer=LIB,..] [--names=PATH] [--json] [--owners] LIB=PATH ..`: load and export.
+    Export(Exporting, Loading<'a>),
     /// `works [--workers=N] [--prefer=LIB,..] [--names=PATH] LIB=PATH ..`: load and list the works.
     Works(Loading<'a>),
     /// `watch --ask=PATH [--workers=N] [--prefer=LIB,..] [--names=PATH] LIB=PATH ..`: load, and answer the questions of that file beside.
@@ -134,9 +134,9 @@ fn export_job(words: &[Bytes]) -> Option<Job<'_>>
     ensures { option_map job_meaning result ≡ Words.export_job words.now }
 {
     let options = Options::read(words);
-    let (form, rest) = form_in(options.rest);
+    let (exporting, rest) = exporting_in(options.rest);
     match Loading::read(options, rest) {
-        Some(loading) => Some(Job::Export(form, loading)),
+        Some(loading) => Some(Job::Export(exporting, loading)),
         None => None,
     }
 }

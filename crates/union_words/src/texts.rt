@@ -18,7 +18,8 @@ USAGE
     union tojson LIB=PATH        write the file's records as MARC in JSON
     union fromjson LIB=PATH      write a file of MARC in JSON as ISO 2709
     union export [--workers=N] [--prefer=LIB,..] [--names=PATH] [--json]
-                 LIB=PATH ..     load the files and export the union catalogue
+                 [--owners] LIB=PATH ..
+                                 load the files and export the union catalogue
     union works [--workers=N] [--prefer=LIB,..] [--names=PATH] LIB=PATH ..
                                  load the files and list the works
     union watch --ask=PATH [--workers=N] [--prefer=LIB,..] [--names=PATH]
@@ -41,6 +42,10 @@ USAGE
     export, works, watch and follow take 1 to 64 libraries, each under a code of
     its own. N workers load them at once, 1 to 64: without the option there are
     4. With --json the export is MARC in JSON. Options stand in the order above.
+    With --owners each local field of an export (852, 856, 590-599, 900-999)
+    comes once for each library that has it in a record of the edition, with a
+    last subfield 5 that has the library's code. A local field that has a
+    subfield 5 stays as it is, and so does one that has no room for it.
     --prefer has 1 to 64 different codes, the most trusted first. An edition has
     its leader and 008, and each of 005, 010, 040, 1XX, 240 and 245, of the one
     record that has it and whose library is named first; a library that is not
@@ -163,6 +168,8 @@ EXAMPLES
         union fromjson LIBA=liba.jsonl > again.mrc
     The same, with the cataloguing of LIBB before that of all others:
         union export --prefer=LIBB LIBA=liba.mrc LIBB=libb.mrc > union.mrc
+    The same union, where each local field tells whose it is:
+        union export --owners LIBA=liba.mrc LIBB=libb.mrc > union.mrc
     The works of two libraries, by the established forms of names:
         union works --names=names.mrc LIBA=liba.mrc LIBB=libb.mrc
     Questions that are answered while two libraries are loaded:

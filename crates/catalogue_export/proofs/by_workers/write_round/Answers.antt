@@ -4,7 +4,7 @@ use Rattle.std.proofs.lemmas.Grind.{div_ceil_times}
 use Rattle.std.proofs.lemmas.List.{take-append-drop}
 use Rattle.std.proofs.lemmas.Result.{err_from_is_err_and}
 use Rattle.catalogue_editions.specs.declared.edition.Edition.{Edition}
-use Rattle.catalogue_export.specs.Editions.{left_of_one}
+use Rattle.catalogue_export.specs.Sources.{left_of_one}
 use Rattle.catalogue_export.specs.Parts.{IsPartOf}
 use Rattle.catalogue_export.specs.Writing.{Output, IsExport}
 use Rattle.catalogue_export.specs.declared.export_fail.ExportFail.TheVariants.{Memory}
@@ -16,8 +16,8 @@ use Rattle.catalogue_export.proofs.by_workers.write_round.Goals as goal
 
 pub loop-made-init : goal.loop-made-init
 loop-made-init g c =
-    let shown = g.F.ExportForm.shown c.args.listing.now.names.now in
-    let noted = left_of_one c.args.listing.now.names.now in
+    let shown = g.F.ExportForm.shown c.args.listing.now.sources.now in
+    let noted = left_of_one c.args.listing.now.sources.now in
     let editions = c.args.listing.now.editions.now in
     let parts = c.in_ok-parts.parts.items in
     let count : length parts ≡ length editions / c.args.size + min 1 (length editions % c.args.size) = omega (arith, c.in_ok-parts.ensures.len, c.in_ok-parts.parts.ok) in
@@ -33,8 +33,8 @@ loop-made-init g c =
 
 pub returns-in_err-part : goal.returns-in_err-part
 returns-in_err-part g c =
-    let shown = g.F.ExportForm.shown c.args.listing.now.names.now in
-    let noted = left_of_one c.args.listing.now.names.now in
+    let shown = g.F.ExportForm.shown c.args.listing.now.sources.now in
+    let noted = left_of_one c.args.listing.now.sources.now in
     let editions = c.args.listing.now.editions.now in
     let rest = c.loop-made.invariant.0 in
     let out : Output = record { old = g.O.Sink.written c.args.out.now; new = g.O.Sink.written c.loop-made.out; before = g.O.Sink.faults c.args.out.now; after = g.O.Sink.faults c.loop-made.out } in
@@ -48,8 +48,8 @@ returns-in_err-part g c =
 
 pub loop-made-preserved : goal.loop-made-preserved
 loop-made-preserved g c =
-    let shown = g.F.ExportForm.shown c.args.listing.now.names.now in
-    let noted = left_of_one c.args.listing.now.names.now in
+    let shown = g.F.ExportForm.shown c.args.listing.now.sources.now in
+    let noted = left_of_one c.args.listing.now.sources.now in
     let editions = c.args.listing.now.editions.now in
     let rest = c.loop-made.invariant.0 in
     let come = subst (λ made. AreShares c.args.size (λ (es : List (Bor Edition)) (part : Part). IsPartOf shown noted (map (λ (e : Bor Edition). e.now) es) part) rest made) c.in-Some.ensures.steps.0 c.loop-made.invariant.1 in
@@ -66,8 +66,8 @@ loop-made-preserved g c =
 
 pub returns-in-Err : goal.returns-in-Err
 returns-in-Err g c =
-    let shown = g.F.ExportForm.shown c.args.listing.now.names.now in
-    let noted = left_of_one c.args.listing.now.names.now in
+    let shown = g.F.ExportForm.shown c.args.listing.now.sources.now in
+    let noted = left_of_one c.args.listing.now.sources.now in
     let editions = c.args.listing.now.editions.now in
     let rest = c.loop-made.invariant.0 in
     let come = subst (λ made. AreShares c.args.size (λ (es : List (Bor Edition)) (part : Part). IsPartOf shown noted (map (λ (e : Bor Edition). e.now) es) part) rest made) c.in-Some.ensures.steps.0 c.loop-made.invariant.1 in

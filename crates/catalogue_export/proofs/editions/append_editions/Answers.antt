@@ -3,7 +3,8 @@ use Rattle.std.specs.List.{flat_map}
 use Rattle.std.proofs.lemmas.List.{take_all, length-map}
 use Rattle.catalogue_core.proofs.WalkLaws.{told-more}
 use Rattle.catalogue_editions.specs.declared.edition.Edition.{Edition}
-use Rattle.catalogue_export.specs.Editions.{left_of_one, noted}
+use Rattle.catalogue_export.specs.Editions.{noted}
+use Rattle.catalogue_export.specs.Sources.{left_of_one}
 use Rattle.catalogue_export.proofs.AroundLaws.{seen-at}
 use Rattle.catalogue_export.proofs.editions.append_editions.Goals as goal
 
@@ -12,7 +13,7 @@ loop-edition-init g c = record { text = sym (append-nil c.args.into.now.items); 
 
 pub loop-edition-preserved : goal.loop-edition-preserved
 loop-edition-preserved g c =
-    let names = c.args.names.now in
+    let names = c.args.sources.now in
     let shown = g.F.ExportForm.shown names in
     let all = map (λ (e : Bor Edition). e.now) c.args.editions.now in
     let place = c.loop-edition.edition-index in
@@ -29,7 +30,7 @@ loop-edition-preserved g c =
 
 pub returns : goal.returns
 returns g c =
-    let names = c.args.names.now in
+    let names = c.args.sources.now in
     let all = map (λ (e : Bor Edition). e.now) c.args.editions.now in
     let past : length all ≤ c.loop-edition.edition-index = omega (arith, length-map c.args.editions.now (λ (e : Bor Edition). e.now), c.loop-edition-test.false) in
     let whole = take_all c.loop-edition.edition-index all past in

@@ -2,7 +2,7 @@ use Rattle.std.proofs.Common.{◌++◌, ◌+◌, ◌≤◌, [], Bor, map, take, 
 use Rattle.std.proofs.lemmas.List.{take_all, length-map}
 use Rattle.catalogue_editions.specs.declared.edition.Edition.{Edition}
 use Rattle.std.specs.List.{flat_map}
-use Rattle.catalogue_export.specs.Editions.{left_of_one, left_of}
+use Rattle.catalogue_export.specs.Sources.{left_of_one, left_of}
 use Rattle.catalogue_export.specs.Writing.{IsWrittenTo}
 use Rattle.catalogue_core.proofs.WalkLaws.{told-more}
 use Rattle.catalogue_export.proofs.AroundLaws.{told-around, seen-at}
@@ -21,8 +21,8 @@ loop-edition-init g c =
 pub returns-in-Err : goal.returns-in-Err
 returns-in-Err g c =
     let before = c.loop-edition.invariant in
-    let shown = g.F.ExportForm.shown c.args.names.now in
-    let noted = left_of_one c.args.names.now in
+    let shown = g.F.ExportForm.shown c.args.sources.now in
+    let noted = left_of_one c.args.sources.now in
     let all = map (λ (e : Bor Edition). e.now) c.args.editions.now in
     let place = c.loop-edition.edition-index in
     let e = c.edition-item.result.now in
@@ -41,7 +41,7 @@ returns-in-Err g c =
 pub loop-edition-preserved : goal.loop-edition-preserved
 loop-edition-preserved g c =
     let before = c.loop-edition.invariant in
-    let shown = g.F.ExportForm.shown c.args.names.now in
+    let shown = g.F.ExportForm.shown c.args.sources.now in
     let all = map (λ (e : Bor Edition). e.now) c.args.editions.now in
     let place = c.loop-edition.edition-index in
     let e = c.edition-item.result.now in
@@ -51,19 +51,19 @@ loop-edition-preserved g c =
           (sym (told-more shown all place e at))
           (moved-more _ _ _ _ _ _ _ _ _ before.moved c.in-Ok.ensures.text);
       calm = c.in-Ok.ensures.text.calm (λ is. cc) ∙ before.calm;
-      left = c.in-Ok.ensures.left ∙ ap (λ l. l ++ left_of_one c.args.names.now e) before.left ∙ append_assoc c.args.left.now.items (left_of c.args.names.now (take place all)) (left_of_one c.args.names.now e)
-          ∙ ap (λ l. c.args.left.now.items ++ l) (sym (told-more (left_of_one c.args.names.now) all place e at));
+      left = c.in-Ok.ensures.left ∙ ap (λ l. l ++ left_of_one c.args.sources.now e) before.left ∙ append_assoc c.args.left.now.items (left_of c.args.sources.now (take place all)) (left_of_one c.args.sources.now e)
+          ∙ ap (λ l. c.args.left.now.items ++ l) (sym (told-more (left_of_one c.args.sources.now) all place e at));
     }
 
 pub returns : goal.returns
 returns g c =
     let before = c.loop-edition.invariant in
-    let shown = g.F.ExportForm.shown c.args.names.now in
+    let shown = g.F.ExportForm.shown c.args.sources.now in
     let all = map (λ (e : Bor Edition). e.now) c.args.editions.now in
     let past : length all ≤ c.loop-edition.edition-index = omega (arith, length-map c.args.editions.now (λ (e : Bor Edition). e.now), c.loop-edition-test.false) in
     let whole = take_all c.loop-edition.edition-index all past in
     let written = g.O.Sink.written c.args.out.now in
-    let left = before.left ∙ ap (λ es. c.args.left.now.items ++ left_of c.args.names.now es) whole in
+    let left = before.left ∙ ap (λ es. c.args.left.now.items ++ left_of c.args.sources.now es) whole in
     record {
       written = rest-written written (g.O.Sink.written c.loop-edition.out) (g.O.Sink.written c.hand_on_rest.new.out)
           (g.O.Sink.faults c.args.out.now) (g.O.Sink.faults c.loop-edition.out) (g.O.Sink.faults c.hand_on_rest.new.out)
@@ -71,5 +71,5 @@ returns g c =
           (subst (λ es. IsWrittenTo (flat_map shown es) c.loop-edition.pending.items written (g.O.Sink.written c.loop-edition.out)) whole before.moved) before.calm
           (rw c.as_slice.ensures.value at c.hand_on_rest.ensures);
       gained = on-ok c.hand_on_rest.result left;
-      stopped = on-err c.hand_on_rest.result (gains-all c.args.left.now.items c.loop-edition.left.items (left_of c.args.names.now all) left);
+      stopped = on-err c.hand_on_rest.result (gains-all c.args.left.now.items c.loop-edition.left.items (left_of c.args.sources.now all) left);
     }

@@ -1,15 +1,15 @@
 use Rattle.std.proofs.Common.{◌++◌, ap, ◌∙◌, refl, Err}
 use Rattle.std.specs.List.{flat_map}
-use Rattle.catalogue_export.specs.Editions.{left_of}
+use Rattle.catalogue_export.specs.Sources.{left_of}
 use Rattle.library_batches.specs.Reports.{left_line}
 use Rattle.union_words.specs.Statuses.{end_by}
-use Rattle.union_watch.specs.Runs.{left_lines}
+use Rattle.union_watch.specs.Runs.{left_lines, sources_of}
 use Rattle.union_watch.proofs.RunLaws.{shown-whole, shown-failed, shown-memory}
 use Rattle.union_watch.proofs.showing.write_export.Goals as goal
 
 pub returns-in-Ok : goal.returns-in-Ok
 returns-in-Ok g c =
-    let names = c.args.loaded.catalogue.names in
+    let names = sources_of c.args.making.owners c.args.loaded.catalogue.names c.args.loaded.catalogue.history in
     let shown = g.F.ExportForm.shown names in
     let all = c.in-Ok.ensures.0 in
     let told = c.as_slice.ensures.value ∙ (c.in-Ok.ensures.3 ∙ ap (λ l. l ++ left_of names all) c.new-left.ensures.items) in
@@ -22,7 +22,7 @@ returns-in-Ok g c =
 
 pub returns-in-Err-WriteFault : goal.returns-in-Err-WriteFault
 returns-in-Err-WriteFault g c =
-    let names = c.args.loaded.catalogue.names in
+    let names = sources_of c.args.making.owners c.args.loaded.catalogue.names c.args.loaded.catalogue.history in
     let shown = g.F.ExportForm.shown names in
     let all = c.in-Err-WriteFault.ensures.0 in (
       all,
@@ -33,7 +33,7 @@ returns-in-Err-WriteFault g c =
 
 pub returns : goal.returns
 returns g c =
-    let names = c.args.loaded.catalogue.names in
+    let names = sources_of c.args.making.owners c.args.loaded.catalogue.names c.args.loaded.catalogue.history in
     let shown = g.F.ExportForm.shown names in
     let all = c.in-Err-Memory.ensures.0 in (
       all,

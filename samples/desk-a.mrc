@@ -1,0 +1,1 @@
+00364nam a2200121 a 4500001000500000005001700005008004100022020001500063100003500078245007800113852001600191856003500207a70020240110080000.0790101s1979    nyu           000 0 eng d  a04650268501 aHofstadter, Douglas R.,d1945-10aGödel, Escher, Bach :ban eternal golden braid /cDouglas R. Hofstadter.  bMainhQA9.840uhttps://proxy.liba.example/geb
