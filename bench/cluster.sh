@@ -1,6 +1,7 @@
 #!/bin/sh
 # A catalogue in parts on this machine: the time of `union export`, and of cluster/union-cluster with 4, 2 and 1 workers, over the files
-# of one consortium, the memory of the largest process of each, and what the driver tells of rows, rounds and bytes.
+# of one consortium, the memory of the largest process of each, and what the driver tells of steps, rounds and bytes.
+# `union export` has as many workers as the cluster.
 #
 # usage: bench/cluster.sh [RECORDS [LIBRARIES]]
 #
@@ -19,14 +20,14 @@ for file in "$work"/lib*.mrc; do
     name=$(basename "$file" .mrc | tr a-z A-Z)
     words="$words $name=$file"
 done
-# shellcheck disable=SC2086
-/usr/bin/time -f "union export: %e s, %M KB" "$program" export $words >"$work/one.out" 2>"$work/one.notes"
-tail -n 1 "$work/one.notes"
 for workers in 4 2 1; do
     # shellcheck disable=SC2086
-    /usr/bin/time -f "%e s, the largest process %M KB" "$top/cluster/union-cluster" --workers=$workers --parts=4 --union="$program" --keys="$keys" --scratch="$work" \
+    /usr/bin/time -f "%e s, %M KB" "$program" export --workers=$workers $words >"$work/one.out" 2>"$work/one.notes"
+    echo "union export, $workers workers: $(tail -n 1 "$work/one.notes"), load $(cut -d ' ' -f 1 /proc/loadavg)"
+    # shellcheck disable=SC2086
+    /usr/bin/time -f "%e s, the largest process %M KB" "$top/cluster/union-cluster" --workers=$workers --union="$program" --keys="$keys" --scratch="$work" \
         --progress $words >"$work/many.out" 2>"$work/many.notes"
     cmp "$work/one.out" "$work/many.out"
-    echo "$workers workers: $(tail -n 1 "$work/many.notes")"
+    echo "union-cluster, $workers workers: $(tail -n 1 "$work/many.notes"), load $(cut -d ' ' -f 1 /proc/loadavg)"
     grep '^union-cluster:' "$work/many.notes"
 done

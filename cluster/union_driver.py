@@ -6,6 +6,7 @@ that it started are gone, and standard error has the notes of a whole catalogue,
 
 import argparse
 import difflib
+import importlib
 import logging
 import multiprocessing
 import os
@@ -27,6 +28,9 @@ from union_ends import advice, build_it, cannot_open, end_of, line_of, no_scratc
 PIECE = 1 << 20
 MOST_LIBRARIES = 64
 LONGEST_FILE = 1 << 40
+# The largest part by default, and how many stretches deliveries are read in, at most some more.
+PART = 1 << 27
+MOST_STRETCHES = 512
 SIGNALS = (signal.SIGINT, signal.SIGTERM, signal.SIGHUP)
 # How many seconds the engine has to end.
 CLOSE = 10
@@ -85,6 +89,7 @@ def words_of(arguments):
     parser.add_argument("--parts", metavar="N", type=number(1, 1000000), default=0, help="in how many parts the catalogue is made")
     parser.add_argument("--block", metavar="MB", type=number(1, 4096), default=16, help="how many megabytes of a delivery are read at once")
     parser.add_argument("--block-bytes", type=int, default=0, help=argparse.SUPPRESS)
+    parser.add_argument("--id-bits", type=number(0, 63), default=0, help=argparse.SUPPRESS)
     parser.add_argument("--part-memory", type=int, default=0, help=argparse.SUPPRESS)
     parser.add_argument("--victim", default="", help=argparse.SUPPRESS)
     parser.add_argument("--join", type=int, default=60, help=argparse.SUPPRESS)
@@ -215,8 +220,7 @@ def options_of(words, scratch):
 
 
 def plan_of(words, scratch):
-    """What the workers are told. A share of the rows is of some 64 MB of deliveries, and a part of some 256 MB, of which union takes
-    five to six times as much memory."""
+    """What the workers are told."""
     paths = library_paths(words)
     options = options_of(words, scratch)
     paths = {library: readable(library, path, scratch) for library, path in paths.items()}
@@ -225,7 +229,9 @@ def plan_of(words, scratch):
         if size > LONGEST_FILE:
             raise Ended(LENGTH, f"{library} is too long: a file has at most {LONGEST_FILE:,} bytes")
     size = sum(size for size, _ in stamps.values())
-    parts = words.parts or max(words.workers, size >> 28)
+    memory = words.memory << 20
+    block = words.block_bytes or min(words.block << 20, part_bytes(memory))
+    parts = words.parts or words.workers * (1 + size // (words.workers * part_bytes(memory)))
     allow_open_files(parts)
     refuse_missing(words.union, words.keys)
     names_notes, names_refused = rehearse(words, options, paths, scratch)
@@ -239,13 +245,30 @@ def plan_of(words, scratch):
         "json": words.json,
         "names_notes": names_notes,
         "names_refused": names_refused,
-        "memory": words.memory << 20,
+        "memory": memory,
         "part_memory": (words.part_memory or words.memory) << 20,
         "victim": words.victim,
-        "block": words.block_bytes or words.block << 20,
-        "shards": max(words.workers, size >> 26),
+        "block": block,
+        "stretches": stretches_of(stamps, block, size),
+        "shares": max(words.workers, size >> 29),
         "parts": parts,
+        "near": 1 + size // (parts * 64),
+        "id_mask": (1 << words.id_bits) - 1 if words.id_bits else -1,
     }
+
+
+def part_bytes(memory):
+    """How large a part is, of whose bytes union takes six to seven times as much memory."""
+    return min(PART, memory // 8) if memory else PART
+
+
+def stretches_of(stamps, block, size):
+    """The stretches of the deliveries, each some blocks long: the number of its library, its beginning and its end."""
+    length = block * (1 + size // (block * MOST_STRETCHES))
+    found = []
+    for number, (whole, _) in enumerate(stamps.values()):
+        found += [(number, start, min(start + length, whole)) for start in range(0, max(whole, 1), length)]
+    return found
 
 
 # ---- the engine
@@ -266,7 +289,7 @@ class Engine:
                 missing = f"no worker has joined within {words.join} s" if self.client else "no scheduler answers"
                 raise Ended(FAULT, f"{missing} at {words.scheduler} ({error}); start it, or name another by --scheduler") from None
             here = os.path.dirname(os.path.realpath(__file__))
-            for name in ("union_ends.py", "union_cluster.py"):
+            for name in ("union_ends.py", "union_merge.py", "union_rows.py", "union_steps.py"):
                 self.client.upload_file(os.path.join(here, name))
         else:
             self.cluster = LocalCluster(
@@ -287,13 +310,14 @@ class Engine:
 
 
 def run_on_engine(words, plan, out, notes, started):
-    import dask
+    for module in ("dask", "numpy", "scipy.sparse", "distributed"):
+        importlib.import_module(module)
     import union_cluster
 
     started.append(Engine(words, plan["scratch"]))
-    union_cluster.told(words.progress, f"the engine's page is {started[0].client.dashboard_link}")
-    with dask.config.set({"dataframe.shuffle.method": "tasks", "dataframe.shuffle.algorithm": "tasks"}):
-        return union_cluster.run(plan, out, notes, words.progress)
+    if words.progress:
+        print(f"union-cluster: the engine's page is {started[0].client.dashboard_link}", file=sys.stderr, flush=True)
+    return union_cluster.run(plan, started[0].client, out, notes, words.progress)
 
 
 def close(started):

@@ -6,6 +6,7 @@ wrong, here or on a worker, becomes one `Ended`.
 
 import ctypes
 import errno
+import itertools
 import os
 import resource
 import signal
@@ -42,7 +43,7 @@ def end_of(error, scratch):
     if errno_of(error) in (errno.EMFILE, errno.ENFILE):
         return Ended(OPEN, "too many files are open: 'ulimit -n' must allow one for each of the --parts, and 100")
     if isinstance(error, ImportError):
-        return Ended(FAULT, f"python3-distributed and python3-pandas must be installed, on each machine of a cluster ({error})")
+        return Ended(FAULT, f"python3-distributed, python3-numpy and python3-scipy must be installed, on each machine of a cluster ({error})")
     if kind in ("CancelledError", "CommClosedError", "FutureCancelledError", "TimeoutError"):
         return Ended(FAULT, "the scheduler has gone away; run it again once it is back")
     return Ended(FAULT, f"the run failed; --progress tells more ({kind}: {error})")
@@ -104,6 +105,16 @@ class Delivery:
         self.file.seek(at)
         data = self.read(size)
         if len(data) < size:
+            raise changed(self.library)
+        return data
+
+    def read_runs(self, places, sizes):
+        """So many bytes from each of some places, all of which were there before."""
+        try:
+            data = b"".join(map(os.pread, itertools.repeat(self.file.fileno()), sizes, places))
+        except OSError as error:
+            raise Ended(READ, f"read failed in {self.library}: {reason(error)}") from None
+        if len(data) < sum(sizes):
             raise changed(self.library)
         return data
 

@@ -23,7 +23,7 @@ options_of() {
     watch) echo "--ask=PATH --workers=N --prefer=LIB,.. --names=PATH" ;;
     follow) echo "--ask=PATH" ;;
     union-explain) echo "--csv" ;;
-    union-keys) echo "--groups=PATH" ;;
+    union-keys) echo "--table --groups=PATH" ;;
   esac
 }
 
@@ -148,6 +148,12 @@ wrong_file_word() {
       return
       ;;
     --csv) [ "$me" != union-explain ] || shift ;;
+    --table)
+      if [ "$me" = union-keys ]; then
+        shift
+        [[ ${1-} != --groups=?* ]] || shift
+      fi
+      ;;
     --groups=?*) [ "$me" != union-keys ] || shift ;;
   esac
   if [ "$me" = union-why ]; then wrong=$(wrong_why "$@"); else wrong=$(wrong_libraries 64 "$@"); fi

@@ -12,7 +12,8 @@ _union_tools() {
   fi
   case ${1##*/}:$COMP_CWORD in
     union-explain:1) options="--csv --help --version" ;;
-    union-keys:1) options="--groups= --help --version" ;;
+    union-keys:1) options="--table --groups= --help --version" ;;
+    union-keys:2) options="--groups=" ;;
     union-why:1) options="--help --version" ;;
     union-overlap:*)
       if [[ $word == -* ]]; then

@@ -3,3 +3,5 @@ mod TakingLaws
 mod GroupLaws
 mod FileLaws
 mod PlacesLaws
+mod RowLaws
+mod TableLaws

@@ -4,3 +4,5 @@ pub mod Readings
 pub mod Lines
 pub mod Groups
 pub mod Requests
+pub mod Tables
+pub mod GroupTables

@@ -62,7 +62,7 @@ fn add_description(
 }
 
 /// Adds a key.
-fn add_key(alloc: Global, text: &mut Vec<u8>, key: &FeatureKey) -> Result<(), AllocError>
+pub(crate) fn add_key(alloc: Global, text: &mut Vec<u8>, key: &FeatureKey) -> Result<(), AllocError>
     ensures { OnOk result (text.new.items ≡ text.old.items ++ key_text key.now) }
 {
     match key {

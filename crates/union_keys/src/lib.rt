@@ -12,6 +12,7 @@
 #![tactic(auto)]
 
 mod frame_cut;
+pub mod group_table;
 pub mod groups;
 mod key_text;
 pub mod laws;
@@ -20,4 +21,5 @@ pub mod reading;
 pub mod request;
 pub mod run;
 pub mod standing;
+pub mod table;
 mod words;

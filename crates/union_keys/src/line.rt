@@ -71,7 +71,7 @@ fn editions_in(alloc: Global, members: &[Standing]) -> Result<Vec<Edition>, Memo
 }
 
 /// What the records resolve to. Returns `Memory` if allocation fails.
-fn resolved(alloc: Global, members: &[Standing]) -> Result<Vec<Edition>, Memory>
+pub(crate) fn resolved(alloc: Global, members: &[Standing]) -> Result<Vec<Edition>, Memory>
     ensures { IfOk result (λ editions. IsOrderedResolution (editions_in members.now)
         editions.items) }
 {

@@ -2,7 +2,7 @@
 ghost use Rattle.std.specs.Prelude.{◌≡◌};
 ghost use Rattle.std.specs.Option.{option_map, option_copied};
 ghost use Rattle.std.specs.declared.option.Option.{Option};
-ghost use Rattle.union_keys.specs.Requests.{request_meaning, alone_of, keys_of, request_of};
+ghost use Rattle.union_keys.specs.Requests.{request_meaning, alone_of, keys_of, numbers_of, table_of, request_of};
 
 use union_base::bytes::Bytes;
 use union_words::libraries::Libraries;
@@ -16,7 +16,7 @@ pub const HELP: &[u8] = b"\
 union-keys - say by which keys records of libraries' files may meet others
 
 USAGE
-    union-keys [--groups=PATH] LIB=PATH ..
+    union-keys [--table] [--groups=PATH] LIB=PATH ..
     union-keys --help         show this help
     union-keys --version      show the program's name and version
 
@@ -40,9 +40,23 @@ WHAT IS WRITTEN
     A record that withdraws another of its id has no edition and no keys. The
     last record of an id is the one that counts.
 
+TABLE
+    --table writes numbers for machines, each of 8 bytes with the least first:
+    how many records there are; a row of 56 bytes for each; and then a row of 24
+    bytes for each key.
+    record       library (16 bytes, its code and zeros), id (16), offset (8),
+                 length (8), and 1 if it loads, 0 if it withdraws (8)
+    key          key (8), number of its record from 0 (8), and 1 for s, 2 for p (8)
+    An id is the MD5 of LIB.CTL. A key is the first 8 bytes of the MD5 of what its
+    column has after s or p.
+
 GROUPS
     PATH has a line LIB.CTL for each record, and an empty line after each group.
     An empty line where no group is begun makes none.
+
+    With --table PATH has numbers of 8 bytes: n is the n-th record, counted from 1,
+    and 0 ends a group. The rows of keys are those of the groups, which are counted
+    from 0. The last record of an id in a group is the one that counts.
 
 STANDARD ERROR
     'LIB refused FRAME RULE PLACE' for each refused record, as union check has
@@ -68,6 +82,8 @@ EXIT STATUS
 pub enum Request<'a> {
     /// `[--groups=PATH] LIB=PATH ..`: tell keys.
     Keys(Option<&'a [u8]>, Libraries<'a>),
+    /// `--table [--groups=PATH] LIB=PATH ..`: tell keys as numbers.
+    Table(Option<&'a [u8]>, Libraries<'a>),
     /// `--help`: tell the forms of words.
     Help,
     /// `--version`: tell the program's name and version.
@@ -87,6 +103,8 @@ impl<'a> Request<'a> {
                     alone(Request::Help, rest)
                 } else if word.bytes() == b"--version".as_slice() {
                     alone(Request::Version, rest)
+                } else if word.bytes() == b"--table".as_slice() {
+                    table(rest)
                 } else {
                     match option_text(b"--groups=", word.bytes()) {
                         Some(path) => keys(Some(path), rest),
@@ -115,6 +133,29 @@ fn keys<'a>(groups: Option<&'a [u8]>, words: &'a [Bytes]) -> Option<Request<'a>>
 {
     match Libraries::read(words) {
         Some(libraries) => Some(Request::Keys(groups, libraries)),
+        None => None,
+    }
+}
+
+/// The table of the libraries that the words after `--table` name.
+fn table<'a>(words: &'a [Bytes]) -> Option<Request<'a>>
+    ensures { option_map request_meaning result ≡ table_of words.now }
+{
+    match words {
+        [] => None,
+        [word, rest @ ..] => match option_text(b"--groups=", word.bytes()) {
+            Some(path) => numbers(Some(path), rest),
+            None => numbers(None, words),
+        },
+    }
+}
+
+/// The table of the libraries that the words name.
+fn numbers<'a>(groups: Option<&'a [u8]>, words: &'a [Bytes]) -> Option<Request<'a>>
+    ensures { option_map request_meaning result ≡ numbers_of (option_copied groups.entry) words.now }
+{
+    match Libraries::read(words) {
+        Some(libraries) => Some(Request::Table(groups, libraries)),
         None => None,
     }
 }

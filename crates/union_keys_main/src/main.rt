@@ -15,10 +15,12 @@ use union_io::file_shelf::FileShelf;
 use union_io::shelf::{OpenFail, Shelf};
 use union_io::sink::{Sink, put_all};
 use union_io::writer_sink::{ErrSink, OutSink};
+use union_keys::group_table::group_table;
 use union_keys::groups::{group_lines, table_of};
 use union_keys::reading::Reading;
 use union_keys::request::{HELP, Request, VERSION};
 use union_keys::run::{each_line, read_files};
+use union_keys::table::table;
 use union_words::libraries::Libraries;
 use union_words::status::Status;
 
@@ -32,6 +34,13 @@ fn main(rt: HostRuntime) -> ExitCode {
         Err(Memory) => End::Status(Status::Memory),
     };
     ExitCode::from(noted(end, &mut notes))
+}
+
+/// What is written of the records.
+#[derive(Clone, Copy)]
+enum Form {
+    Lines,
+    Table,
 }
 
 /// How the run ended.
@@ -100,9 +109,13 @@ fn answer(rt: &HostRuntime, words: &[Bytes], notes: &mut ErrSink) -> End {
         None => End::Status(Status::Usage),
         Some(Request::Help) => End::Status(told(&mut out, HELP)),
         Some(Request::Version) => End::Status(told(&mut out, VERSION)),
-        Some(Request::Keys(None, libraries)) => each(rt, &libraries, &mut out, notes),
+        Some(Request::Keys(None, libraries)) => each(rt, Form::Lines, &libraries, &mut out, notes),
+        Some(Request::Table(None, libraries)) => each(rt, Form::Table, &libraries, &mut out, notes),
         Some(Request::Keys(Some(path), libraries)) => {
-            grouped(rt, path, &libraries, &mut out, notes)
+            grouped(rt, Form::Lines, path, &libraries, &mut out, notes)
+        }
+        Some(Request::Table(Some(path), libraries)) => {
+            grouped(rt, Form::Table, path, &libraries, &mut out, notes)
         }
     }
 }
@@ -134,9 +147,18 @@ fn written(out: &mut OutSink, notes: &mut ErrSink, text: &[u8], tells: [&[u8]; 2
     }
 }
 
-/// Writes a line for each record.
+/// What is written of each record.
+fn text_of_each(alloc: Global, form: Form, reading: &Reading) -> Result<Vec<u8>, Memory> {
+    match form {
+        Form::Lines => each_line(alloc, reading.standings()),
+        Form::Table => table(alloc, reading.standings()),
+    }
+}
+
+/// Writes what is to be written of each record.
 fn each(
     rt: &HostRuntime,
+    form: Form,
     libraries: &Libraries<'_>,
     out: &mut OutSink,
     notes: &mut ErrSink,
@@ -147,7 +169,7 @@ fn each(
     };
     let mut shelf = FileShelf::new(alloc, files);
     End::Status(match read_files(alloc, libraries, &mut shelf) {
-        Ok(reading) => match each_line(alloc, reading.standings()) {
+        Ok(reading) => match text_of_each(alloc, form, &reading) {
             Ok(text) => written(out, notes, text.as_slice(), [reading.notes(), &[]]),
             Err(Memory) => Status::Memory,
         },
@@ -176,9 +198,10 @@ fn groups_in<F: Shelf>(alloc: Global, path: &[u8], shelf: &mut F) -> Result<Vec<
     }
 }
 
-/// Writes a line for each group.
+/// Writes what is to be written of each group.
 fn grouped(
     rt: &HostRuntime,
+    form: Form,
     path: &[u8],
     libraries: &Libraries<'_>,
     out: &mut OutSink,
@@ -194,7 +217,7 @@ fn grouped(
         Err(end) => return end,
     };
     End::Status(match read_files(alloc, libraries, &mut shelf) {
-        Ok(reading) => match lines_and_notes(alloc, reading, groups.as_slice()) {
+        Ok(reading) => match text_and_notes(alloc, form, reading, groups.as_slice()) {
             Ok((text, refused, tells)) => written(
                 out,
                 notes,
@@ -207,13 +230,18 @@ fn grouped(
     })
 }
 
-/// The lines of the groups, the lines on refused records, and what is to be told of groups.
-fn lines_and_notes(
+/// What is written of the groups, the lines on refused records, and what is to be told of groups.
+fn text_and_notes(
     alloc: Global,
+    form: Form,
     reading: Reading,
     groups: &[u8],
 ) -> Result<(Vec<u8>, Vec<u8>, Vec<u8>), Memory> {
     let refused = Vec::from_slice(alloc, reading.notes())?;
+    if let Form::Table = form {
+        let text = group_table(alloc, reading.standings(), groups)?;
+        return Ok((text, refused, Vec::new(alloc)));
+    }
     let table = table_of(alloc, reading.into_standings())?;
     let (text, tells) = group_lines(alloc, &table, groups)?;
     Ok((text, refused, tells))
