@@ -126,16 +126,28 @@ wrong_ids() {
   [ $# -le 2 ] || echo "'$3': at most two IDs are told of"
 }
 
+# The same after --fields.
+wrong_one_id() {
+  local wrong
+  wrong=$(wrong_ids "$@")
+  [ -n "$wrong" ] || [ $# -le 1 ] || wrong="'$2': --fields tells of one ID"
+  echo "$wrong"
+}
+
 # The same for union-why, whose ids stand behind the libraries.
 wrong_why() {
-  local count=0 word wrong
+  local count=0 word wrong ids=wrong_ids
   local LC_ALL=C
+  if [ "${1-}" = --fields ]; then
+    ids=wrong_one_id
+    shift
+  fi
   for word; do
     [[ ! $word =~ ^[A-Z0-9]{1,16}\. ]] || break
     count=$((count + 1))
   done
   wrong=$(wrong_libraries 64 "${@:1:count}")
-  [ -n "$wrong" ] || wrong=$(wrong_ids "${@:count + 1}")
+  [ -n "$wrong" ] || wrong=$("$ids" "${@:count + 1}")
   echo "$wrong"
 }
 

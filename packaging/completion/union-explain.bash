@@ -14,7 +14,7 @@ _union_tools() {
     union-explain:1) options="--csv --help --version" ;;
     union-keys:1) options="--table --groups= --help --version" ;;
     union-keys:2) options="--groups=" ;;
-    union-why:1) options="--help --version" ;;
+    union-why:1) options="--fields --help --version" ;;
     union-overlap:*)
       if [[ $word == -* ]]; then
         options="--csv --help --version"

@@ -13,6 +13,7 @@ use Rattle.edition_derivations.specs.Steps.{holds, IsDerivation, IsEditionOf}
 use Rattle.union_keys.specs.Groups.{Table}
 use Rattle.union_keys.specs.Lines.{editions_in}
 use Rattle.why_texts.specs.Answers.{members, alone_text, answer_text}
+use Rattle.why_texts.specs.Fields.{fields_text}
 
 -- what the last records of their ids load, in descending order of the ids
 abbrev pub records_in : Table → List Edition
@@ -26,6 +27,13 @@ pub record TellsOne (records : List Edition) (id : RecordId) (text : List ℕ) :
   pub has : IsTrue (holds edition id)
   pub derived : IsDerivation records steps edition
   pub told : text ≡ alone_text id edition (members records edition) steps
+
+-- the fields of one of the editions to which the records resolve, which has the record, are told by the records that match it
+pub record TellsFields (records : List Edition) (id : RecordId) (text : List ℕ) : Type 0 where
+  pub edition : Edition
+  pub of : IsEditionOf records edition
+  pub has : IsTrue (holds edition id)
+  pub told : text ≡ fields_text id edition (members records edition)
 
 -- the two are told by the editions to which the records resolve
 pub record TellsTwo (records : List Edition) (one other : RecordId) (text : List ℕ) : Type 0 where

@@ -5,17 +5,19 @@ use Rattle.union_base.specs.LibraryCodes.{is_library_code}
 use Rattle.union_words.specs.Meanings.{libraries_meaning}
 use Rattle.union_words.specs.Words.{LibraryFile, is_text, are_libraries, libraries_of}
 use Rattle.union_why.specs.declared.request.Request.{Request as RequestInPlace}
-use Rattle.union_why.specs.declared.request.Request.TheVariants.{Why as WhyInPlace, Help as HelpInPlace, Version as VersionInPlace}
+use Rattle.union_why.specs.declared.request.Request.TheVariants.{Why as WhyInPlace, Fields as FieldsInPlace, Help as HelpInPlace, Version as VersionInPlace}
 
 -- what the words ask for
 pub data Request : Type 0 where
   Why : (libraries : List LibraryFile) (ids : List (List ℕ)) → Request
+  Fields : (libraries : List LibraryFile) (ids : List (List ℕ)) → Request
   Help : Request
   Version : Request
 
 -- what the code's request stands for
 abbrev pub request_meaning : RequestInPlace → Request
 request_meaning (WhyInPlace libraries ids) = Why (libraries_meaning libraries) ids.now
+request_meaning (FieldsInPlace libraries ids) = Fields (libraries_meaning libraries) ids.now
 request_meaning HelpInPlace = Help
 request_meaning VersionInPlace = Version
 
@@ -31,11 +33,22 @@ library_count words = position_or_len is_id_word words
 abbrev pub are_ids : List (List ℕ) → Bool
 are_ids words = nat_le 1 (length words) && nat_le (length words) 2 && list_all is_id_word words
 
+-- one id
+abbrev pub is_one_id : List (List ℕ) → Bool
+is_one_id words = (length words == 1) && list_all is_id_word words
+
 -- one to 64 words `LIB=PATH`, no library twice, and then one or two ids
 abbrev pub why_of : List (List ℕ) → Option Request
 why_of words =
     (if are_ids (drop (library_count words) words) && are_libraries (take (library_count words) words)
     then Some (Why (libraries_of (take (library_count words) words)) (drop (library_count words) words))
+    else None)
+
+-- after `--fields`: one to 64 words `LIB=PATH`, no library twice, and then one id
+abbrev pub fields_of : List (List ℕ) → Option Request
+fields_of words =
+    (if is_one_id (drop (library_count words) words) && are_libraries (take (library_count words) words)
+    then Some (Fields (libraries_of (take (library_count words) words)) (drop (library_count words) words))
     else None)
 
 -- a word that stands alone
@@ -49,4 +62,5 @@ request_of [] = None
 request_of (word ∷ rest) =
     (if is_text word (codes "--help") then alone_of Help rest
     else (if is_text word (codes "--version") then alone_of Version rest
-    else why_of (word ∷ rest)))
+    else (if is_text word (codes "--fields") then fields_of rest
+    else why_of (word ∷ rest))))

@@ -1,7 +1,7 @@
 //! The current records, and what is told of them.
 ghost use Rattle.std.specs.Prelude.{◌≡◌, ◌++◌, IfOk, IfSome, OnOk};
 ghost use Rattle.std.specs.Option.{option_to_list};
-ghost use Rattle.union_why.specs.Records.{records_in, TellsOne, TellsTwo};
+ghost use Rattle.union_why.specs.Records.{records_in, TellsOne, TellsFields, TellsTwo};
 
 use catalogue_editions::edition::Edition;
 use edition_derivations::asking::answer_of;
@@ -16,6 +16,7 @@ use union_base::memory::Memory;
 use union_base::record_id::RecordId;
 use union_keys::standing::Standing;
 use why_texts::answers::{add_alone, add_answer};
+use why_texts::fields::add_fields;
 use why_texts::steps::Told;
 
 /// Pushes what the record loads. Returns `Memory` if allocation fails.
@@ -85,6 +86,31 @@ pub fn tell_one<Rt: Threads + Sync>(
             };
             let mut text = Vec::new(alloc);
             add_alone(alloc, &mut text, id, edition, &told)?;
+            Ok(Some(text))
+        }
+    }
+}
+
+/// What is told of the fields of a record's edition: None where no record has the id.
+///
+/// Returns `Memory` if allocation fails.
+pub fn tell_fields<Rt: Threads + Sync>(
+    rt: &Rt,
+    hashing: Hashing,
+    alloc: Global,
+    records: &[Edition],
+    id: &RecordId,
+) -> Result<Option<Vec<u8>>, Memory>
+    ensures { IfOk result (λ told. IfSome told (λ text.
+        TellsFields records.now id.now text.items)) }
+{
+    let editions = resolve_halves(rt, hashing, shared_each(alloc, records)?, 1)?;
+    match holder(editions.as_slice(), id) {
+        None => Ok(None),
+        Some(edition) => {
+            let members = members_of(alloc, records, edition)?;
+            let mut text = Vec::new(alloc);
+            add_fields(alloc, &mut text, id, edition, members.as_slice())?;
             Ok(Some(text))
         }
     }

@@ -3,7 +3,8 @@ ghost use Rattle.std.specs.Prelude.{◌≡◌, ◌≤◌, IfOk, length, position
 ghost use Rattle.std.specs.List.{list_all};
 ghost use Rattle.std.specs.Option.{option_map};
 ghost use Rattle.union_keys.specs.Groups.{id_in};
-ghost use Rattle.union_why.specs.Requests.{request_meaning, alone_of, why_of, request_of, is_id_word, are_ids, library_count};
+ghost use Rattle.union_why.specs.Requests.{request_meaning, alone_of, why_of, fields_of, request_of};
+ghost use Rattle.union_why.specs.Requests.{is_id_word, are_ids, is_one_id, library_count};
 
 use crate::words::{after, before};
 use std::alloc::Global;
@@ -22,6 +23,7 @@ union-why - say why records are one edition, and why they are not
 
 USAGE
     union-why LIB=PATH .. ID [ID]
+    union-why --fields LIB=PATH .. ID
     union-why --help          show this help
     union-why --version       show the program's name and version
 
@@ -48,6 +50,13 @@ WHAT IS WRITTEN
 
     Of two records of two editions: for each kind of feature whether the two
     editions have a value in common, and which; else what each has.
+
+    With --fields, of one record: each field of its edition's record, as union
+    export shows it, with the records that have it. Of a field that is shown
+    once, whose it is, and each other record that has such a field, with why its
+    own is not shown: 'before LIBB.b1 by encoding level'. That may be 'encoding
+    level', 'date of 005' or 'id'. 001, 003, 991 and 993 are left out, since
+    union makes them.
 
     The rules: a control number with its source, a type and an ISBN, a type and
     an ISSN, or a type that is no serial's, a title, a date and a name. A type
@@ -79,6 +88,8 @@ COST
 pub enum Request<'a> {
     /// `LIB=PATH .. ID [ID]`: tell of one or two records.
     Why(Libraries<'a>, &'a [Bytes]),
+    /// `--fields LIB=PATH .. ID`: tell where the fields of one record's edition come from.
+    Fields(Libraries<'a>, &'a [Bytes]),
     /// `--help`: tell the forms of words.
     Help,
     /// `--version`: tell the program's name and version.
@@ -98,6 +109,8 @@ impl<'a> Request<'a> {
                     alone(Request::Help, rest)
                 } else if word.bytes() == b"--version".as_slice() {
                     alone(Request::Version, rest)
+                } else if word.bytes() == b"--fields".as_slice() {
+                    fields(rest)
                 } else {
                     why(words)
                 }
@@ -164,6 +177,27 @@ fn why<'a>(words: &'a [Bytes]) -> Option<Request<'a>>
     }
     match Libraries::read(front) {
         Some(libraries) => Some(Request::Why(libraries, ids)),
+        None => None,
+    }
+}
+
+/// Whether the words are one id.
+fn is_one_id(words: &[Bytes]) -> bool
+    ensures { result ≡ is_one_id words.now }
+{
+    words.len() == 1 && are_id_words(words)
+}
+
+/// The libraries and the one id that the words name.
+fn fields<'a>(words: &'a [Bytes]) -> Option<Request<'a>>
+    ensures { option_map request_meaning result ≡ fields_of words.now }
+{
+    let (front, ids) = words.split_at(library_count(words));
+    if !is_one_id(ids) {
+        return None;
+    }
+    match Libraries::read(front) {
+        Some(libraries) => Some(Request::Fields(libraries, ids)),
         None => None,
     }
 }

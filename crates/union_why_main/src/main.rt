@@ -20,8 +20,9 @@ use union_keys::groups::table_of;
 use union_keys::run::read_files;
 use union_keys::standing::Standing;
 use union_why::fates::add_fate;
-use union_why::records::{records_in, tell_one, tell_two};
+use union_why::records::{records_in, tell_fields, tell_one, tell_two};
 use union_why::request::{HELP, Request, VERSION, id_in};
+use union_words::libraries::Libraries;
 use union_words::status::Status;
 
 /// A word in no form that the program has. It stands for words that are no UTF-8.
@@ -88,13 +89,47 @@ fn answer<Rt: Threads + Sync, F: Shelf, O: Sink>(
         None => Status::Usage,
         Some(Request::Help) => told(out, HELP),
         Some(Request::Version) => told(out, VERSION),
-        Some(Request::Why(libraries, ids)) => match read_files(alloc, &libraries, shelf) {
-            Ok(reading) => match tell(rt, hashing, alloc, reading.into_standings(), ids) {
-                Ok(telling) => written(out, &telling),
-                Err(Memory) => Status::Memory,
-            },
-            Err(status) => status,
+        Some(Request::Why(libraries, ids)) => {
+            let asked = Asked {
+                libraries,
+                ids,
+                of_fields: false,
+            };
+            tell_files(rt, hashing, alloc, &asked, shelf, out)
+        }
+        Some(Request::Fields(libraries, ids)) => {
+            let asked = Asked {
+                libraries,
+                ids,
+                of_fields: true,
+            };
+            tell_files(rt, hashing, alloc, &asked, shelf, out)
+        }
+    }
+}
+
+/// The libraries, the ids that are asked for, and whether the fields of their edition are.
+struct Asked<'a> {
+    libraries: Libraries<'a>,
+    ids: &'a [Bytes],
+    of_fields: bool,
+}
+
+/// Reads the libraries' files, and tells what is asked.
+fn tell_files<Rt: Threads + Sync, F: Shelf, O: Sink>(
+    rt: &Rt,
+    hashing: Hashing,
+    alloc: Global,
+    asked: &Asked<'_>,
+    shelf: &mut F,
+    out: &mut O,
+) -> Status {
+    match read_files(alloc, &asked.libraries, shelf) {
+        Ok(reading) => match tell(rt, hashing, alloc, reading.into_standings(), asked) {
+            Ok(telling) => written(out, &telling),
+            Err(Memory) => Status::Memory,
         },
+        Err(status) => status,
     }
 }
 
@@ -133,9 +168,9 @@ fn tell<Rt: Threads + Sync>(
     hashing: Hashing,
     alloc: Global,
     standings: Vec<Standing>,
-    words: &[Bytes],
+    asked: &Asked<'_>,
 ) -> Result<Telling, Memory> {
-    let ids = ids_of(alloc, words)?;
+    let ids = ids_of(alloc, asked.ids)?;
     let table = table_of(alloc, standings)?;
     let fates = fates_of(alloc, &table, ids.as_slice())?;
     if !fates.is_empty() {
@@ -148,6 +183,9 @@ fn tell<Rt: Threads + Sync>(
     let told = match ids.as_slice() {
         [one, other] if one != other => {
             tell_two(rt, hashing, alloc, records.as_slice(), one, other)?
+        }
+        [one, ..] if asked.of_fields => {
+            tell_fields(rt, hashing, alloc, records.as_slice(), one)?
         }
         [one, ..] => tell_one(rt, hashing, alloc, records.as_slice(), one)?,
         [] => None,

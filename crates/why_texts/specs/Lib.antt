@@ -5,3 +5,4 @@ pub mod Sources
 pub mod Steps
 pub mod Differences
 pub mod Answers
+pub mod Fields

@@ -14,7 +14,7 @@ use union_base::memory::Memory;
 use union_base::record_id::RecordId;
 
 /// Adds how many records the edition has.
-fn add_size(text: &mut Vec<u8>, edition: &Edition) -> Result<(), AllocError>
+pub(crate) fn add_size(text: &mut Vec<u8>, edition: &Edition) -> Result<(), AllocError>
     ensures { OnOk result (text.new.items ≡ text.old.items ++ size_text edition.now) }
 {
     add_count(text, edition.contributors().as_slice().len())

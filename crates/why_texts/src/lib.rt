@@ -11,6 +11,7 @@
 pub mod answers;
 pub mod differences;
 pub mod field_texts;
+pub mod fields;
 pub mod ids;
 pub mod numbers;
 pub mod reasons;
