@@ -5,9 +5,9 @@ use Rattle.std.specs.Option.{option_map_or}
 use Rattle.union_base.specs.Bodies.{Subfield, Body, Control, Data}
 use Rattle.union_base.specs.declared.field.Field.{Field}
 use Rattle.marc_parts.specs.declared.marc_record.Record.{Record}
-use Rattle.marc_parts.specs.Loads.{is_utf8_field}
+use Rattle.marc_parts.specs.Loads.{is_plain, is_utf8_field}
 use Rattle.marc_parts.specs.Parts.{has_tag}
-use Rattle.naco_normal.specs.Words.{is_empty}
+use Rattle.naco_normal.specs.Words.{where_not_empty}
 use Rattle.workset_keys.specs.Names.{name_of}
 use Rattle.authority_names.specs.Names.{Authority, authority}
 use Rattle.authority_names.specs.declared.refusal.NameRefusal.{NameRefusal}
@@ -16,10 +16,6 @@ use Rattle.authority_names.specs.declared.refusal.NameRefusal.TheVariants.{Kind,
 -- authority data (leader/06)
 abbrev pub is_authority : ℕ → Bool
 is_authority kind = kind == 0x7A
-
--- what a blank coding leaves of MARC-8: ASCII without the escape
-abbrev pub is_plain : List ℕ → Bool
-is_plain text = list_all (λ b. nat_le b 0x7F && not (b == 0x1B)) text
 
 -- the same of a subfield's text
 abbrev pub is_plain_subfield : Subfield → Bool
@@ -51,10 +47,6 @@ is_see_from f = has_tag (codes "400") f || (has_tag (codes "410") f || has_tag (
 abbrev pub established_in : List Field → List ℕ
 established_in fields =
     if count_by is_heading fields == 1 then option_map_or name_of (find is_heading fields) [] else []
-
--- the name, where it is not empty
-abbrev pub where_not_empty : List ℕ → List (List ℕ)
-where_not_empty name = if is_empty name then [] else name ∷ []
 
 -- the name in a field 400, 410 or 411, where it is not empty
 abbrev pub variant_in : Field → List (List ℕ)

@@ -1,7 +1,8 @@
 //! What an authority record gives, and why it is refused.
 ghost use Rattle.std.specs.Prelude.{◌≡◌, ◌++◌, All, IfOk, OnOk, None, count_by, find, option_copied};
 ghost use Rattle.workset_keys.specs.Names.{HasTexts};
-ghost use Rattle.authority_names.specs.Records.{is_heading, is_see_from, is_coded, where_not_empty, variant_in, established_in, variants_in, heading_refusal, refusal_of, AnswersNames};
+ghost use Rattle.authority_names.specs.Records.{is_heading, is_see_from, is_coded, variant_in, established_in, variants_in, heading_refusal, refusal_of, AnswersNames};
+ghost use Rattle.naco_normal.specs.Words.{where_not_empty};
 
 use crate::refusal::NameRefusal;
 use crate::texts::{are_plain, are_utf8};

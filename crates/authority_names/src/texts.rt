@@ -3,7 +3,8 @@ ghost use Rattle.std.specs.Prelude.{◌≡◌};
 ghost use Rattle.std.specs.List.{list_all};
 ghost use Rattle.std.specs.Str.{is_utf8};
 ghost use Rattle.marc_parts.specs.Loads.{is_utf8_subfield, is_utf8_field};
-ghost use Rattle.authority_names.specs.Records.{is_plain, is_plain_subfield, is_plain_field};
+ghost use Rattle.authority_names.specs.Records.{is_plain_subfield, is_plain_field};
+ghost use Rattle.marc_parts.specs.Loads.{is_plain};
 
 use union_base::body::Parts;
 use union_base::field::Field;

@@ -9,7 +9,7 @@ use Rattle.merge_laws.specs.Resolution.{DoNotMatch}
 use Rattle.merge_laws.proofs.Places.{Contains-head, Contains-tail, AllPairs-first, AllPairs-rest}
 use Rattle.merge_laws.proofs.Resolutions.{apart-from_resolution}
 use Rattle.match_features.proofs.MemberLaws.{member-from_has}
-use Rattle.field_merge.specs.Kept.{id_cmp}
+use Rattle.union_base.specs.RecordIds.{id_cmp}
 use Rattle.field_merge.specs.KeptLaws.{id_total}
 use Rattle.catalogue_editions.specs.JoinLaws.{edition_join_laws}
 use Rattle.catalogue_editions.specs.Matching.{match}

@@ -6,13 +6,14 @@ use Rattle.std.specs.List.Sorted.{IsStrictlySortedBy}
 use Rattle.std.specs.Map.{keys_of}
 use Rattle.union_base.specs.SortedLists.{has}
 use Rattle.union_base.specs.declared.record_id.RecordId.{RecordId}
-use Rattle.field_merge.specs.Kept.{id_cmp}
+use Rattle.union_base.specs.RecordIds.{id_cmp}
 use Rattle.merge_laws.proofs.Places.{Contains-cases}
 use Rattle.record_homes.specs.Moves.{housed}
 use Rattle.record_homes.specs.declared.home.Home.{Home}
 use Rattle.record_homes.proofs.HomeLaws.{at-housed, ordered-housed}
 use Rattle.turn_plans.specs.Histories.{MapOf, at_id}
-use Rattle.turn_plans.specs.Homes.{Block, has_contributor}
+use Rattle.turn_plans.specs.Homes.{Block}
+use Rattle.catalogue_editions.specs.Ids.{has_contributor}
 use Rattle.catalogue_core.specs.Housing.{housed_all}
 
 pub ordered-housed_all : (opened : List Block) (numbers : List ℕ) (homes : MapOf Home) → IsStrictlySortedBy id_cmp (keys_of homes) → IsStrictlySortedBy id_cmp (keys_of (housed_all homes opened numbers))

@@ -16,7 +16,7 @@ use Rattle.merge_laws.specs.Resolution.{IsResolution, AreApart}
 use Rattle.merge_laws.proofs.Places.{Contains-head, Contains-tail, Contains-cases}
 use Rattle.merge_laws.proofs.Resolutions.{apart-from_resolution, IsResolution-permutation}
 use Rattle.match_features.proofs.MemberLaws.{member-from_has}
-use Rattle.field_merge.specs.Kept.{id_cmp}
+use Rattle.union_base.specs.RecordIds.{id_cmp}
 use Rattle.field_merge.specs.KeptLaws.{id_total}
 use Rattle.swoosh_resolver.specs.Changes.{AreNumbers, AreOpened, Fits, view_of, without}
 use Rattle.swoosh_resolver.specs.Tables.{block_at, blocks_in, values_of}
@@ -29,7 +29,8 @@ use Rattle.authority_names.specs.Leads.{Table}
 use Rattle.edition_blocks.specs.ClosedKeys.{closed_pairs}
 use Rattle.edition_blocks.specs.Grouping.{WorkList, KeptWorks}
 use Rattle.turn_plans.specs.Histories.{MapOf, at_id, is_current, after_batch, bases, current}
-use Rattle.turn_plans.specs.Homes.{Block, has_contributor, places_in}
+use Rattle.turn_plans.specs.Homes.{Block, places_in}
+use Rattle.catalogue_editions.specs.Ids.{has_contributor}
 use Rattle.record_homes.specs.Moves.{place_of, admitted, others, moved}
 use Rattle.catalogue_core.specs.Housing.{housed_all, AreStillHoused}
 use Rattle.catalogue_editions.specs.Ids.{least}

@@ -18,7 +18,7 @@ use Rattle.union_base.specs.IdLaws.{ids_apart}
 use Rattle.merge_laws.proofs.Places.{Contains-head, Contains-tail, Contains-cases, All-from_members, IsPermutation-from_members, AllPairs-none, same-from_related}
 use Rattle.merge_laws.proofs.Resolutions.{apart-from_resolution, once-in_resolution, IsResolution-permutation, IsResolution-from_apart}
 use Rattle.match_features.proofs.MemberLaws.{member-from_has, has-from_member}
-use Rattle.field_merge.specs.Kept.{id_cmp}
+use Rattle.union_base.specs.RecordIds.{id_cmp}
 use Rattle.field_merge.specs.KeptLaws.{id_total}
 use Rattle.swoosh_resolver.specs.Tables.{block_at, blocks_in, values_of}
 use Rattle.swoosh_resolver.proofs.Places.{number-from_block}
@@ -28,7 +28,8 @@ use Rattle.record_editions.specs.EditionKeys.{work_key_by, work_pairs}
 use Rattle.authority_names.specs.Leads.{Table}
 use Rattle.edition_blocks.specs.Grouping.{WorkList, KeptWorks}
 use Rattle.turn_plans.specs.Histories.{MapOf, at_id, is_current, bases, current, AreEditionsOf}
-use Rattle.turn_plans.specs.Homes.{Block, has_contributor, places_in}
+use Rattle.turn_plans.specs.Homes.{Block, places_in}
+use Rattle.catalogue_editions.specs.Ids.{has_contributor}
 use Rattle.catalogue_core.proofs.Naming.{named, named_in}
 use Rattle.catalogue_editions.specs.Ids.{least, edition_cmp}
 use Rattle.catalogue_editions.specs.JoinLaws.{edition_join_laws}

@@ -9,7 +9,7 @@ use Rattle.union_base.specs.declared.record_id.RecordId.{RecordId}
 use Rattle.merge_laws.specs.Reach.{reach}
 use Rattle.merge_laws.specs.Resolution.{member, IsResolution}
 use Rattle.merge_laws.proofs.Places.{Contains-head}
-use Rattle.field_merge.specs.Kept.{id_cmp}
+use Rattle.union_base.specs.RecordIds.{id_cmp}
 use Rattle.catalogue_editions.specs.Batches.{is_own_op}
 use Rattle.catalogue_editions.specs.Ids.{least}
 use Rattle.catalogue_editions.specs.Joining.{join}

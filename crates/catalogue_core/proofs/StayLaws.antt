@@ -9,7 +9,7 @@ use Rattle.union_base.specs.declared.record_id.RecordId.{RecordId}
 use Rattle.merge_laws.specs.Resolution.{AreApart, DoNotMatch}
 use Rattle.merge_laws.proofs.Places.{Contains-head, Contains-tail, AllPairs-first, AllPairs-rest}
 use Rattle.match_features.proofs.MemberLaws.{member-from_has}
-use Rattle.field_merge.specs.Kept.{id_cmp}
+use Rattle.union_base.specs.RecordIds.{id_cmp}
 use Rattle.field_merge.specs.KeptLaws.{id_total}
 use Rattle.swoosh_resolver.specs.Tables.{block_at, values_of}
 use Rattle.record_homes.specs.Moves.{housed, StayAt}
@@ -20,7 +20,8 @@ use Rattle.catalogue_editions.specs.declared.edition.Edition.{Edition}
 use Rattle.catalogue_editions.proofs.Apart.{match-from_contributor}
 use Rattle.edition_blocks.proofs.BlockLaws.{value-in}
 use Rattle.turn_plans.specs.Histories.{MapOf, at_id}
-use Rattle.turn_plans.specs.Homes.{Block, has_contributor}
+use Rattle.turn_plans.specs.Homes.{Block}
+use Rattle.catalogue_editions.specs.Ids.{has_contributor}
 use Rattle.catalogue_core.specs.Housing.{housed_all, contributors_at, AreStillHoused}
 use Rattle.turn_plans.proofs.Housing.{false-from_never}
 

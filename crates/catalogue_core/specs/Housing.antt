@@ -4,7 +4,8 @@ use Rattle.std.specs.Option.{option_map}
 use Rattle.union_base.specs.declared.record_id.RecordId.{RecordId}
 use Rattle.swoosh_resolver.specs.Tables.{block_at}
 use Rattle.turn_plans.specs.Histories.{MapOf, at_id}
-use Rattle.turn_plans.specs.Homes.{Block, has_contributor}
+use Rattle.turn_plans.specs.Homes.{Block}
+use Rattle.catalogue_editions.specs.Ids.{has_contributor}
 use Rattle.record_homes.specs.Moves.{housed}
 use Rattle.record_homes.specs.declared.home.Home.{Home}
 

@@ -2,7 +2,7 @@
 use Rattle.std.specs.Prelude.{List, Option, find}
 use Rattle.union_base.specs.declared.record_id.RecordId.{RecordId}
 use Rattle.union_base.specs.SortedLists.{has}
-use Rattle.field_merge.specs.Kept.{id_cmp}
+use Rattle.union_base.specs.RecordIds.{id_cmp}
 use Rattle.catalogue_editions.specs.declared.edition.Edition.{Edition}
 
 -- the one that has that contributor

@@ -21,7 +21,7 @@ use Rattle.match_features.specs.Kept.{pairs_cmp}
 use Rattle.match_features.specs.KeptLaws.{pairs_total, pairs_tie}
 use Rattle.match_features.specs.Meeting.{meet_by_isbn, meet_by_issn, meet_by_title}
 use Rattle.match_features.proofs.MemberLaws.{member-from_has, common-from_member, or_left}
-use Rattle.field_merge.specs.Kept.{id_cmp}
+use Rattle.union_base.specs.RecordIds.{id_cmp}
 use Rattle.field_merge.specs.KeptLaws.{id_total}
 use Rattle.catalogue_editions.specs.Linked.{own_pair}
 use Rattle.catalogue_editions.specs.Ids.{first_id, least, edition_cmp}

@@ -1,9 +1,10 @@
 -- The editions of current records under their ids, and what the operations of a batch make of them.
+pub use Rattle.union_base.specs.RecordIds.{MapOf, at_id}
 use Rattle.std.specs.Prelude.{ℕ, Bool, is_some, if◌then◌else◌, List, [], ◌∷◌, fold, Option}
 use Rattle.std.specs.BTreeMap.{is_at, insert_entry}
 use Rattle.std.specs.Map.{lookup, remove_entry}
+use Rattle.union_base.specs.RecordIds.{id_cmp}
 use Rattle.union_base.specs.declared.record_id.RecordId.{RecordId}
-use Rattle.field_merge.specs.Kept.{id_cmp}
 use Rattle.catalogue_editions.specs.Ids.{least}
 use Rattle.catalogue_editions.specs.declared.edition.Edition.{Edition}
 use Rattle.catalogue_editions.specs.declared.op.Op.{Op}
@@ -11,14 +12,6 @@ use Rattle.catalogue_editions.specs.declared.op.Op.TheVariants.{Load, Withdraw}
 use Rattle.catalogue_editions.specs.declared.batch.Batch.{Batch}
 use Rattle.catalogue_editions.specs.declared.outcome.Outcome.{Outcome}
 use Rattle.catalogue_editions.specs.declared.outcome.Outcome.TheVariants.{Added, Replaced, Removed, Absent}
-
--- a finite map from ids: its pairs in the order of the ids
-abbrev pub MapOf : Type 0 → Type 0
-MapOf X = List (RecordId × X)
-
--- the value under the id
-abbrev pub at_id : {X : Type 0} → MapOf X → RecordId → Option X
-at_id all id = lookup (is_at (id_cmp id)) all
 
 -- whether the id has a value
 abbrev pub is_current : {X : Type 0} → MapOf X → RecordId → Bool

@@ -9,7 +9,7 @@ use Rattle.union_base.specs.declared.record_id.RecordId.{RecordId}
 use Rattle.match_features.specs.Kept.{pairs_cmp}
 use Rattle.match_features.specs.KeptLaws.{pairs_total}
 use Rattle.match_features.proofs.MemberLaws.{or_left, or_right}
-use Rattle.field_merge.specs.Kept.{id_cmp}
+use Rattle.union_base.specs.RecordIds.{id_cmp}
 use Rattle.catalogue_editions.specs.Linked.{own_pair, are_linked}
 use Rattle.catalogue_editions.specs.ListLaws.{all-union, all-weaker}
 

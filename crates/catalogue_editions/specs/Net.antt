@@ -2,7 +2,7 @@
 use Rattle.std.specs.Prelude.{Bool, true, List, [], Option, None, Some}
 use Rattle.std.specs.Ordering.{is_gt}
 use Rattle.std.specs.Map.{values_of}
-use Rattle.field_merge.specs.Kept.{id_cmp}
+use Rattle.union_base.specs.RecordIds.{id_cmp}
 use Rattle.catalogue_editions.specs.CurrentRecords.{after_batch}
 use Rattle.catalogue_editions.specs.Ids.{least}
 use Rattle.catalogue_editions.specs.declared.batch.Batch.{Batch}

@@ -7,7 +7,7 @@ use Rattle.union_base.specs.Both.{both_true, true_both}
 use Rattle.union_base.specs.FieldOrder.{field_cmp}
 use Rattle.marc_parts.specs.Parts.{has_tag}
 use Rattle.field_merge.specs.Contents.{is_main_entry, is_united}
-use Rattle.field_merge.specs.Kept.{id_cmp}
+use Rattle.union_base.specs.RecordIds.{id_cmp}
 use Rattle.field_merge.specs.Orders.{slot_cmp, fixed_cmp}
 use Rattle.field_merge.specs.Merging.{join}
 use Rattle.field_merge.specs.declared.content.Content.{Content}

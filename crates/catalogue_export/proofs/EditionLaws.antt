@@ -9,7 +9,7 @@ use Rattle.union_base.specs.SortedLists.{is_ascending}
 use Rattle.union_base.specs.FieldOrder.{field_cmp}
 use Rattle.union_base.specs.declared.record_id.RecordId.{RecordId}
 use Rattle.marc_parts.specs.Loads.{is_utf8_field}
-use Rattle.field_merge.specs.Kept.{id_cmp}
+use Rattle.union_base.specs.RecordIds.{id_cmp}
 use Rattle.authority_names.specs.Leads.{Table, AreTexts}
 use Rattle.record_editions.proofs.KeyTexts.{key-work_key}
 use Rattle.catalogue_core.specs.Ids.{first_id, least}

@@ -6,7 +6,8 @@ use Rattle.union_base.specs.FieldOrder.{field_cmp}
 use Rattle.union_base.specs.SortedLists.{is_ascending, set_of}
 use Rattle.union_base.specs.declared.field.Field.{Field}
 use Rattle.union_base.proofs.SortedListLaws.{is_ascending-union}
-use Rattle.field_merge.specs.Kept.{id_cmp, are_kept}
+use Rattle.field_merge.specs.Kept.{are_kept}
+use Rattle.union_base.specs.RecordIds.{id_cmp}
 use Rattle.field_merge.specs.KeptLaws.{field_total}
 use Rattle.field_merge.specs.declared.content.Content.{Content}
 

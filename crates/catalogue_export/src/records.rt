@@ -8,7 +8,7 @@ ghost use Rattle.std.specs.BTreeMap.{is_at};
 ghost use Rattle.std.specs.Map.{keys_of};
 ghost use Rattle.std.specs.Option.{option_and_then, option_copied};
 ghost use Rattle.union_base.specs.declared.record_id.RecordId.{RecordId as RecordModel};
-ghost use Rattle.field_merge.specs.Kept.{id_cmp};
+ghost use Rattle.union_base.specs.RecordIds.{id_cmp};
 ghost use Rattle.turn_plans.specs.Histories.{at_id, after_batch, current, id_of, MapOf};
 ghost use Rattle.turn_plans.specs.Keeping.{batches, loaded, loaded_at};
 ghost use Rattle.catalogue_editions.specs.declared.batch.Batch.{Batch as BatchModel};

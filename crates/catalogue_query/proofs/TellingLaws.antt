@@ -11,7 +11,7 @@ use Rattle.catalogue_core.specs.Walks.{holder_of}
 use Rattle.catalogue_editions.specs.declared.edition.Edition.{Edition}
 use Rattle.catalogue_editions.specs.declared.history_entry.HistoryEntry.{HistoryEntry}
 use Rattle.catalogue_core.proofs.Holders.{one-holder}
-use Rattle.catalogue_query.specs.Answers.{has_contributor}
+use Rattle.catalogue_editions.specs.Ids.{has_contributor}
 
 -- what is told of the one that is found
 told-found : {X A : Type 0} (f : X → List A) (found : Option X) → option_map_or f found [] ≡ flat_map f (option_to_list found)

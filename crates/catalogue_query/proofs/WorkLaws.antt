@@ -10,7 +10,8 @@ use Rattle.union_base.specs.IdLaws.{ids_apart}
 use Rattle.union_base.specs.SortedLists.{is_ascending, set_of}
 use Rattle.union_base.specs.declared.record_id.RecordId.{RecordId}
 use Rattle.union_base.proofs.SortedListLaws.{same_ascending, is_ascending-union}
-use Rattle.work_clusters.specs.Works.{key_cmp, id_cmp, is_key, works_of, ids_under}
+use Rattle.work_clusters.specs.Works.{key_cmp, is_key, works_of, ids_under}
+use Rattle.union_base.specs.RecordIds.{id_cmp}
 use Rattle.work_clusters.proofs.WorksLaws.{key_total, id_total, has-set_of, ids_under-works_of, keys_of-works_of}
 use Rattle.catalogue_core.specs.Ids.{least, edition_cmp}
 use Rattle.catalogue_core.specs.EditionKeys.{work_key_by, work_pairs}

@@ -7,12 +7,13 @@ use Rattle.std.specs.Map.{values_of}
 use Rattle.union_base.specs.SortedLists.{has, set_of}
 use Rattle.union_base.specs.declared.record_id.RecordId.{RecordId}
 use Rattle.match_features.specs.Kept.{texts_cmp}
-use Rattle.field_merge.specs.Kept.{id_cmp}
+use Rattle.union_base.specs.RecordIds.{id_cmp}
 use Rattle.holdings_book.specs.Holdings.{holdings_of}
 use Rattle.catalogue_core.specs.Ids.{least}
 use Rattle.catalogue_core.specs.EditionKeys.{work_key_by}
 use Rattle.authority_names.specs.Leads.{Table}
 use Rattle.catalogue_core.specs.Histories.{MapOf, at_id}
+use Rattle.catalogue_editions.specs.Ids.{has_contributor}
 use Rattle.catalogue_editions.specs.declared.edition.Edition.{Edition}
 use Rattle.catalogue_query.specs.Lines.{edition_line, by_line, work_line, hold_line, count_line}
 use Rattle.catalogue_query.specs.Queries.{is_text}
@@ -26,10 +27,6 @@ stands_in text texts = list_any (λ held. is_text held text) texts
 -- the pair of the two texts stands among the pairs
 abbrev pub pair_stands_in : List ℕ → List ℕ → List (List ℕ × List ℕ) → Bool
 pair_stands_in source number pairs = list_any (λ pair. is_text pair.0 source && is_text pair.1 number) pairs
-
--- the edition has the record as a contributor
-abbrev pub has_contributor : RecordId → Edition → Bool
-has_contributor id e = has id_cmp e.content.contributors id
 
 -- the edition is one that the query asks for
 abbrev pub is_asked : Table → Query → Edition → Bool

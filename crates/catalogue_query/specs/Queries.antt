@@ -6,7 +6,7 @@ use Rattle.std.specs.Cmp.Lexicographic.{pointwise}
 use Rattle.std.specs.Str.{is_utf8}
 use Rattle.union_base.specs.LibraryCodes.{is_library_code}
 use Rattle.union_base.specs.declared.record_id.RecordId.{RecordId}
-use Rattle.marc_parts.specs.Trimmed.{trimmed}
+use Rattle.union_base.specs.Trimmed.{trimmed}
 use Rattle.marc_parts.specs.Loads.{has_number_shape}
 use Rattle.naco_normal.specs.Heading.{form_without_comma}
 use Rattle.naco_normal.specs.Words.{is_empty}

@@ -9,7 +9,8 @@ ghost use Rattle.catalogue_core.specs.IndexKeys.{has_key};
 ghost use Rattle.catalogue_editions.specs.declared.edition.Edition.{Edition as EditionModel};
 ghost use Rattle.catalogue_query.specs.declared.query.Query.TheVariants.{Isbn, Issn, Control, Title, Work, Count};
 ghost use Rattle.catalogue_query.specs.Lines.{edition_line};
-ghost use Rattle.catalogue_query.specs.Answers.{has_contributor, told, told_of_all, lines_of, or_none, answer_lines};
+ghost use Rattle.catalogue_query.specs.Answers.{told, told_of_all, lines_of, or_none, answer_lines};
+ghost use Rattle.catalogue_editions.specs.Ids.{has_contributor};
 
 use crate::answer::Answer;
 use crate::lines::{count_line, edition_line};

@@ -8,7 +8,7 @@ use isbn_keys::control::system_number;
 use isbn_keys::isbn::isbn;
 use isbn_keys::issn::issn;
 use marc_parts::loads::has_number_shape;
-use marc_parts::trimming::trimmed;
+use union_base::trimming::trimmed;
 use naco_normal::form::{Comma, normal};
 use std::alloc::Global;
 use union_base::bytes::Bytes;

@@ -8,7 +8,7 @@ use Rattle.std.proofs.lemmas.List.Sums.{fold-append}
 use Rattle.union_base.specs.declared.record_id.RecordId.{RecordId}
 use Rattle.merge_laws.proofs.Places.{AllPairs-none}
 use Rattle.merge_laws.proofs.Resolutions.{IsResolution-from_apart}
-use Rattle.field_merge.specs.Kept.{id_cmp}
+use Rattle.union_base.specs.RecordIds.{id_cmp}
 use Rattle.catalogue_core.specs.Ids.{least}
 use Rattle.catalogue_core.specs.JoinLaws.{edition_join_laws}
 use Rattle.catalogue_core.specs.Matching.{match}

@@ -7,7 +7,7 @@ ghost use Rattle.std.specs.FinMap.{empty};
 ghost use Rattle.std.specs.Map.{values_of};
 ghost use Rattle.std.specs.Option.{option_copied};
 ghost use Rattle.union_base.specs.SortedLists.{has};
-ghost use Rattle.field_merge.specs.Kept.{id_cmp};
+ghost use Rattle.union_base.specs.RecordIds.{id_cmp};
 ghost use Rattle.work_clusters.specs.Works.{works_of};
 ghost use Rattle.catalogue_core.specs.EditionKeys.{work_pairs};
 ghost use Rattle.catalogue_core.specs.Histories.{after_batch, after_op, at_id, bases, current, is_current, outcome_of, outcomes, AreEditionsOf};

@@ -17,7 +17,7 @@ use Rattle.match_features.specs.Kept.{texts_cmp, pairs_cmp}
 use Rattle.match_features.specs.KeptLaws.{pairs_total, pairs_tie}
 use Rattle.match_features.specs.JoinLaws.{same_features}
 use Rattle.match_features.specs.declared.features.Features.{Features}
-use Rattle.field_merge.specs.Kept.{id_cmp}
+use Rattle.union_base.specs.RecordIds.{id_cmp}
 use Rattle.field_merge.specs.KeptLaws.{id_total, field_total}
 use Rattle.field_merge.specs.Orders.{slot_cmp, fixed_cmp}
 use Rattle.field_merge.specs.OrderLaws.{slot_total, slots_apart, fixed_total, fixed_apart, optional_slot_total, optional_slots_apart}

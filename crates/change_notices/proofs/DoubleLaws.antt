@@ -15,7 +15,7 @@ use Rattle.union_base.specs.IdLaws.{ids_apart}
 use Rattle.union_base.specs.SortedLists.{has}
 use Rattle.union_base.specs.declared.record_id.RecordId.{RecordId}
 use Rattle.match_features.proofs.MemberLaws.{member-from_has, has-from_member}
-use Rattle.field_merge.specs.Kept.{id_cmp}
+use Rattle.union_base.specs.RecordIds.{id_cmp}
 use Rattle.field_merge.specs.KeptLaws.{id_total}
 use Rattle.catalogue_editions.specs.declared.edition.Edition.{Edition}
 use Rattle.edition_blocks.specs.Deltas.{AreOnlyIn}

@@ -17,7 +17,7 @@ use Rattle.union_base.specs.IdLaws.{ids_apart}
 use Rattle.union_base.specs.SortedLists.{is_ascending}
 use Rattle.merge_laws.proofs.Places.{Contains-head, Contains-tail, Contains-cases, AllPairs-append, AllPairs-first, AllPairs-rest, AllPairs-permutation, same-from_related}
 use Rattle.merge_laws.proofs.Sorted.{same-from_members}
-use Rattle.field_merge.specs.Kept.{id_cmp}
+use Rattle.union_base.specs.RecordIds.{id_cmp}
 use Rattle.field_merge.specs.KeptLaws.{id_total}
 use Rattle.catalogue_editions.specs.Ids.{least, edition_cmp}
 use Rattle.catalogue_editions.specs.declared.edition.Edition.{Edition}

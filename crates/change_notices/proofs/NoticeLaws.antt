@@ -15,7 +15,7 @@ use Rattle.union_base.specs.SortedLists.{has}
 use Rattle.union_base.specs.declared.record_id.RecordId.{RecordId}
 use Rattle.merge_laws.proofs.Places.{Contains-head, Contains-tail, Contains-cases, AllPairs-first, AllPairs-rest}
 use Rattle.match_features.proofs.MemberLaws.{member-from_has, has-from_member}
-use Rattle.field_merge.specs.Kept.{id_cmp}
+use Rattle.union_base.specs.RecordIds.{id_cmp}
 use Rattle.field_merge.specs.KeptLaws.{id_total}
 use Rattle.workset_keys.specs.WorkKeys.{own_name}
 use Rattle.catalogue_editions.specs.Ids.{least}

@@ -4,7 +4,7 @@ use Rattle.std.specs.Option.{option_map}
 use Rattle.std.specs.List.{flat_map}
 use Rattle.union_base.specs.SortedLists.{has}
 use Rattle.union_base.specs.declared.record_id.RecordId.{RecordId}
-use Rattle.field_merge.specs.Kept.{id_cmp}
+use Rattle.union_base.specs.RecordIds.{id_cmp}
 use Rattle.workset_keys.specs.WorkKeys.{own_name}
 use Rattle.catalogue_editions.specs.Ids.{least}
 use Rattle.catalogue_editions.specs.declared.edition.Edition.{Edition}

@@ -4,7 +4,7 @@ ghost use Rattle.std.specs.BTreeSet.{contains};
 ghost use Rattle.std.specs.List.{list_any};
 ghost use Rattle.union_base.specs.SortedLists.{has};
 ghost use Rattle.union_base.specs.declared.record_id.RecordId.{RecordId as IdModel};
-ghost use Rattle.field_merge.specs.Kept.{id_cmp};
+ghost use Rattle.union_base.specs.RecordIds.{id_cmp};
 ghost use Rattle.catalogue_editions.specs.declared.edition.Edition.{Edition as EditionModel};
 ghost use Rattle.edition_blocks.specs.Deltas.{AreOnlyIn};
 ghost use Rattle.change_notices.specs.Followers.{IsDouble, IsFirst, IsNowhere};

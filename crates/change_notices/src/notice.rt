@@ -5,7 +5,7 @@ ghost use Rattle.std.specs.Option.{option_copied};
 ghost use Rattle.std.specs.BTreeMap.{get};
 ghost use Rattle.union_base.specs.SortedLists.{has};
 ghost use Rattle.union_base.specs.declared.record_id.RecordId.{RecordId as IdModel};
-ghost use Rattle.field_merge.specs.Kept.{id_cmp};
+ghost use Rattle.union_base.specs.RecordIds.{id_cmp};
 ghost use Rattle.workset_keys.specs.WorkKeys.{own_name};
 ghost use Rattle.catalogue_editions.specs.Ids.{least};
 ghost use Rattle.catalogue_editions.specs.declared.edition.Edition.{Edition as EditionModel};

@@ -2,7 +2,7 @@
 use Rattle.std.specs.Prelude.{⊤, ◌≡◌, ◌⊎◌, Bool, IsTrue, List, [], ◌∷◌, ◌++◌, Contains}
 use Rattle.union_base.specs.declared.record_id.RecordId.{RecordId}
 use Rattle.union_base.specs.SortedLists.{has}
-use Rattle.field_merge.specs.Kept.{id_cmp}
+use Rattle.union_base.specs.RecordIds.{id_cmp}
 use Rattle.merge_laws.specs.Resolution.{IsResolution}
 use Rattle.catalogue_editions.specs.Joining.{join}
 use Rattle.catalogue_editions.specs.Matching.{match}

@@ -14,7 +14,8 @@ use Rattle.union_base.specs.FieldOrder.{field_cmp}
 use Rattle.union_base.proofs.SortedListLaws.{is_ascending-union}
 use Rattle.union_base.specs.declared.record_id.RecordId.{RecordId}
 use Rattle.union_base.specs.declared.field.Field.{Field}
-use Rattle.field_merge.specs.Kept.{id_cmp, are_kept}
+use Rattle.field_merge.specs.Kept.{are_kept}
+use Rattle.union_base.specs.RecordIds.{id_cmp}
 
 -- ids are in a total order
 pub id_total : IsTotalOrder id_cmp

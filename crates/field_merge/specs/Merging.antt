@@ -4,7 +4,7 @@ use Rattle.std.specs.Ordering.{match_ordering}
 use Rattle.std.specs.Option.{option_cmp}
 use Rattle.union_base.specs.SortedLists.{union}
 use Rattle.union_base.specs.FieldOrder.{field_cmp}
-use Rattle.field_merge.specs.Kept.{id_cmp}
+use Rattle.union_base.specs.RecordIds.{id_cmp}
 use Rattle.field_merge.specs.Orders.{slot_cmp, fixed_cmp}
 use Rattle.field_merge.specs.KeptLaws.{kept-union}
 use Rattle.field_merge.specs.declared.content.Content.{Content}

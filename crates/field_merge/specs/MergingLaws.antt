@@ -9,7 +9,7 @@ use Rattle.union_base.specs.FieldLaws.{field_cmp-IsAntisymmetric}
 use Rattle.union_base.specs.IdLaws.{ids_apart}
 use Rattle.union_base.proofs.SortedListLaws.{union-idempotent, union-commutative, union-associative}
 use Rattle.merge_laws.specs.Resolution.{JoinLaws}
-use Rattle.field_merge.specs.Kept.{id_cmp}
+use Rattle.union_base.specs.RecordIds.{id_cmp}
 use Rattle.field_merge.specs.KeptLaws.{id_total, field_total}
 use Rattle.field_merge.specs.Orders.{slot_cmp, fixed_cmp}
 use Rattle.field_merge.specs.OrderLaws.{slot_total, optional_slot_total, fixed_total, slots_apart, optional_slots_apart, fixed_apart}

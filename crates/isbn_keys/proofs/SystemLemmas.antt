@@ -2,7 +2,8 @@
 use Rattle.std.proofs.Common.{◌≡◌, ℕ, ◌&&◌, true, cond, List, Option, None, drop, sym, ap, ◌∙◌}
 use Rattle.std.specs.Prelude.{codes}
 use Rattle.std.specs.List.{list_any, before_first, after_first}
-use Rattle.isbn_keys.specs.Text.{trimmed, begins_with}
+use Rattle.isbn_keys.specs.Text.{begins_with}
+use Rattle.union_base.specs.Trimmed.{trimmed}
 use Rattle.isbn_keys.specs.Control.{closes, pair_key, system_key}
 
 -- the key of a trimmed text, with what follows its first byte

@@ -2,7 +2,8 @@
 use Rattle.std.specs.Prelude.{ℕ, ◌==◌, ◌&&◌, ◌||◌, Bool, not, nat_le, if◌then◌else◌, Option, Some, None, List, codes, drop, length, bytes_eq, slice_index}
 use Rattle.std.specs.List.{list_all, list_any, before_first, after_first}
 use Rattle.std.specs.Char.{is_ascii_digit}
-use Rattle.isbn_keys.specs.Text.{without_leading, trimmed, begins_with}
+use Rattle.isbn_keys.specs.Text.{without_leading, begins_with}
+use Rattle.union_base.specs.Trimmed.{trimmed}
 
 -- ( or ) stands somewhere
 abbrev pub has_parenthesis : List ℕ → Bool

@@ -1,22 +1,11 @@
--- Texts of bytes, cut and trimmed. A blank is the byte 0x20 and no other.
-use Rattle.std.specs.Prelude.{ℕ, ◌==◌, ◌||◌, ◌-◌, Bool, List, take, drop, length, bytes_eq}
-use Rattle.std.specs.List.{prefix_len, suffix_len, before_first}
-
--- a blank
-abbrev pub blank : ℕ
-blank = 0x20
+-- Texts of bytes, cut and trimmed.
+use Rattle.std.specs.Prelude.{ℕ, ◌==◌, ◌||◌, Bool, List, take, drop, length, bytes_eq}
+use Rattle.std.specs.List.{prefix_len, before_first}
+use Rattle.union_base.specs.Trimmed.{blank}
 
 -- the text without the bytes of this value at its beginning
 abbrev pub without_leading : ℕ → List ℕ → List ℕ
 without_leading byte text = drop (prefix_len (λ b. b == byte) text) text
-
--- the text without the bytes of this value at its end
-abbrev pub without_trailing : ℕ → List ℕ → List ℕ
-without_trailing byte text = take (length text - suffix_len (λ b. b == byte) text) text
-
--- the text without blanks at either end
-abbrev pub trimmed : List ℕ → List ℕ
-trimmed text = without_trailing blank (without_leading blank text)
 
 -- a blank, ( or :, which end a number that a cataloguer put down
 abbrev pub ends_number : ℕ → Bool

@@ -4,10 +4,11 @@ ghost use Rattle.std.specs.Prelude.{◌≡◌, ◌==◌, false, true, length, dr
 ghost use Rattle.isbn_keys.specs.Control.{has_parenthesis, is_source, is_prefixed, without_prefix, number_of, pair_key, system_key};
 
 use crate::check::all_digits;
-use crate::text::{cut_at, trimmed, without_leading};
+use crate::text::{cut_at, without_leading};
 use std::alloc::Global;
 use union_base::bytes::Bytes;
 use union_base::memory::Memory;
+use union_base::trimming::trimmed;
 
 /// The longest source, in bytes.
 const LONGEST_SOURCE: usize = 64;

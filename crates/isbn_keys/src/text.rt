@@ -1,18 +1,10 @@
-//! Texts of bytes, cut and trimmed. None of it takes memory.
-ghost use Rattle.std.specs.Prelude.{◌≡◌, ◌==◌, ◌-◌, ◌≤◌, true, false, length, MatchOption};
-ghost use Rattle.std.specs.List.{prefix_len, suffix_len, position_or_len, list_any, before_first, after_first};
-ghost use Rattle.isbn_keys.specs.Text.{without_leading, trimmed, ends_number, number_part};
+//! Texts of bytes, cut at a byte or a blank. None of it takes memory.
+ghost use Rattle.std.specs.Prelude.{◌≡◌, ◌==◌, ◌≤◌, true, false, length, MatchOption};
+ghost use Rattle.std.specs.List.{prefix_len, position_or_len, list_any, before_first, after_first};
+ghost use Rattle.isbn_keys.specs.Text.{without_leading, ends_number, number_part};
 
-/// The one blank that is trimmed.
+/// The one blank that a number ends at.
 pub(crate) const BLANK: u8 = b' ';
-
-/// The text without blanks at either end.
-pub(crate) fn trimmed(text: &[u8]) -> &[u8]
-    ensures { result.now ≡ trimmed text.now }
-{
-    let rest = without_leading(text, BLANK);
-    &rest[..end_before(rest, BLANK)]
-}
 
 /// The text without the bytes of this value at its beginning.
 pub(crate) fn without_leading(text: &[u8], byte: u8) -> &[u8]
@@ -40,17 +32,6 @@ fn count_leading(text: &[u8], byte: u8) -> usize
         }
     }
     text.len()
-}
-
-/// Where the bytes of this value at the end begin.
-fn end_before(text: &[u8], byte: u8) -> usize
-    ensures { result ≡ length text.now - suffix_len (λ b. b == byte) text.now }
-{
-    let mut end = text.len();
-    while end > 0 && text[end - 1] == byte {
-        end -= 1;
-    }
-    end
 }
 
 /// The first place that ends a number, or the text's length.

@@ -1,5 +1,5 @@
 -- What a record has that a library loads, or withdraws.
-use Rattle.std.specs.Prelude.{ℕ, Bool, ◌&&◌, ◌||◌, ◌==◌, nat_le, List, length, codes}
+use Rattle.std.specs.Prelude.{ℕ, Bool, not, ◌&&◌, ◌||◌, ◌==◌, nat_le, List, length, codes}
 use Rattle.std.specs.List.{list_all}
 use Rattle.std.specs.Str.{is_utf8}
 use Rattle.marc_leader.specs.Codes.{is_printable}
@@ -7,6 +7,10 @@ use Rattle.union_base.specs.Bodies.{Subfield, Body, Control, Data}
 use Rattle.union_base.specs.declared.field.Field.{Field}
 use Rattle.marc_parts.specs.declared.marc_record.Record.{Record}
 use Rattle.marc_parts.specs.Parts.{how_many, text_under, control_number}
+
+-- what a blank coding leaves of MARC-8: ASCII without the escape
+abbrev pub is_plain : List ℕ → Bool
+is_plain text = list_all (λ b. nat_le b 0x7F && not (b == 0x1B)) text
 
 -- the texts are UTF-8
 abbrev pub is_utf8_subfield : Subfield → Bool

@@ -8,4 +8,3 @@
 pub mod loads;
 pub mod marc_record;
 pub mod parts;
-pub mod trimming;

@@ -17,7 +17,8 @@ use Rattle.marc_fields.specs.Rules.{is_tile, range_of, text_of}
 use Rattle.marc_fields.proofs.FieldReading.{tile-parts}
 use Rattle.marc_fields.proofs.NoFailure.{text-spelled}
 use Rattle.marc_parts.specs.Loads.{is_utf8_subfield, is_utf8_body, is_utf8_field}
-use Rattle.marc_rules.specs.Contents.{is_plain, is_plain_at, is_utf8_at}
+use Rattle.marc_rules.specs.Contents.{is_plain_at, is_utf8_at}
+use Rattle.marc_parts.specs.Loads.{is_plain}
 
 -- a text may be parted at an ASCII byte
 pub utf8-split : (front rest : List ℕ) (b : ℕ) → b < 128 → IsUtf8 (front ++ b ∷ rest) → IsUtf8 front × IsUtf8 rest

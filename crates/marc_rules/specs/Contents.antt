@@ -6,16 +6,13 @@ use Rattle.std.specs.Str.{is_utf8}
 use Rattle.marc_leader.specs.declared.entry.Entry.{Entry}
 use Rattle.marc_fields.specs.Rows.{unless, least_where_not, fails, or_then}
 use Rattle.marc_fields.specs.Rules.{text_of}
+use Rattle.marc_parts.specs.Loads.{is_plain}
 use Rattle.marc_fields.specs.declared.rules.Failure.{Failure}
 use Rattle.marc_fields.specs.declared.rules.Rule.TheVariants.{Status, Coding, NotUtf8}
 
 -- increase in encoding level, corrected, deleted, new, increase from prepublication
 abbrev pub is_status : ℕ → Bool
 is_status status = ((((status == 0x61) || (status == 0x63)) || (status == 0x64)) || (status == 0x6E)) || (status == 0x70)
-
--- what a blank coding leaves of MARC-8: ASCII without the escape
-abbrev pub is_plain : List ℕ → Bool
-is_plain text = list_all (λ b. nat_le b 0x7F && not (b == 0x1B)) text
 
 -- the entry's text is plain
 abbrev pub is_plain_at : List ℕ → Entry → Bool

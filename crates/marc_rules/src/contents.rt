@@ -4,7 +4,8 @@ ghost use Rattle.std.specs.List.{list_all};
 ghost use Rattle.std.specs.Str.{is_utf8, IsCharBoundary};
 ghost use Rattle.marc_fields.specs.Rows.{Checks, least_where_not};
 ghost use Rattle.marc_fields.specs.Rules.{is_tile};
-ghost use Rattle.marc_rules.specs.Contents.{is_status, is_plain, is_plain_at, is_utf8_at, coding_failure, content_failure};
+ghost use Rattle.marc_rules.specs.Contents.{is_status, is_plain_at, is_utf8_at, coding_failure, content_failure};
+ghost use Rattle.marc_parts.specs.Loads.{is_plain};
 
 use marc_fields::parts::text_in;
 use marc_fields::rules::{Failure, Rule};

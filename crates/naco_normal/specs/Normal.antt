@@ -10,7 +10,8 @@ use Rattle.unicode_normalization.specs.Forms.{nfkd}
 use Rattle.caseless.specs.Caseless.{default_case_fold}
 use Rattle.naco_normal.specs.declared.form.Comma.{Comma}
 use Rattle.naco_normal.specs.declared.form.Comma.TheVariants.{First, None}
-use Rattle.naco_normal.specs.Words.{blank, joined_words}
+use Rattle.naco_normal.specs.Words.{joined_words}
+use Rattle.union_base.specs.Trimmed.{blank}
 
 -- a comma
 abbrev pub comma_sign : ℕ

@@ -1,15 +1,16 @@
 -- Words in a row, with one blank between them.
 use Rattle.std.specs.Prelude.{ℕ, ◌&&◌, Bool, true, false, not, if◌then◌else◌, List, [], ◌∷◌, ◌++◌, filter}
 use Rattle.std.specs.List.{join_with_byte}
-
--- U+0020, the one blank of a form
-abbrev pub blank : ℕ
-blank = 0x20
+use Rattle.union_base.specs.Trimmed.{blank}
 
 -- the text is empty
 abbrev pub is_empty : List ℕ → Bool
 is_empty [] = true
 is_empty (c ∷ cs) = false
+
+-- the text, where it is not empty
+abbrev pub where_not_empty : List ℕ → List (List ℕ)
+where_not_empty text = if is_empty text then [] else text ∷ []
 
 -- the words that are not empty, with one blank between each two
 abbrev pub joined_words : List (List ℕ) → List ℕ

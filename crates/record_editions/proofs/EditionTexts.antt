@@ -15,7 +15,7 @@ use Rattle.marc_fields.specs.Spelling.{is_short}
 use Rattle.marc_parts.specs.Parts.{has_tag}
 use Rattle.marc_parts.specs.Loads.{is_utf8_subfield, is_utf8_body, is_utf8_field}
 use Rattle.field_merge.specs.Contents.{is_main_entry}
-use Rattle.field_merge.specs.Kept.{id_cmp}
+use Rattle.union_base.specs.RecordIds.{id_cmp}
 use Rattle.field_merge.specs.declared.content.Content.{Content}
 use Rattle.field_merge.specs.declared.slot.Slot.{Slot}
 use Rattle.workset_keys.specs.Names.{HasTexts}

@@ -8,7 +8,7 @@ use Rattle.union_base.specs.declared.field.Field.{Field}
 use Rattle.union_base.specs.SortedLists.{set_of}
 use Rattle.marc_parts.specs.declared.marc_record.Record.{Record}
 use Rattle.marc_parts.specs.Parts.{has_tag, text_under, control_number}
-use Rattle.naco_normal.specs.Words.{is_empty}
+use Rattle.naco_normal.specs.Words.{where_not_empty}
 use Rattle.isbn_keys.specs.Isbn.{isbn_key}
 use Rattle.isbn_keys.specs.Issn.{issn_key}
 use Rattle.isbn_keys.specs.Lccn.{lccn_key}
@@ -74,10 +74,6 @@ issn_in s = if is_a s then option_to_list (issn_key s.text) else []
 -- the ISSNs of a field 022
 abbrev pub issns_in : Field → List (List ℕ)
 issns_in f = from_field (codes "022") issn_in f
-
--- the text, where it is not empty
-abbrev pub where_not_empty : List ℕ → List (List ℕ)
-where_not_empty text = if is_empty text then [] else text ∷ []
 
 -- the title of the 245, where it is not empty
 abbrev pub title_in : Field → List (List ℕ)

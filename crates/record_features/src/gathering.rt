@@ -5,7 +5,8 @@
 ghost use Rattle.std.specs.Prelude.{◌≡◌, ◌++◌, All, IfOk, OnOk};
 ghost use Rattle.std.specs.List.{flat_map};
 ghost use Rattle.workset_keys.specs.Names.{HasTexts};
-ghost use Rattle.record_features.specs.Gathering.{lccn_in, system_number_in, isbn_in, issn_in, where_not_empty, numbers_in, isbns_in, issns_in, title_in, name_in, is_name};
+ghost use Rattle.record_features.specs.Gathering.{lccn_in, system_number_in, isbn_in, issn_in, numbers_in, isbns_in, issns_in, title_in, name_in, is_name};
+ghost use Rattle.naco_normal.specs.Words.{where_not_empty};
 
 use isbn_keys::control::system_number;
 use isbn_keys::isbn::isbn;

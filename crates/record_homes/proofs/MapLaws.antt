@@ -16,7 +16,7 @@ use Rattle.std.proofs.lemmas.Map.Keys.{IsDistinct-from_sorted}
 use Rattle.union_base.specs.declared.record_id.RecordId.{RecordId}
 use Rattle.union_base.specs.IdLaws.{ids_apart}
 use Rattle.merge_laws.proofs.Places.{Contains-head, Contains-tail, Contains-cases}
-use Rattle.field_merge.specs.Kept.{id_cmp}
+use Rattle.union_base.specs.RecordIds.{id_cmp}
 use Rattle.field_merge.specs.KeptLaws.{id_total}
 use Rattle.record_homes.specs.Maps.{MapOf, at_id, change_at}
 

@@ -16,7 +16,7 @@ use Rattle.std.proofs.lemmas.Map.Keys.{IsDistinct-from_sorted}
 use Rattle.std.proofs.lemmas.List.Concat.{flat_map-cons}
 use Rattle.union_base.specs.Ties.{texts_apart}
 use Rattle.union_base.specs.declared.record_id.RecordId.{RecordId}
-use Rattle.field_merge.specs.Kept.{id_cmp}
+use Rattle.union_base.specs.RecordIds.{id_cmp}
 use Rattle.record_homes.specs.Maps.{MapOf, at_id, change_at, in_order}
 use Rattle.record_homes.specs.Libraries.{Rows, Libraries, row_at, Sets, rows_of, home_at, AreInOrder, pairs_in}
 use Rattle.record_homes.specs.declared.home.Home.{Home}

@@ -1,20 +1,13 @@
 -- Finite maps from record ids.
+pub use Rattle.union_base.specs.RecordIds.{MapOf, at_id}
 use Rattle.std.specs.Prelude.{Bool, if◌then◌else◌, List, [], ◌∷◌, Option, is_some}
 use Rattle.std.specs.BTreeMap.{is_at, insert_entry}
 use Rattle.std.specs.Map.{lookup}
+use Rattle.union_base.specs.RecordIds.{id_cmp}
 use Rattle.union_base.specs.declared.record_id.RecordId.{RecordId}
-use Rattle.field_merge.specs.Kept.{id_cmp}
 use Rattle.record_homes.specs.declared.home.Home.{Home}
 use Rattle.record_homes.specs.declared.move_to.MoveTo.{MoveTo}
 use Rattle.record_homes.specs.declared.move_to.MoveTo.TheVariants.{Place, Block}
-
--- a finite map from ids: its pairs in the order of the ids
-abbrev pub MapOf : Type 0 → Type 0
-MapOf X = List (RecordId × X)
-
--- the value under the id
-abbrev pub at_id : {X : Type 0} → MapOf X → RecordId → Option X
-at_id all id = lookup (is_at (id_cmp id)) all
 
 -- whether the id has a value
 abbrev pub has_value : {X : Type 0} → MapOf X → RecordId → Bool

@@ -5,7 +5,7 @@
 ghost use Rattle.std.specs.Prelude.{◌≡◌, ◌↔◌, ◌++◌, ◌∷◌, [], IsTrue, IfOk, OnOk};
 ghost use Rattle.std.specs.List.Sorted.{IsStrictlySortedBy};
 ghost use Rattle.std.specs.Map.{keys_of};
-ghost use Rattle.field_merge.specs.Kept.{id_cmp};
+ghost use Rattle.union_base.specs.RecordIds.{id_cmp};
 ghost use Rattle.record_homes.specs.Maps.{at_id};
 ghost use Rattle.record_homes.specs.TouchedIds.{IsAbove};
 
@@ -32,7 +32,7 @@ impl Drop for AscendingIds {
 impl Model for AscendingIds {
     ghost use Rattle.std.specs.List.Sorted.{IsStrictlySortedBy};
     ghost use Rattle.std.specs.Map.{keys_of};
-    ghost use Rattle.field_merge.specs.Kept.{id_cmp};
+    ghost use Rattle.union_base.specs.RecordIds.{id_cmp};
     ghost use Rattle.record_homes.specs.TouchedIds.{TouchedIds};
 
     ghost Value = { TouchedIds };

@@ -4,7 +4,7 @@ ghost use Rattle.std.specs.BTreeMap.{is_at, insert_entry};
 ghost use Rattle.std.specs.Map.{remove_entry};
 ghost use Rattle.std.specs.Option.{option_map};
 ghost use Rattle.union_base.specs.declared.record_id.RecordId.{RecordId as RecordModel};
-ghost use Rattle.field_merge.specs.Kept.{id_cmp};
+ghost use Rattle.union_base.specs.RecordIds.{id_cmp};
 ghost use Rattle.record_homes.specs.Maps.{at_id, change_at, moved_to};
 ghost use Rattle.record_homes.specs.Libraries.{home_at, AreInOrder};
 

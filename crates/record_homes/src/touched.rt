@@ -4,7 +4,7 @@
 //! than the last one they stand in a tree.
 ghost use Rattle.std.specs.Prelude.{◌≡◌, [], IfOk, OnOk};
 ghost use Rattle.std.specs.BTreeMap.{insert_entry};
-ghost use Rattle.field_merge.specs.Kept.{id_cmp};
+ghost use Rattle.union_base.specs.RecordIds.{id_cmp};
 ghost use Rattle.record_homes.specs.Maps.{at_id};
 
 use crate::ascending_ids::AscendingIds;

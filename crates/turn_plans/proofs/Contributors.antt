@@ -16,7 +16,7 @@ use Rattle.union_base.specs.declared.record_id.RecordId.{RecordId}
 use Rattle.merge_laws.specs.Resolution.{member, IsResolution}
 use Rattle.merge_laws.proofs.Places.{Contains-head, Contains-tail, Contains-cases}
 use Rattle.merge_laws.proofs.Tags.{tag-from_dominated, member-from_tag}
-use Rattle.field_merge.specs.Kept.{id_cmp}
+use Rattle.union_base.specs.RecordIds.{id_cmp}
 use Rattle.field_merge.specs.KeptLaws.{id_total}
 use Rattle.catalogue_editions.specs.Batches.{is_one_of, has_one_level, is_own_op}
 use Rattle.catalogue_editions.specs.Ids.{first_id, least}

@@ -8,7 +8,7 @@ use Rattle.std.specs.Map.{lookup, remove_entry, values_of}
 use Rattle.std.proofs.lemmas.List.Elements.{Contains-append_left, Contains-append_cases}
 use Rattle.union_base.specs.declared.record_id.RecordId.{RecordId}
 use Rattle.merge_laws.proofs.Places.{Contains-head, Contains-tail, Contains-cases}
-use Rattle.field_merge.specs.Kept.{id_cmp}
+use Rattle.union_base.specs.RecordIds.{id_cmp}
 use Rattle.turn_plans.specs.Histories.{MapOf, is_current}
 use Rattle.catalogue_editions.specs.declared.edition.Edition.{Edition}
 

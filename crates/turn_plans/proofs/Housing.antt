@@ -9,7 +9,8 @@ use Rattle.swoosh_resolver.specs.Changes.{without, view_of}
 use Rattle.swoosh_resolver.specs.Tables.{block_at, blocks_in, values_of}
 use Rattle.swoosh_resolver.proofs.Places.{number-from_block, block-from_open}
 use Rattle.turn_plans.specs.Histories.{MapOf, at_id}
-use Rattle.turn_plans.specs.Homes.{Block, AreHoused, has_contributor}
+use Rattle.turn_plans.specs.Homes.{Block, AreHoused}
+use Rattle.catalogue_editions.specs.Ids.{has_contributor}
 use Rattle.catalogue_editions.specs.declared.edition.Edition.{Edition}
 use Rattle.record_homes.specs.declared.home.Home.{Home}
 use Rattle.turn_plans.proofs.Contributors.{member-from_any}

@@ -21,14 +21,15 @@ use Rattle.merge_laws.proofs.Resolutions.{apart-from_resolution, IsPermutation-f
 use Rattle.merge_laws.proofs.Tags.{tag-from_dominated, dominated-from_tag, same-from_tag}
 use Rattle.merge_laws.proofs.Withdrawing.{IsResolution-withdrawn}
 use Rattle.match_features.proofs.MemberLaws.{member-from_has, has-from_member}
-use Rattle.field_merge.specs.Kept.{id_cmp}
+use Rattle.union_base.specs.RecordIds.{id_cmp}
 use Rattle.field_merge.specs.KeptLaws.{id_total}
 use Rattle.swoosh_resolver.specs.Changes.{Fits, view_of}
 use Rattle.swoosh_resolver.specs.Splits.{member_at, others_of}
 use Rattle.swoosh_resolver.specs.declared.change.Place.{Place as Seat}
 use Rattle.swoosh_resolver.proofs.Splitting.{taken-at}
 use Rattle.turn_plans.specs.Histories.{MapOf, at_id, is_current}
-use Rattle.turn_plans.specs.Homes.{Block, has_contributor}
+use Rattle.turn_plans.specs.Homes.{Block}
+use Rattle.catalogue_editions.specs.Ids.{has_contributor}
 use Rattle.record_homes.specs.Moves.{place_of}
 use Rattle.catalogue_editions.specs.Ids.{least}
 use Rattle.catalogue_editions.specs.Joining.{join}

@@ -8,7 +8,7 @@ use Rattle.std.specs.List.Sorted.{IsStrictlySortedBy}
 use Rattle.std.specs.BTreeMap.{insert_entry}
 use Rattle.std.specs.Map.{keys_of, remove_entry}
 use Rattle.union_base.specs.declared.record_id.RecordId.{RecordId}
-use Rattle.field_merge.specs.Kept.{id_cmp}
+use Rattle.union_base.specs.RecordIds.{id_cmp}
 use Rattle.catalogue_editions.specs.Batches.{is_own_op}
 use Rattle.turn_plans.specs.Histories.{MapOf, at_id, id_of, is_current, after_op, current, outcome_of, outcomes}
 use Rattle.record_homes.specs.Moves.{place_of}

@@ -13,7 +13,7 @@ use Rattle.std.proofs.lemmas.Option.{slice_get_read}
 use Rattle.union_base.specs.Both.{both_true}
 use Rattle.union_base.specs.declared.record_id.RecordId.{RecordId}
 use Rattle.merge_laws.specs.Resolution.{IsResolution}
-use Rattle.field_merge.specs.Kept.{id_cmp}
+use Rattle.union_base.specs.RecordIds.{id_cmp}
 use Rattle.swoosh_resolver.specs.Changes.{Fits, view_of}
 use Rattle.swoosh_resolver.specs.Tables.{blocks_in, values_of}
 use Rattle.catalogue_editions.specs.Batches.{is_own_op}

@@ -2,10 +2,11 @@
 use Rattle.std.specs.Prelude.{◌≡◌, ℕ, Bool, IsTrue, List, Option, Some}
 use Rattle.union_base.specs.SortedLists.{has}
 use Rattle.union_base.specs.declared.record_id.RecordId.{RecordId}
-use Rattle.field_merge.specs.Kept.{id_cmp}
+use Rattle.union_base.specs.RecordIds.{id_cmp}
 use Rattle.swoosh_resolver.specs.Tables.{Entry, block_at}
 use Rattle.turn_plans.specs.Histories.{MapOf, at_id}
 use Rattle.turn_plans.specs.Keeping.{map_values}
+use Rattle.catalogue_editions.specs.Ids.{has_contributor}
 use Rattle.catalogue_editions.specs.declared.edition.Edition.{Edition}
 use Rattle.record_homes.specs.declared.home.Home.{Home}
 use Rattle.record_homes.specs.declared.place.Place.{Place}
@@ -13,10 +14,6 @@ use Rattle.record_homes.specs.declared.place.Place.{Place}
 -- an edition as a block
 abbrev pub Block : Type 0
 Block = Entry Edition ℕ
-
--- whether the edition has that contributor
-abbrev pub has_contributor : RecordId → Edition → Bool
-has_contributor id e = has id_cmp e.content.contributors id
 
 -- the places at which the records were loaded
 abbrev pub places_in : MapOf Home → MapOf Place

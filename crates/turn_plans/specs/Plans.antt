@@ -6,13 +6,14 @@ use Rattle.std.specs.List.Sorted.{IsStrictlySortedBy}
 use Rattle.std.specs.BTreeMap.{is_at}
 use Rattle.std.specs.Map.{keys_of, values_of}
 use Rattle.union_base.specs.declared.record_id.RecordId.{RecordId}
-use Rattle.field_merge.specs.Kept.{id_cmp}
+use Rattle.union_base.specs.RecordIds.{id_cmp}
 use Rattle.merge_laws.specs.Resolution.{IsResolution}
 use Rattle.swoosh_resolver.specs.Changes.{Fits, view_of}
 use Rattle.swoosh_resolver.specs.Splits.{member_at}
 use Rattle.swoosh_resolver.specs.declared.change.Place.{Place as Seat}
 use Rattle.turn_plans.specs.Histories.{MapOf, at_id}
-use Rattle.turn_plans.specs.Homes.{Block, has_contributor}
+use Rattle.turn_plans.specs.Homes.{Block}
+use Rattle.catalogue_editions.specs.Ids.{has_contributor}
 use Rattle.record_homes.specs.Moves.{place_of}
 use Rattle.catalogue_editions.specs.Joining.{join}
 use Rattle.turn_plans.specs.Keeping.{batches, loaded_at}

@@ -2,7 +2,7 @@
 use Rattle.std.specs.Prelude.{◌≡◌, ℕ, Bool, ◌+◌, ◌⊎◌, true, false, List, [], ◌∷◌, fold}
 use Rattle.std.specs.BTreeMap.{is_at}
 use Rattle.std.specs.Map.{remove_entry, values_of}
-use Rattle.field_merge.specs.Kept.{id_cmp}
+use Rattle.union_base.specs.RecordIds.{id_cmp}
 use Rattle.merge_laws.specs.Reaches.{IsReachOfInsertions}
 use Rattle.turn_plans.specs.Histories.{MapOf, id_of, is_current}
 use Rattle.turn_plans.specs.Reaches.{IsReachOfWithdrawal}

@@ -3,11 +3,11 @@ use Rattle.std.specs.Prelude.{◌≡◌, ℕ, ◌+◌, ◌*◌, ◌⊎◌, ◌++
 use Rattle.std.specs.BTreeMap.{is_at}
 use Rattle.std.specs.Map.{remove_entry, values_of}
 use Rattle.union_base.specs.declared.record_id.RecordId.{RecordId}
-use Rattle.field_merge.specs.Kept.{id_cmp}
+use Rattle.union_base.specs.RecordIds.{id_cmp}
 use Rattle.merge_laws.specs.Reaches.{IsReachOfInsertion as IsReachOfOne}
 use Rattle.merge_laws.specs.Resolution.{IsResolution}
 use Rattle.turn_plans.specs.Histories.{MapOf, id_of, is_current, after_op}
-use Rattle.turn_plans.specs.Homes.{has_contributor}
+use Rattle.catalogue_editions.specs.Ids.{has_contributor}
 use Rattle.catalogue_editions.specs.Ids.{least}
 use Rattle.catalogue_editions.specs.Joining.{join}
 use Rattle.catalogue_editions.specs.Matching.{match, is_found}

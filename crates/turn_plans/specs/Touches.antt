@@ -4,7 +4,7 @@ use Rattle.std.specs.Option.{option_map}
 use Rattle.union_base.specs.declared.record_id.RecordId.{RecordId}
 use Rattle.std.specs.List.Sorted.{IsStrictlySortedBy}
 use Rattle.std.specs.Map.{keys_of}
-use Rattle.field_merge.specs.Kept.{id_cmp}
+use Rattle.union_base.specs.RecordIds.{id_cmp}
 use Rattle.turn_plans.specs.Histories.{MapOf, at_id}
 use Rattle.record_homes.specs.Moves.{place_of}
 use Rattle.turn_plans.specs.Keeping.{loaded_at}

@@ -11,7 +11,7 @@ ghost use Rattle.std.specs.List.{list_any};
 ghost use Rattle.std.specs.BTreeMap.{is_at};
 ghost use Rattle.std.specs.Map.{remove_entry, values_of};
 ghost use Rattle.std.specs.Option.{option_map};
-ghost use Rattle.field_merge.specs.Kept.{id_cmp};
+ghost use Rattle.union_base.specs.RecordIds.{id_cmp};
 ghost use Rattle.merge_laws.specs.Resolution.{IsResolution};
 ghost use Rattle.swoosh_resolver.specs.Changes.{Fits, view_of};
 ghost use Rattle.swoosh_resolver.specs.Tables.{blocks_in, values_of as values_of_blocks};

@@ -7,13 +7,14 @@ ghost use Rattle.std.specs.Prelude.{◌≡◌, ◌≤◌, ◌<◌, ◌+◌, ◌�
 ghost use Rattle.std.specs.List.{list_any};
 ghost use Rattle.std.specs.BTreeMap.{is_at, insert_entry};
 ghost use Rattle.std.specs.Map.{remove_entry, values_of};
-ghost use Rattle.field_merge.specs.Kept.{id_cmp};
+ghost use Rattle.union_base.specs.RecordIds.{id_cmp};
 ghost use Rattle.swoosh_resolver.specs.Changes.{without, view_of};
 ghost use Rattle.swoosh_resolver.specs.Splits.{member_at};
 ghost use Rattle.swoosh_resolver.specs.Tables.{block_at, blocks_in};
 ghost use Rattle.catalogue_editions.specs.Ids.{least};
 ghost use Rattle.turn_plans.specs.Histories.{MapOf, is_current};
-ghost use Rattle.turn_plans.specs.Homes.{Block, AreHoused, has_contributor};
+ghost use Rattle.turn_plans.specs.Homes.{Block, AreHoused};
+ghost use Rattle.catalogue_editions.specs.Ids.{has_contributor};
 ghost use Rattle.record_homes.specs.Moves.{place_of};
 ghost use Rattle.turn_plans.specs.Keeping.{loaded, loaded_at};
 ghost use Rattle.turn_plans.specs.Plans.{batches_with, IsPlannedOn, IsLeft, base_beside};

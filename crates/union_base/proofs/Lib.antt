@@ -2,3 +2,4 @@ pub mod ReadingLaws
 pub mod SortedListLaws
 pub mod SortedListMaking
 pub mod SubfieldLaws
+pub mod TrimLaws

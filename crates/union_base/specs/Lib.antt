@@ -7,6 +7,8 @@ pub mod Fields
 pub mod IdLaws
 pub mod LibraryCodes
 pub mod Readings
+pub mod RecordIds
 pub mod ShortTexts
 pub mod SortedLists
 pub mod Ties
+pub mod Trimmed

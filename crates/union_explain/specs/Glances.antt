@@ -5,7 +5,7 @@ use Rattle.marc_leader.specs.Entry.{start_place}
 use Rattle.marc_leader.specs.Numeral.{are_digits, number_of}
 use Rattle.marc_fields.specs.Rules.{entry_texts}
 use Rattle.marc_parts.specs.Loads.{has_number_shape}
-use Rattle.marc_parts.specs.Trimmed.{trimmed}
+use Rattle.union_base.specs.Trimmed.{trimmed}
 use Rattle.union_words.specs.Words.{is_text}
 
 -- the bytes after the leader up to the first field terminator, 0x1E

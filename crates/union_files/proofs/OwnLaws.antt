@@ -12,7 +12,7 @@ use Rattle.std.specs.FinMap.Entries.{by_order, put, find, below_all, is_sorted, 
 use Rattle.union_base.specs.Both.{both_true}
 use Rattle.union_base.specs.IdLaws.{ids_apart}
 use Rattle.union_base.specs.declared.record_id.RecordId.{RecordId}
-use Rattle.field_merge.specs.Kept.{id_cmp}
+use Rattle.union_base.specs.RecordIds.{id_cmp}
 use Rattle.field_merge.specs.KeptLaws.{id_total}
 use Rattle.catalogue_editions.specs.Batches.{is_one_of, is_own, has_one_level, is_own_op}
 use Rattle.catalogue_editions.specs.Ids.{first_id, least}

@@ -16,7 +16,8 @@ use Rattle.std.proofs.lemmas.List.Sorted.{list_any-IsPermutation}
 use Rattle.union_base.specs.IdLaws.{ids_apart}
 use Rattle.union_base.specs.SortedLists.{is_ascending, has}
 use Rattle.union_base.specs.declared.record_id.RecordId.{RecordId}
-use Rattle.work_clusters.specs.Works.{AreAfter, first_of_list, key_cmp, id_cmp, pair_cmp, works_of, changed, ids_under, keys_of, is_above, key_after}
+use Rattle.work_clusters.specs.Works.{AreAfter, first_of_list, key_cmp, pair_cmp, works_of, changed, ids_under, keys_of, is_above, key_after}
+use Rattle.union_base.specs.RecordIds.{id_cmp}
 use Rattle.work_clusters.proofs.WorksLaws.{key_total, id_total, pair_total, pairs_apart, itself, has-ids_with, is_ascending-ids_with, is_ascending-keys_in, ids_under-works_of, keys_of-works_of, works_of-same, changed-works_of}
 
 eq_is : (r : Ordering) → is_eq r ≡ true → r ≡ Equal

@@ -11,7 +11,8 @@ use Rattle.std.specs.Map as std_map
 use Rattle.union_base.specs.Both.{both_true, true_both}
 use Rattle.union_base.specs.SortedLists.{is_ascending}
 use Rattle.union_base.specs.declared.record_id.RecordId.{RecordId}
-use Rattle.work_clusters.specs.Works.{key_cmp, id_cmp, is_key, is_above, keys_of, ids_under, some, AreWorks}
+use Rattle.work_clusters.specs.Works.{key_cmp, is_key, is_above, keys_of, ids_under, some, AreWorks}
+use Rattle.union_base.specs.RecordIds.{id_cmp}
 use Rattle.work_clusters.proofs.WorksLaws.{key_total, ids_under-below}
 use Rattle.work_clusters.specs.Room.{room_under}
 use Rattle.work_clusters.specs.Entries.{Kept, by_key, listed, works_in, room_in, AreEntries}

@@ -14,7 +14,8 @@ use Rattle.union_base.specs.Ties.{texts_apart}
 use Rattle.union_base.specs.SortedLists.{put, has}
 use Rattle.union_base.specs.declared.record_id.RecordId.{RecordId}
 use Rattle.union_base.proofs.SortedListLaws.{has-put}
-use Rattle.work_clusters.specs.Works.{key_cmp, id_cmp, pair_cmp, is_key, ids_under, pairs_of, without, changed, AreWorks}
+use Rattle.work_clusters.specs.Works.{key_cmp, pair_cmp, is_key, ids_under, pairs_of, without, changed, AreWorks}
+use Rattle.union_base.specs.RecordIds.{id_cmp}
 use Rattle.work_clusters.proofs.WorksLaws.{id_total, key_total, itself, has-filter, then_eq, or_false, works-from_ids, has-after}
 use Rattle.work_clusters.specs.Room.{WorkMap, HasRoomForPairs, room_under}
 use Rattle.work_clusters.specs.Entries.{Kept, works_in, room_in, AreEntries}

@@ -16,7 +16,8 @@ use Rattle.union_base.specs.SortedLists.{is_ascending, put, set_of, has}
 use Rattle.union_base.specs.Ties.{texts_apart, then_ties}
 use Rattle.union_base.specs.declared.record_id.RecordId.{RecordId}
 use Rattle.union_base.proofs.SortedListLaws.{has-union, is_ascending-union, same_ascending}
-use Rattle.work_clusters.specs.Works.{some, AreWorks, key_cmp, id_cmp, pair_cmp, is_key, ids_with, keys_in, works_of, pairs_of, without, changed, ids_under, keys_of}
+use Rattle.work_clusters.specs.Works.{some, AreWorks, key_cmp, pair_cmp, is_key, ids_with, keys_in, works_of, pairs_of, without, changed, ids_under, keys_of}
+use Rattle.union_base.specs.RecordIds.{id_cmp}
 
 -- ---- the three orders
 

@@ -11,7 +11,8 @@ use Rattle.std.specs.Map as std_map
 use Rattle.union_base.specs.Both.{both_true, true_both}
 use Rattle.union_base.specs.SortedLists.{is_ascending, put}
 use Rattle.union_base.specs.declared.record_id.RecordId.{RecordId}
-use Rattle.work_clusters.specs.Works.{key_cmp, id_cmp, is_key, some}
+use Rattle.work_clusters.specs.Works.{key_cmp, is_key, some}
+use Rattle.union_base.specs.RecordIds.{id_cmp}
 use Rattle.work_clusters.specs.Entries.{Kept, listed, works_in, AreCounted}
 use Rattle.work_clusters.proofs.Reading.{ascending-from_ordered}
 

@@ -3,7 +3,8 @@ use Rattle.std.specs.Prelude.{◌≡◌, ℕ, true, List, length, map, filter}
 use Rattle.std.specs.List.{list_all}
 use Rattle.union_base.specs.SortedLists.{is_ascending}
 use Rattle.union_base.specs.declared.record_id.RecordId.{RecordId}
-use Rattle.work_clusters.specs.Works.{key_cmp, id_cmp, keys_of, some}
+use Rattle.work_clusters.specs.Works.{key_cmp, keys_of, some}
+use Rattle.union_base.specs.RecordIds.{id_cmp}
 
 -- a work: the ids of its editions, and how many more can enter with no memory
 pub record Kept : Type 0 where

@@ -2,7 +2,8 @@
 use Rattle.std.specs.Prelude.{◌≡◌, ℕ, ◌+◌, ◌≤◌, not, ◌&&◌, ◌||◌, List, count_by}
 use Rattle.union_base.specs.SortedLists.{has}
 use Rattle.union_base.specs.declared.record_id.RecordId.{RecordId}
-use Rattle.work_clusters.specs.Works.{id_cmp, pair_cmp, is_key, ids_under}
+use Rattle.work_clusters.specs.Works.{pair_cmp, is_key, ids_under}
+use Rattle.union_base.specs.RecordIds.{id_cmp}
 use Rattle.work_clusters.specs.Room.{WorkMap, room_under}
 
 -- the gone pairs leave, and no room is lost

@@ -5,16 +5,13 @@ use Rattle.std.specs.Ordering.{nat_cmp, then_cmp, on, eq_by_cmp, is_lt}
 use Rattle.std.specs.Cmp.Lexicographic.{slice_cmp}
 use Rattle.std.specs.List.{flat_map, list_all}
 use Rattle.std.specs.Map.{lookup}
+use Rattle.union_base.specs.RecordIds.{id_cmp}
 use Rattle.union_base.specs.SortedLists.{is_ascending, set_of, has}
 use Rattle.union_base.specs.declared.record_id.RecordId.{RecordId}
 
 -- work keys in the order of their bytes
 abbrev pub key_cmp : List ℕ → List ℕ → Ordering
 key_cmp = slice_cmp nat_cmp
-
--- ids: by library, then by control number
-abbrev pub id_cmp : RecordId → RecordId → Ordering
-id_cmp = then_cmp (on (λ id. id.library) (slice_cmp nat_cmp)) (on (λ id. id.control) (slice_cmp nat_cmp))
 
 -- pairs of a work key and an id: by key, then by id
 abbrev pub pair_cmp : List ℕ × RecordId → List ℕ × RecordId → Ordering

@@ -2,7 +2,7 @@
 ghost use Rattle.std.specs.Prelude.{◌≡◌, ◌+◌, ◌<◌, ◌≤◌, not, filter, vec_len, vec_capacity, true};
 ghost use Rattle.std.specs.Ordering.{eq_by_cmp};
 ghost use Rattle.union_base.specs.SortedLists.{is_ascending, put};
-ghost use Rattle.work_clusters.specs.Works.{id_cmp};
+ghost use Rattle.union_base.specs.RecordIds.{id_cmp};
 
 use union_base::record_id::RecordId;
 

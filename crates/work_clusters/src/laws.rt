@@ -5,7 +5,8 @@ ghost use Rattle.std.specs.Prelude.{◌≡◌, ◌↔◌, ℕ, List, [], ◌∷�
 ghost use Rattle.std.specs.List.Sorted.{IsPermutation};
 ghost use Rattle.union_base.specs.SortedLists.{is_ascending};
 ghost use Rattle.union_base.specs.declared.record_id.RecordId.{RecordId};
-ghost use Rattle.work_clusters.specs.Works.{key_cmp, id_cmp, works_of, changed, ids_under, keys_of, key_after};
+ghost use Rattle.work_clusters.specs.Works.{key_cmp, works_of, changed, ids_under, keys_of, key_after};
+ghost use Rattle.union_base.specs.RecordIds.{id_cmp};
 ghost use Rattle.work_clusters.specs.Works.{AreAfter, first_of_list};
 
 /// Works do not depend on the order of the pairs, nor on repeats among them.

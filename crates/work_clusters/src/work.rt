@@ -2,7 +2,7 @@
 ghost use Rattle.std.specs.Prelude.{◌≡◌, ◌+◌, ◌<◌, ◌≤◌, ◌&&◌, not, true, [], filter, OnOk, IfOk};
 ghost use Rattle.std.specs.Ordering.{eq_by_cmp};
 ghost use Rattle.union_base.specs.SortedLists.{is_ascending, put};
-ghost use Rattle.work_clusters.specs.Works.{id_cmp};
+ghost use Rattle.union_base.specs.RecordIds.{id_cmp};
 ghost use Rattle.work_clusters.specs.Works.{some};
 
 use crate::ids::{enter, leave};
@@ -21,7 +21,7 @@ pub(crate) struct Work {
 impl Model for Work {
     ghost use Rattle.std.specs.Prelude.{◌≡◌, ◌+◌, ◌≤◌, true, length, vec_capacity};
     ghost use Rattle.union_base.specs.SortedLists.{is_ascending};
-    ghost use Rattle.work_clusters.specs.Works.{id_cmp};
+    ghost use Rattle.union_base.specs.RecordIds.{id_cmp};
     ghost use Rattle.work_clusters.specs.Entries.{Kept};
 
     ghost Value = { Kept };

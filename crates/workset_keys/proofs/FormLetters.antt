@@ -22,7 +22,8 @@ use Rattle.union_base.specs.Both.{both_true, true_both}
 use Rattle.naco_normal.specs.declared.form.Comma.{Comma}
 use Rattle.naco_normal.specs.declared.form.Comma.TheVariants.{First, None as NoComma}
 use Rattle.naco_normal.specs.Normal.{Mark, comma_sign, is_letter_or_number, is_kept, kept_marked, first_comma_marked, comma_marked, others_blank, letters, normal_form}
-use Rattle.naco_normal.specs.Words.{blank, joined_words, joined}
+use Rattle.naco_normal.specs.Words.{joined_words, joined}
+use Rattle.union_base.specs.Trimmed.{blank}
 use Rattle.naco_normal.proofs.WordsLemmas.{joined_words-cons}
 
 -- ---- what is kept

@@ -8,7 +8,8 @@ use Rattle.std.proofs.lemmas.Str.{IsUtf8-from_is_utf8, is_utf8-from_IsUtf8, IsUt
 use Rattle.union_base.specs.Both.{both_true, true_both}
 use Rattle.union_base.specs.Bodies.{Subfield}
 use Rattle.naco_normal.specs.declared.form.Comma.TheVariants.{First, None as NoComma}
-use Rattle.naco_normal.specs.Words.{blank, joined_words}
+use Rattle.naco_normal.specs.Words.{joined_words}
+use Rattle.union_base.specs.Trimmed.{blank}
 use Rattle.naco_normal.specs.Heading.{chosen, main_code, part_forms, form_with_comma, form_without_comma, form_skipping, skipped, heading_of, title_of}
 use Rattle.workset_keys.proofs.FormLetters.{joined_words-all, utf8-form}
 

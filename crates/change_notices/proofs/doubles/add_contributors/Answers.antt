@@ -1,5 +1,5 @@
 use Rattle.std.specs.BTreeSet.{contains}
-use Rattle.field_merge.specs.Kept.{id_cmp}
+use Rattle.union_base.specs.RecordIds.{id_cmp}
 use Rattle.change_notices.proofs.DoubleLaws.{added-more}
 use Rattle.change_notices.proofs.doubles.add_contributors.Goals as goal
 

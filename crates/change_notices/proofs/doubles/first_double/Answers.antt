@@ -3,7 +3,7 @@ use Rattle.std.specs.BTreeSet.{contains}
 use Rattle.std.specs.List.{list_any}
 use Rattle.std.proofs.lemmas.Option.{slice_get_read}
 use Rattle.union_base.specs.declared.record_id.RecordId.{RecordId}
-use Rattle.field_merge.specs.Kept.{id_cmp}
+use Rattle.union_base.specs.RecordIds.{id_cmp}
 use Rattle.catalogue_editions.specs.declared.edition.Edition.{Edition}
 use Rattle.change_notices.proofs.DoubleLaws.{bears, Looked, sees-more, taken-more, looked-stop, looked-more, looked-all}
 use Rattle.change_notices.proofs.doubles.first_double.Goals as goal

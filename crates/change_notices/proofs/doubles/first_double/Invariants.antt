@@ -1,6 +1,6 @@
 use Rattle.std.proofs.Common.{take}
 use Rattle.std.specs.BTreeSet.{contains}
-use Rattle.field_merge.specs.Kept.{id_cmp}
+use Rattle.union_base.specs.RecordIds.{id_cmp}
 use Rattle.change_notices.proofs.DoubleLaws.{Sees, Looked}
 use Rattle.change_notices.proofs.doubles.first_double.Given as goal
 

@@ -2,7 +2,7 @@ use Rattle.std.proofs.Common.{◌++◌, ap, ◌∙◌}
 use Rattle.std.specs.Prelude.{codes, Option}
 use Rattle.std.specs.BTreeMap.{get}
 use Rattle.union_base.specs.declared.record_id.RecordId.{RecordId}
-use Rattle.field_merge.specs.Kept.{id_cmp}
+use Rattle.union_base.specs.RecordIds.{id_cmp}
 use Rattle.workset_keys.specs.WorkKeys.{own_name}
 use Rattle.change_notices.specs.Notices.{end_by}
 use Rattle.change_notices.proofs.NoticeLaws.{pushed-more}

@@ -1,7 +1,7 @@
 use Rattle.std.proofs.Common.{◌≡◌, ◌++◌, take, map}
 use Rattle.std.specs.Prelude.{codes}
 use Rattle.std.specs.BTreeMap.{get}
-use Rattle.field_merge.specs.Kept.{id_cmp}
+use Rattle.union_base.specs.RecordIds.{id_cmp}
 use Rattle.workset_keys.specs.WorkKeys.{own_name}
 use Rattle.change_notices.specs.Notices.{end_by}
 use Rattle.change_notices.proofs.notice.add_edition.Given as goal

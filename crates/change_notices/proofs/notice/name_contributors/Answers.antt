@@ -1,6 +1,6 @@
 use Rattle.std.proofs.Common.{◌∙◌}
 use Rattle.std.specs.BTreeMap.{get}
-use Rattle.field_merge.specs.Kept.{id_cmp}
+use Rattle.union_base.specs.RecordIds.{id_cmp}
 use Rattle.catalogue_editions.specs.Ids.{least}
 use Rattle.change_notices.proofs.NoticeLaws.{named-more}
 use Rattle.change_notices.proofs.notice.name_contributors.Goals as goal

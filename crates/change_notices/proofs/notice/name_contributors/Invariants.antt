@@ -2,7 +2,7 @@ use Rattle.std.proofs.Common.{◌≡◌, take, cond, Some}
 use Rattle.std.specs.BTreeMap.{get}
 use Rattle.union_base.specs.SortedLists.{has}
 use Rattle.union_base.specs.declared.record_id.RecordId.{RecordId}
-use Rattle.field_merge.specs.Kept.{id_cmp}
+use Rattle.union_base.specs.RecordIds.{id_cmp}
 use Rattle.catalogue_editions.specs.Ids.{least}
 use Rattle.change_notices.proofs.notice.name_contributors.Given as goal
 

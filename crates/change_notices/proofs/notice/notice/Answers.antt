@@ -2,7 +2,7 @@ use Rattle.std.proofs.Common.{◌++◌, List, ℕ, ap, ◌∙◌}
 use Rattle.std.specs.Prelude.{codes}
 use Rattle.std.specs.List.{flat_map}
 use Rattle.std.specs.BTreeMap.{get}
-use Rattle.field_merge.specs.Kept.{id_cmp}
+use Rattle.union_base.specs.RecordIds.{id_cmp}
 use Rattle.change_notices.specs.Notices.{edition_lines, name_in}
 use Rattle.change_notices.proofs.NoticeLaws.{side-told}
 use Rattle.change_notices.proofs.notice.notice.Goals as goal

@@ -1,7 +1,7 @@
 use Rattle.std.proofs.Common.{◌||◌, sym, ap, ◌∙◌}
 use Rattle.union_base.specs.SortedLists.{has}
 use Rattle.union_base.proofs.SortedListLaws.{has-union}
-use Rattle.field_merge.specs.Kept.{id_cmp}
+use Rattle.union_base.specs.RecordIds.{id_cmp}
 use Rattle.field_merge.specs.KeptLaws.{id_total}
 use Rattle.match_features.proofs.MemberLaws.{or_left}
 use Rattle.edition_derivations.proofs.holding.merges.Goals as goal

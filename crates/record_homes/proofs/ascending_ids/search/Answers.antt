@@ -2,7 +2,7 @@ use Rattle.std.proofs.Common.{rules}
 use Rattle.std.specs.Prelude.{Option}
 use Rattle.std.proofs.lemmas.Fn.{always_returns_same}
 use Rattle.union_base.specs.declared.record_id.RecordId.{RecordId}
-use Rattle.field_merge.specs.Kept.{id_cmp}
+use Rattle.union_base.specs.RecordIds.{id_cmp}
 use Rattle.record_homes.specs.declared.place.Place.{Place}
 use Rattle.record_homes.proofs.TouchedLaws.{found-by_halves, missed-by_halves}
 use Rattle.record_homes.proofs.ascending_ids.search.Goals as goal

@@ -1,7 +1,7 @@
 use Rattle.std.proofs.Common.{[], refl, sym, ap, subst, ◌∙◌}
 use Rattle.std.specs.Prelude.{IsSome, unwrap_or, if◌then◌else◌}
 use Rattle.std.specs.BTreeMap.{is_at}
-use Rattle.field_merge.specs.Kept.{id_cmp}
+use Rattle.union_base.specs.RecordIds.{id_cmp}
 use Rattle.std.specs.Option.{option_map}
 use Rattle.record_homes.specs.Maps.{moved_to}
 use Rattle.record_homes.specs.Libraries.{row_at, home_at}

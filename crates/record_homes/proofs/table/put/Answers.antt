@@ -2,7 +2,7 @@ use Rattle.std.proofs.Common.{◌≡◌, [], refl, ap, subst, ◌∙◌}
 use Rattle.std.specs.Prelude.{IsSome, IfOk, is_some, not, unwrap_or, Some, if◌then◌else◌}
 use Rattle.std.specs.BTreeMap.{is_at}
 use Rattle.std.proofs.lemmas.Result.{on_ok_weaker}
-use Rattle.field_merge.specs.Kept.{id_cmp}
+use Rattle.union_base.specs.RecordIds.{id_cmp}
 use Rattle.record_homes.specs.Libraries.{Sets, row_at, home_at, rows_of}
 use Rattle.record_homes.proofs.TableLaws.{home-set, home-same, on_err_weaker}
 use Rattle.record_homes.proofs.table.put.Goals as goal

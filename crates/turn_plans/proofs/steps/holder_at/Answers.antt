@@ -1,7 +1,8 @@
 use Rattle.std.proofs.Common.{List, sym, ap, ◌∙◌}
 use Rattle.std.specs.Prelude.{slice_get}
 use Rattle.std.specs.List.{list_any}
-use Rattle.turn_plans.specs.Homes.{Block, has_contributor}
+use Rattle.turn_plans.specs.Homes.{Block}
+use Rattle.catalogue_editions.specs.Ids.{has_contributor}
 use Rattle.turn_plans.proofs.Housing.{view-none}
 use Rattle.turn_plans.proofs.steps.holder_at.Goals as goal
 

@@ -1,6 +1,6 @@
 use Rattle.std.proofs.Common.{◌≡◌, false, take}
 use Rattle.std.specs.List.{list_any}
-use Rattle.turn_plans.specs.Homes.{has_contributor}
+use Rattle.catalogue_editions.specs.Ids.{has_contributor}
 use Rattle.turn_plans.proofs.steps.opened_holder.Given as goal
 
 abbrev pub invariant-loop-place : goal.invariant-loop-place

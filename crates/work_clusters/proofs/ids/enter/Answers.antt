@@ -2,7 +2,7 @@ use Rattle.std.proofs.Common.{◌≡◌, true, cond, arith, sym, subst, ap, ◌�
 use Rattle.std.specs.List.{insert}
 use Rattle.union_base.specs.IdLaws.{ids_apart}
 use Rattle.union_base.specs.SortedLists.{is_ascending, put}
-use Rattle.work_clusters.specs.Works.{id_cmp}
+use Rattle.union_base.specs.RecordIds.{id_cmp}
 use Rattle.work_clusters.proofs.WorksLaws.{id_total}
 use Rattle.work_clusters.proofs.IdLists.{put_at, put_in_gap, comparisons_rise}
 use Rattle.work_clusters.proofs.ids.enter.Goals as goal

@@ -2,7 +2,7 @@ use Rattle.std.proofs.Common.{◌≡◌, true, arith, subst, ap, ◌∙◌}
 use Rattle.std.specs.List.{remove}
 use Rattle.union_base.specs.IdLaws.{ids_apart}
 use Rattle.union_base.specs.SortedLists.{is_ascending}
-use Rattle.work_clusters.specs.Works.{id_cmp}
+use Rattle.union_base.specs.RecordIds.{id_cmp}
 use Rattle.work_clusters.proofs.WorksLaws.{id_total}
 use Rattle.work_clusters.proofs.IdLists.{but, remove_at, but_gap, comparisons_rise}
 use Rattle.work_clusters.proofs.ids.leave.Goals as goal

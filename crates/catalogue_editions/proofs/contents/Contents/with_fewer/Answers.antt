@@ -1,6 +1,6 @@
 use Rattle.std.proofs.Common.{◌∙◌, ◌++◌, ◌∷◌, List, ap, ap₂, sym}
 use Rattle.union_base.specs.SortedLists.{union}
-use Rattle.field_merge.specs.Kept.{id_cmp}
+use Rattle.union_base.specs.RecordIds.{id_cmp}
 use Rattle.field_merge.specs.declared.content.Content.{Content}
 use Rattle.catalogue_editions.specs.Joined.{all_in, parts_behind}
 use Rattle.catalogue_editions.specs.declared.contents.Behind.{Behind}

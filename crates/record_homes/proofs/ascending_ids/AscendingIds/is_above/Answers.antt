@@ -1,7 +1,7 @@
 use Rattle.std.proofs.Common.{◌≡◌, ◌-◌, IsTrue, length, sym, ap, subst, ◌∙◌}
 use Rattle.std.specs.Prelude.{Option, Some, ◌↔◌, slice_get}
 use Rattle.std.specs.Ordering.{is_gt}
-use Rattle.field_merge.specs.Kept.{id_cmp}
+use Rattle.union_base.specs.RecordIds.{id_cmp}
 use Rattle.record_homes.specs.Maps.{MapOf}
 use Rattle.record_homes.specs.declared.place.Place.{Place}
 use Rattle.record_homes.specs.TouchedIds.{TouchedIds, IsAbove}

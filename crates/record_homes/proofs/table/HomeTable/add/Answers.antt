@@ -1,7 +1,7 @@
 use Rattle.std.proofs.Common.{length, sym, ap, ◌∙◌, arith}
 use Rattle.std.specs.Prelude.{if◌then◌else◌, is_some, not}
 use Rattle.std.specs.BTreeMap.{insert_entry}
-use Rattle.field_merge.specs.Kept.{id_cmp}
+use Rattle.union_base.specs.RecordIds.{id_cmp}
 use Rattle.record_homes.specs.Maps.{Homes, at_id, in_order}
 use Rattle.record_homes.specs.Libraries.{pairs_in, home_at}
 use Rattle.record_homes.proofs.TableLaws.{at-table, table-put, table-kept, table-same, count-inserted, none-from_new, some-from_old, on_err}

@@ -1,7 +1,7 @@
 use Rattle.std.proofs.Common.{◌≡◌, refl, sym, ap, subst, ◌∙◌}
 use Rattle.std.specs.Prelude.{Option}
 use Rattle.std.specs.BTreeMap.{insert_entry}
-use Rattle.field_merge.specs.Kept.{id_cmp}
+use Rattle.union_base.specs.RecordIds.{id_cmp}
 use Rattle.record_homes.specs.Maps.{MapOf}
 use Rattle.record_homes.specs.declared.place.Place.{Place}
 use Rattle.record_homes.specs.HeldIds.{held_in}

@@ -1,7 +1,7 @@
 use Rattle.std.proofs.Common.{arith, ap, ◌∙◌}
 use Rattle.union_base.specs.SortedLists.{is_ascending}
 use Rattle.union_base.proofs.SortedListLaws.{is_ascending-put}
-use Rattle.work_clusters.specs.Works.{id_cmp}
+use Rattle.union_base.specs.RecordIds.{id_cmp}
 use Rattle.work_clusters.proofs.WorksLaws.{id_total}
 use Rattle.work_clusters.proofs.work.Work.enter.Goals as goal
 

@@ -2,7 +2,7 @@ use Rattle.std.proofs.Common.{arith, not, ap, ◌∙◌}
 use Rattle.std.specs.Ordering.{eq_by_cmp}
 use Rattle.union_base.specs.IdLaws.{ids_apart}
 use Rattle.union_base.specs.SortedLists.{is_ascending}
-use Rattle.work_clusters.specs.Works.{id_cmp}
+use Rattle.union_base.specs.RecordIds.{id_cmp}
 use Rattle.work_clusters.proofs.WorksLaws.{id_total}
 use Rattle.work_clusters.proofs.IdLists.{is_ascending-filter}
 use Rattle.work_clusters.proofs.work.Work.leave.Goals as goal

@@ -1,6 +1,6 @@
 //! Texts without the blanks at their ends.
 ghost use Rattle.std.specs.Prelude.{◌≡◌};
-ghost use Rattle.marc_parts.specs.Trimmed.{trim_start, trim_end, trimmed};
+ghost use Rattle.union_base.specs.Trimmed.{trim_start, trim_end, trimmed};
 
 /// The text without the blanks (0x20) at its ends. Takes no memory.
 pub fn trimmed(text: &[u8]) -> &[u8]
