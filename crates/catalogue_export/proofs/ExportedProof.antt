@@ -20,7 +20,7 @@ use Rattle.marc_fields.specs.declared.rules.Rule.TheVariants.{ControlNumber}
 use Rattle.marc_fields.proofs.RecordLaws.{spelling-IsSpelled}
 use Rattle.marc_parts.specs.Parts.{has_tag, how_many}
 use Rattle.marc_parts.specs.Loads.{has_number_shape, is_utf8_field}
-use Rattle.union_base.specs.Trimmed.{trim_end}
+use Rattle.union_base.specs.Blanks.{trim_end}
 use Rattle.marc_rules.specs.Accepted.{IsAccepted}
 use Rattle.marc_rules.specs.NineteenRules.{first_rule}
 use Rattle.marc_rules.specs.RequiredFields.{is_same, places, is_control_number, tag_001, tag_008, tag_245, number_failure}

@@ -22,7 +22,8 @@ use Rattle.catalogue_editions.specs.declared.op.Op.TheVariants.{Load, Withdraw}
 use Rattle.turn_plans.specs.Histories.{MapOf, at_id, id_of, after_op, after_batch, current}
 use Rattle.turn_plans.specs.Keeping.{batches, loaded, loaded_at}
 use Rattle.turn_plans.proofs.TurnLaws.{ordered-current}
-use Rattle.catalogue_export.specs.Homes.{place_at, place_after, AreHomed}
+use Rattle.catalogue_export.specs.Homes.{place_at, AreHomed}
+use Rattle.gathered_catalogue.specs.Following.{place_after}
 
 -- the ids stay in order
 pub ordered-op : (library : List ℕ) (all : MapOf Edition) (op : Op) → IsStrictlySortedBy id_cmp (keys_of all) → IsStrictlySortedBy id_cmp (keys_of (after_op library all op))

@@ -9,7 +9,7 @@ use Rattle.union_base.specs.LibraryCodes.{is_library_code, may_stand}
 use Rattle.marc_leader.specs.Codes.{is_printable}
 use Rattle.marc_parts.specs.Loads.{has_number_shape}
 use Rattle.marc_parts.specs.Parts.{text_under}
-use Rattle.union_base.specs.Trimmed.{before_trimmed, trim_start, trim_end, trimmed}
+use Rattle.union_base.specs.Blanks.{before_trimmed, trim_start, trim_end, trimmed}
 use Rattle.catalogue_export.specs.ExportedLaws.{NumbersEndInNoBlank}
 use Rattle.catalogue_export.proofs.FittingLaws.{yes_le, no_le}
 

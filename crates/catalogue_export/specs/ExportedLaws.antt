@@ -9,7 +9,7 @@ use Rattle.marc_parts.specs.declared.marc_record.Record.{Record}
 use Rattle.marc_fields.specs.declared.rules.Rule.TheVariants.{ControlNumber}
 use Rattle.marc_parts.specs.Loads.{is_utf8_field}
 use Rattle.marc_parts.specs.Parts.{how_many, control_number}
-use Rattle.union_base.specs.Trimmed.{trim_end}
+use Rattle.union_base.specs.Blanks.{trim_end}
 use Rattle.marc_rules.specs.Accepted.{IsAccepted}
 use Rattle.marc_rules.specs.NineteenRules.{first_rule}
 use Rattle.field_merge.specs.declared.content.Content.{Content}

@@ -1,5 +1,5 @@
 -- Where the current records of a catalogue were loaded, as an export finds them.
-use Rattle.std.specs.Prelude.{◌≡◌, List, Option, Some, None}
+use Rattle.std.specs.Prelude.{◌≡◌, List, Option, Some}
 use Rattle.std.specs.List.Sorted.{IsStrictlySortedBy}
 use Rattle.std.specs.Map.{keys_of}
 use Rattle.std.specs.Option.{option_map}
@@ -9,19 +9,12 @@ use Rattle.record_homes.specs.declared.home.Home.{Home}
 use Rattle.record_homes.specs.declared.place.Place.{Place}
 use Rattle.catalogue_editions.specs.declared.batch.Batch.{Batch}
 use Rattle.catalogue_editions.specs.declared.edition.Edition.{Edition}
-use Rattle.catalogue_editions.specs.declared.op.Op.{Op}
-use Rattle.catalogue_editions.specs.declared.op.Op.TheVariants.{Load, Withdraw}
 use Rattle.turn_plans.specs.Histories.{MapOf, at_id}
 use Rattle.turn_plans.specs.Keeping.{loaded_at}
 
 -- the place under the id
 abbrev pub place_at : MapOf Home → RecordId → Option Place
 place_at homes id = option_map (λ home. home.place) (at_id homes id)
-
--- where the record is found after the operation, which stands at the place
-abbrev pub place_after : Op → Place → Option Place
-place_after (Load e) place = Some place
-place_after (Withdraw number) place = None
 
 -- each of these editions is found where the batches load it, and nothing else is found
 pub record AreHomed (all : List Batch) (homes : MapOf Home) (editions : MapOf Edition) : Type 0 where

@@ -13,7 +13,8 @@ ghost use Rattle.turn_plans.specs.Histories.{at_id, after_batch, current, id_of,
 ghost use Rattle.turn_plans.specs.Keeping.{batches, loaded, loaded_at};
 ghost use Rattle.catalogue_editions.specs.declared.batch.Batch.{Batch as BatchModel};
 ghost use Rattle.catalogue_editions.specs.declared.edition.Edition.{Edition as EditionModel};
-ghost use Rattle.catalogue_export.specs.Homes.{place_at, place_after, AreHomed};
+ghost use Rattle.catalogue_export.specs.Homes.{place_at, AreHomed};
+ghost use Rattle.gathered_catalogue.specs.Following.{place_after};
 
 use catalogue_core::batch::Batch;
 use catalogue_core::edition::Edition;

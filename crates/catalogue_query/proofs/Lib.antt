@@ -1,4 +1,3 @@
-pub mod CutLaws
 pub mod KeyLaws
 pub mod TellingLaws
 pub mod TitleLaws

@@ -16,17 +16,17 @@ use Rattle.catalogue_core.specs.Histories.{MapOf, at_id}
 use Rattle.catalogue_editions.specs.Ids.{has_contributor}
 use Rattle.catalogue_editions.specs.declared.edition.Edition.{Edition}
 use Rattle.catalogue_query.specs.Lines.{edition_line, by_line, work_line, hold_line, count_line}
-use Rattle.catalogue_query.specs.Queries.{is_text}
+use Rattle.union_base.specs.Alike.{same_text}
 use Rattle.catalogue_query.specs.declared.query.Query.{Query}
 use Rattle.catalogue_query.specs.declared.query.Query.TheVariants.{Id, Isbn, Issn, Control, Title, Work, Holdings, Count}
 
 -- the text stands among the texts
 abbrev pub stands_in : List ℕ → List (List ℕ) → Bool
-stands_in text texts = list_any (λ held. is_text held text) texts
+stands_in text texts = list_any (λ held. same_text held text) texts
 
 -- the pair of the two texts stands among the pairs
 abbrev pub pair_stands_in : List ℕ → List ℕ → List (List ℕ × List ℕ) → Bool
-pair_stands_in source number pairs = list_any (λ pair. is_text pair.0 source && is_text pair.1 number) pairs
+pair_stands_in source number pairs = list_any (λ pair. same_text pair.0 source && same_text pair.1 number) pairs
 
 -- the edition is one that the query asks for
 abbrev pub is_asked : Table → Query → Edition → Bool
@@ -35,7 +35,7 @@ is_asked names (Isbn digits) e = stands_in digits e.features.isbns
 is_asked names (Issn number) e = stands_in number e.features.issns
 is_asked names (Control source number) e = pair_stands_in source number e.features.control
 is_asked names (Title form) e = stands_in form e.features.titles
-is_asked names (Work key) e = is_text (work_key_by names e) key
+is_asked names (Work key) e = same_text (work_key_by names e) key
 is_asked names (Holdings id) e = has_contributor id e
 is_asked names Count e = false
 

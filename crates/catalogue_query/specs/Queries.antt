@@ -1,12 +1,11 @@
 -- The query of a line. A blank is the byte 0x20 and no other.
-use Rattle.std.specs.Prelude.{ℕ, ◌==◌, ◌&&◌, Bool, not, nat_eq, if◌then◌else◌, Option, Some, None, Result, Err, List, codes}
-use Rattle.std.specs.List.{before_first, after_first}
+use Rattle.std.specs.Prelude.{ℕ, ◌&&◌, Bool, not, if◌then◌else◌, Option, Some, None, Result, Err, List, codes}
 use Rattle.std.specs.Option.{ok_or, option_map, option_map_or}
-use Rattle.std.specs.Cmp.Lexicographic.{pointwise}
 use Rattle.std.specs.Str.{is_utf8}
+use Rattle.union_base.specs.Alike.{same_text}
 use Rattle.union_base.specs.LibraryCodes.{is_library_code}
 use Rattle.union_base.specs.declared.record_id.RecordId.{RecordId}
-use Rattle.union_base.specs.Trimmed.{trimmed}
+use Rattle.union_base.specs.Blanks.{first_word, rest_of, trimmed}
 use Rattle.marc_parts.specs.Loads.{has_number_shape}
 use Rattle.naco_normal.specs.Heading.{form_without_comma}
 use Rattle.naco_normal.specs.Words.{is_empty}
@@ -20,33 +19,17 @@ use Rattle.catalogue_query.specs.declared.query.QueryRefusal.TheVariants.{Unknow
 use Rattle.catalogue_query.specs.declared.word.Word.{Word}
 use Rattle.catalogue_query.specs.declared.word.Word.TheVariants as first
 
--- a blank
-abbrev pub is_blank : ℕ → Bool
-is_blank b = b == 0x20
-
--- up to the first blank, or to the end
-abbrev pub first_word : List ℕ → List ℕ
-first_word line = before_first is_blank line
-
--- after the first blank: nothing where there is none
-abbrev pub rest_of : List ℕ → List ℕ
-rest_of line = after_first is_blank line
-
--- the two texts are one, byte for byte
-abbrev pub is_text : List ℕ → List ℕ → Bool
-is_text a b = pointwise nat_eq a b
-
 -- the word that begins a question, one of eight
 abbrev pub word_of : List ℕ → Option Word
 word_of text =
-    if is_text text (codes "id") then Some first.Id else
-    (if is_text text (codes "isbn") then Some first.Isbn else
-    (if is_text text (codes "issn") then Some first.Issn else
-    (if is_text text (codes "control") then Some first.Control else
-    (if is_text text (codes "title") then Some first.Title else
-    (if is_text text (codes "work") then Some first.Work else
-    (if is_text text (codes "holdings") then Some first.Holdings else
-    (if is_text text (codes "count") then Some first.Count else None)))))))
+    if same_text text (codes "id") then Some first.Id else
+    (if same_text text (codes "isbn") then Some first.Isbn else
+    (if same_text text (codes "issn") then Some first.Issn else
+    (if same_text text (codes "control") then Some first.Control else
+    (if same_text text (codes "title") then Some first.Title else
+    (if same_text text (codes "work") then Some first.Work else
+    (if same_text text (codes "holdings") then Some first.Holdings else
+    (if same_text text (codes "count") then Some first.Count else None)))))))
 
 -- a library code, one blank, and a control number without the blanks at its ends
 abbrev pub number_in : List ℕ → List ℕ

@@ -3,14 +3,14 @@ ghost use Rattle.std.specs.Prelude.{◌≡◌, IfOk};
 ghost use Rattle.catalogue_query.specs.Queries.{id_in, id_query, isbn_query, issn_query, control_query, title_query, work_query, holdings_query, count_query, query_behind};
 
 use crate::query::Query;
-use crate::word::{Word, cut_at_blank};
+use crate::word::Word;
 use isbn_keys::control::system_number;
 use isbn_keys::isbn::isbn;
 use isbn_keys::issn::issn;
 use marc_parts::loads::has_number_shape;
-use union_base::trimming::trimmed;
 use naco_normal::form::{Comma, normal};
 use std::alloc::Global;
+use union_base::blanks::{cut_at_blank, trimmed};
 use union_base::bytes::Bytes;
 use union_base::library_code::LibraryCode;
 use union_base::memory::Memory;

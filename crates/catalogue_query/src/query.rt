@@ -4,8 +4,9 @@ ghost use Rattle.catalogue_query.specs.Queries.{query_of};
 ghost use Rattle.catalogue_query.specs.Refusals.{IsReadAs};
 
 use crate::grammar::query_behind;
-use crate::word::{Word, cut_at_blank};
+use crate::word::Word;
 use std::alloc::Global;
+use union_base::blanks::cut_at_blank;
 use union_base::bytes::Bytes;
 use union_base::memory::Memory;
 use union_base::record_id::RecordId;

@@ -1,9 +1,6 @@
 //! The first word of a line.
 ghost use Rattle.std.specs.Prelude.{◌≡◌};
-ghost use Rattle.std.specs.List.{before_first, after_first};
-ghost use Rattle.catalogue_query.specs.Queries.{is_blank, word_of};
-
-use memchr::memchr;
+ghost use Rattle.catalogue_query.specs.Queries.{word_of};
 
 /// The words with which queries begin.
 #[derive(Clone, Copy)]
@@ -42,16 +39,5 @@ impl Word {
         } else {
             None
         }
-    }
-}
-
-/// What stands before the first blank of the text and what stands after it: all of it and nothing where there is no blank.
-pub(crate) fn cut_at_blank(text: &[u8]) -> (&[u8], &[u8])
-    ensures before { result.0.now ≡ before_first is_blank text.now }
-    ensures behind { result.1.now ≡ after_first is_blank text.now }
-{
-    match memchr(b' ', text) {
-        Some(at) => (text.split_at(at).0, text.split_at(at + 1).1),
-        None => (text, &[]),
     }
 }

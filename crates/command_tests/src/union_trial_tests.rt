@@ -1,6 +1,6 @@
 //! What no clause says of a trial: draws, frames and lines, as a script of another kind worked them out.
 ghost use Rattle.std.specs.Prelude.{◌≤◌};
-ghost use Rattle.union_trial.specs.Draws.{most_frames};
+ghost use Rattle.union_words.specs.Numbers.{most_generated};
 
 use key_hashing::hashing::Hashing;
 use load_sessions::crew::Crew;
@@ -63,7 +63,7 @@ fn trial<R: Threads + Sync>(
     limit: usize,
 ) -> Result<(Status, MemSink), AllocError>
     requires some { 1 ≤ count }
-    requires most { count ≤ most_frames }
+    requires most { count ≤ most_generated }
     requires some_worker { 1 ≤ workers }
     requires most_workers { workers ≤ 64 }
 {

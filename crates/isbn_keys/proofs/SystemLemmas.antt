@@ -3,7 +3,7 @@ use Rattle.std.proofs.Common.{◌≡◌, ℕ, ◌&&◌, true, cond, List, Option
 use Rattle.std.specs.Prelude.{codes}
 use Rattle.std.specs.List.{list_any, before_first, after_first}
 use Rattle.isbn_keys.specs.Text.{begins_with}
-use Rattle.union_base.specs.Trimmed.{trimmed}
+use Rattle.union_base.specs.Blanks.{trimmed}
 use Rattle.isbn_keys.specs.Control.{closes, pair_key, system_key}
 
 -- the key of a trimmed text, with what follows its first byte

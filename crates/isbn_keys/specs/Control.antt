@@ -3,7 +3,7 @@ use Rattle.std.specs.Prelude.{ℕ, ◌==◌, ◌&&◌, ◌||◌, Bool, not, nat_
 use Rattle.std.specs.List.{list_all, list_any, before_first, after_first}
 use Rattle.std.specs.Char.{is_ascii_digit}
 use Rattle.isbn_keys.specs.Text.{without_leading, begins_with}
-use Rattle.union_base.specs.Trimmed.{trimmed}
+use Rattle.union_base.specs.Blanks.{trimmed}
 
 -- ( or ) stands somewhere
 abbrev pub has_parenthesis : List ℕ → Bool

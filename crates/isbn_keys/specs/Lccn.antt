@@ -1,7 +1,7 @@
 -- Library of Congress control numbers, in this project's own form.
 use Rattle.std.specs.Prelude.{ℕ, ◌==◌, ◌-◌, Bool, not, if◌then◌else◌, Option, Some, None, List, ◌++◌, filter, length, replicate}
 use Rattle.std.specs.List.{list_any, before_first, after_first}
-use Rattle.union_base.specs.Trimmed.{blank}
+use Rattle.union_base.specs.Blanks.{blank}
 
 -- what stands before the first /, without blanks
 abbrev pub lccn_characters : List ℕ → List ℕ

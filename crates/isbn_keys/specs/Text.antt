@@ -1,7 +1,7 @@
 -- Texts of bytes, cut and trimmed.
 use Rattle.std.specs.Prelude.{ℕ, ◌==◌, ◌||◌, Bool, List, take, drop, length, bytes_eq}
 use Rattle.std.specs.List.{prefix_len, before_first}
-use Rattle.union_base.specs.Trimmed.{blank}
+use Rattle.union_base.specs.Blanks.{blank}
 
 -- the text without the bytes of this value at its beginning
 abbrev pub without_leading : ℕ → List ℕ → List ℕ

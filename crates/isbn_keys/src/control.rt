@@ -6,9 +6,9 @@ ghost use Rattle.isbn_keys.specs.Control.{has_parenthesis, is_source, is_prefixe
 use crate::check::all_digits;
 use crate::text::{cut_at, without_leading};
 use std::alloc::Global;
+use union_base::blanks::trimmed;
 use union_base::bytes::Bytes;
 use union_base::memory::Memory;
-use union_base::trimming::trimmed;
 
 /// The longest source, in bytes.
 const LONGEST_SOURCE: usize = 64;

@@ -5,7 +5,7 @@ use Rattle.std.specs.Cmp.Lexicographic.{pointwise}
 use Rattle.union_base.specs.Bodies.{Body, Control, Data}
 use Rattle.union_base.specs.declared.field.Field.{Field}
 use Rattle.marc_parts.specs.declared.marc_record.Record.{Record}
-use Rattle.union_base.specs.Trimmed.{trimmed}
+use Rattle.union_base.specs.Blanks.{trimmed}
 
 -- the field has that tag
 abbrev pub has_tag : List ℕ → Field → Bool

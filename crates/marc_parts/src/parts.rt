@@ -3,7 +3,7 @@ ghost use Rattle.std.specs.Prelude.{◌≡◌, find, option_copied};
 ghost use Rattle.marc_parts.specs.Parts.{has_tag, first_under, how_many, control_text, text_under, control_number};
 
 use crate::marc_record::Record;
-use union_base::trimming::trimmed;
+use union_base::blanks::trimmed;
 use union_base::body::{Body, Parts};
 use union_base::field::Field;
 

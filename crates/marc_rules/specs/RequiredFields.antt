@@ -10,7 +10,7 @@ use Rattle.marc_fields.specs.Rules.{text_of}
 use Rattle.marc_fields.specs.declared.rules.Failure.{Failure}
 use Rattle.marc_fields.specs.declared.rules.Rule.TheVariants.{ControlNumber, Repeated, Fixed008, Title245}
 use Rattle.marc_parts.specs.Loads.{has_number_shape}
-use Rattle.union_base.specs.Trimmed.{trimmed}
+use Rattle.union_base.specs.Blanks.{trimmed}
 use Rattle.marc_rules.specs.declared.required_fields.NotOne.{NotOne}
 use Rattle.marc_rules.specs.declared.required_fields.NotOne.TheVariants.{Missing, Second}
 use Rattle.marc_rules.specs.declared.required_fields.SingleClass.{SingleClass}

@@ -9,7 +9,7 @@ use marc_fields::parts::text_in;
 use marc_fields::rules::{Failure, Rule};
 use marc_leader::entry::Entry;
 use marc_parts::loads::has_number_shape;
-use union_base::trimming::trimmed;
+use union_base::blanks::trimmed;
 
 /// The status of a record that is withdrawn (MARC 21, leader/05, 'deleted').
 pub const DELETED: u8 = b'd';

@@ -7,7 +7,7 @@ use Rattle.naco_normal.specs.declared.form.Comma.TheVariants.{First, None}
 use Rattle.naco_normal.specs.Normal.{Mark, comma_sign, is_letter_or_number, is_kept, kept_marked, first_comma_marked, others_blank, one_blank_between, spaced}
 use Rattle.naco_normal.specs.Shown.{is_shown, keeps_first}
 use Rattle.naco_normal.specs.Words.{is_empty, joined_words, after_gap, joined}
-use Rattle.union_base.specs.Trimmed.{blank}
+use Rattle.union_base.specs.Blanks.{blank}
 use Rattle.ucd_category.proofs.Computing.{ucd_category}
 
 -- the text with the rest read: whether a gap goes before the next character, whether a comma is awaited

@@ -11,7 +11,7 @@ use Rattle.caseless.specs.Caseless.{default_case_fold}
 use Rattle.naco_normal.specs.declared.form.Comma.{Comma}
 use Rattle.naco_normal.specs.declared.form.Comma.TheVariants.{First, None}
 use Rattle.naco_normal.specs.Words.{joined_words}
-use Rattle.union_base.specs.Trimmed.{blank}
+use Rattle.union_base.specs.Blanks.{blank}
 
 -- a comma
 abbrev pub comma_sign : ℕ

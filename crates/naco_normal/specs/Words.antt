@@ -1,7 +1,7 @@
 -- Words in a row, with one blank between them.
 use Rattle.std.specs.Prelude.{ℕ, ◌&&◌, Bool, true, false, not, if◌then◌else◌, List, [], ◌∷◌, ◌++◌, filter}
 use Rattle.std.specs.List.{join_with_byte}
-use Rattle.union_base.specs.Trimmed.{blank}
+use Rattle.union_base.specs.Blanks.{blank}
 
 -- the text is empty
 abbrev pub is_empty : List ℕ → Bool

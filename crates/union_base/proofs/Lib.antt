@@ -1,3 +1,4 @@
+pub mod BlankLaws
 pub mod ReadingLaws
 pub mod SortedListLaws
 pub mod SortedListMaking

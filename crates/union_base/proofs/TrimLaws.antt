@@ -2,7 +2,7 @@
 use Rattle.std.proofs.Common.{◌≡◌, ℕ, true, false, List, [], ◌∷◌, ◌++◌, refl, ap, arith}
 use Rattle.std.proofs.lemmas.Bool.Decides.{nat_tests}
 use Rattle.std.specs.Prelude.{◌==◌}
-use Rattle.union_base.specs.Trimmed.{trim_end, before_trimmed}
+use Rattle.union_base.specs.Blanks.{trim_end, before_trimmed}
 
 alike : (m n : ℕ) → m ≡ n → (m == n) ≡ true
 alike m n h = grind (arith, nat_tests)

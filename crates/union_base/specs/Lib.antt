@@ -1,3 +1,5 @@
+pub mod Alike
+pub mod Blanks
 pub mod Bodies
 pub mod BodyParts
 pub mod Both
@@ -6,9 +8,9 @@ pub mod FieldOrder
 pub mod Fields
 pub mod IdLaws
 pub mod LibraryCodes
+pub mod OneLine
 pub mod Readings
 pub mod RecordIds
 pub mod ShortTexts
 pub mod SortedLists
 pub mod Ties
-pub mod Trimmed

@@ -16,11 +16,12 @@ use Rattle.marc_fields.specs.RuleNames.{rule_name}
 use Rattle.marc_fields.specs.declared.rules.Rule.{Rule}
 use Rattle.marc_fields.specs.declared.rules.Rule.TheVariants.{Truncated, TooLong, TooShort, LengthDigits, LengthDiffers, BaseAddress, LeaderCounts, EntryDigits, Tag, Tiling, Status, Coding, NotUtf8, ControlShape, DataShape, ControlNumber, Repeated, Fixed008, Title245}
 use Rattle.union_base.specs.LibraryCodes.{is_library_code, may_stand, longest_code}
-use Rattle.union_words.specs.Alike.{is_text}
+use Rattle.union_base.specs.Alike.{same_text}
 use Rattle.union_words.specs.Numbers.{has_leading_zero, is_number, number_within, value_of}
 use Rattle.union_words.proofs.NumberLaws.{digits_are_numerals}
 use Rattle.union_explain.specs.Laws.{IsReadBack}
-use Rattle.union_explain.specs.Reports.{first_word, rest_of, all_told, told_by, refused_by}
+use Rattle.union_explain.specs.Reports.{all_told, told_by, refused_by}
+use Rattle.union_base.specs.Blanks.{first_word, rest_of}
 use Rattle.union_explain.specs.Rules.{rule_named}
 
 -- no byte of the text is a blank
@@ -141,10 +142,10 @@ read-line library frame code least most place =
     let in_word : HasNoBlank word = no_blank (λ b. not (b == 0x20)) word refl refl in
     let in_number : HasNoBlank number = no_blank is_ascii_digit number (digits_decimal digits_are_numerals frame.frame most) refl in
     let in_name : HasNoBlank name = no_blank (λ b. not (b == 0x20)) name (name_unbroken frame.rule) refl in
-    ap (λ w. cond (is_text w library && is_text (first_word (rest_of line)) word) (told_by (rest_of (rest_of line))) None) (first_word-at library first in_code)
-    ∙ (ap (λ r. cond (is_text library library && is_text (first_word r) word) (told_by (rest_of r)) None) (rest_of-at library first in_code)
-    ∙ (ap (λ t. cond (t && is_text (first_word first) word) (told_by (rest_of first)) None) (nat_list_eq_equiv.refl library)
-    ∙ (ap (λ w. cond (is_text w word) (told_by (rest_of first)) None) (first_word-at word second in_word)
+    ap (λ w. cond (same_text w library && same_text (first_word (rest_of line)) word) (told_by (rest_of (rest_of line))) None) (first_word-at library first in_code)
+    ∙ (ap (λ r. cond (same_text library library && same_text (first_word r) word) (told_by (rest_of r)) None) (rest_of-at library first in_code)
+    ∙ (ap (λ t. cond (t && same_text (first_word first) word) (told_by (rest_of first)) None) (nat_list_eq_equiv.refl library)
+    ∙ (ap (λ w. cond (same_text w word) (told_by (rest_of first)) None) (first_word-at word second in_word)
     ∙ (ap (λ t. cond t (told_by (rest_of first)) None) (nat_list_eq_equiv.refl word)
     ∙ (ap told_by (rest_of-at word second in_word)
     ∙ (ap (λ w. all_told (number_within 1 (2 ^ 64 - 1) w) (rule_named (first_word (rest_of second))) (number_within 0 99999 (rest_of (rest_of second))))

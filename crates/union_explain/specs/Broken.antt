@@ -6,7 +6,7 @@ use Rattle.marc_fields.specs.Rows.{ends_in_only}
 use Rattle.marc_fields.specs.RuleNames.{rule_name}
 use Rattle.marc_fields.specs.declared.rules.Failure.{Failure}
 use Rattle.marc_rules.specs.NineteenRules.{first_rule}
-use Rattle.union_words.specs.Words.{is_text}
+use Rattle.union_words.specs.Words.{same_text}
 use Rattle.union_explain.specs.Located.{Located}
 use Rattle.union_explain.specs.declared.reported.Reported.{Reported}
 
@@ -29,7 +29,7 @@ broken_by frame = first_rule (cut_in frame) frame.bytes
 -- the frame breaks the rule that the line names, at the place that it names
 abbrev pub is_as_told : Reported → Option Failure → Bool
 is_as_told told None = false
-is_as_told told (Some failure) = is_text (rule_name failure.rule) (rule_name told.rule) && failure.place == told.place
+is_as_told told (Some failure) = same_text (rule_name failure.rule) (rule_name told.rule) && failure.place == told.place
 
 -- the line tells of no frame of this file: there is none of its number, or it does not break that rule at that place
 abbrev pub is_astray : Reported → Option Located → Bool

@@ -5,8 +5,8 @@ use Rattle.marc_leader.specs.Entry.{start_place}
 use Rattle.marc_leader.specs.Numeral.{are_digits, number_of}
 use Rattle.marc_fields.specs.Rules.{entry_texts}
 use Rattle.marc_parts.specs.Loads.{has_number_shape}
-use Rattle.union_base.specs.Trimmed.{trimmed}
-use Rattle.union_words.specs.Words.{is_text}
+use Rattle.union_base.specs.Blanks.{trimmed}
+use Rattle.union_words.specs.Words.{same_text}
 
 -- the bytes after the leader up to the first field terminator, 0x1E
 abbrev pub directory_of : List ℕ → List ℕ
@@ -33,7 +33,7 @@ tag_of number frame = tag_in (entry_of number (directory_of frame))
 
 -- an entry of field 001, the control number
 abbrev pub is_control_entry : List ℕ → Bool
-is_control_entry entry = is_text (take 3 entry) (codes "001")
+is_control_entry entry = same_text (take 3 entry) (codes "001")
 
 -- where the entry's field starts after the base address, where that is a number
 abbrev pub start_of : List ℕ → Option ℕ

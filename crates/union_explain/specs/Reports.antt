@@ -1,19 +1,11 @@
 -- The lines of a report that tell of refused records.
 use Rattle.std.specs.Prelude.{ℕ, ◌-◌, ◌^◌, ◌<◌, ◌&&◌, ◌==◌, nat_lt, Bool, List, [], ◌∷◌, Option, Some, None, if◌then◌else◌, codes}
-use Rattle.std.specs.List.{before_first, after_first}
+use Rattle.union_base.specs.Blanks.{first_word, rest_of}
 use Rattle.marc_fields.specs.declared.rules.Rule.{Rule}
 use Rattle.union_words.specs.Numbers.{number_within}
-use Rattle.union_words.specs.Words.{is_text}
+use Rattle.union_words.specs.Words.{same_text}
 use Rattle.union_explain.specs.Rules.{rule_named}
 use Rattle.union_explain.specs.declared.reported.Reported.{Reported}
-
--- what stands before the first blank
-abbrev pub first_word : List ℕ → List ℕ
-first_word line = before_first (λ b. b == 0x20) line
-
--- what follows the first blank
-abbrev pub rest_of : List ℕ → List ℕ
-rest_of line = after_first (λ b. b == 0x20) line
 
 -- all three, or nothing
 abbrev pub all_told : Option ℕ → Option Rule → Option ℕ → Option Reported
@@ -30,7 +22,7 @@ told_by text =
 
 -- the line begins with `LIB refused`
 abbrev pub is_refused_line : List ℕ → List ℕ → Bool
-is_refused_line library line = is_text (first_word line) library && is_text (first_word (rest_of line)) (codes "refused")
+is_refused_line library line = same_text (first_word line) library && same_text (first_word (rest_of line)) (codes "refused")
 
 -- `LIB refused FRAME RULE PLACE`
 abbrev pub refused_by : List ℕ → List ℕ → Option Reported

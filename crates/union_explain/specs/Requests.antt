@@ -1,7 +1,7 @@
 -- The forms of words that the program has, and what each asks for.
 use Rattle.std.specs.Prelude.{ℕ, List, [], ◌∷◌, Option, Some, None, if◌then◌else◌, codes}
 use Rattle.union_words.specs.Meanings.{libraries_meaning}
-use Rattle.union_words.specs.Words.{LibraryFile, is_text, are_libraries, libraries_of}
+use Rattle.union_words.specs.Words.{LibraryFile, alone_of, same_text, are_libraries, libraries_of}
 use Rattle.union_explain.specs.declared.form.Form.{Form}
 use Rattle.union_explain.specs.declared.form.Form.TheVariants.{Tabs, Csv}
 use Rattle.union_explain.specs.declared.request.Request.{Request as RequestInPlace}
@@ -23,15 +23,10 @@ request_meaning VersionInPlace = Version
 abbrev pub table_of : Form → List (List ℕ) → Option Request
 table_of form words = (if are_libraries words then Some (Explain form (libraries_of words)) else None)
 
--- a word that stands alone
-abbrev pub alone_of : Request → List (List ℕ) → Option Request
-alone_of request [] = Some request
-alone_of request (word ∷ rest) = None
-
 -- what the words after the program's name ask for
 abbrev pub request_of : List (List ℕ) → Option Request
 request_of [] = None
 request_of (word ∷ rest) =
-    (if is_text word (codes "--csv") then table_of Csv rest
-    else (if is_text word (codes "--help") then alone_of Help rest
-    else (if is_text word (codes "--version") then alone_of Version rest else table_of Tabs (word ∷ rest))))
+    (if same_text word (codes "--csv") then table_of Csv rest
+    else (if same_text word (codes "--help") then alone_of Help rest
+    else (if same_text word (codes "--version") then alone_of Version rest else table_of Tabs (word ∷ rest))))

@@ -2,31 +2,31 @@
 use Rattle.std.specs.Prelude.{ℕ, Bool, true, false, List, Option, Some, None, if◌then◌else◌, ◌==◌, codes}
 use Rattle.marc_fields.specs.declared.rules.Rule.{Rule}
 use Rattle.marc_fields.specs.declared.rules.Rule.TheVariants.{Truncated, TooLong, TooShort, LengthDigits, LengthDiffers, BaseAddress, LeaderCounts, EntryDigits, Tag, Tiling, Status, Coding, NotUtf8, ControlShape, DataShape, ControlNumber, Repeated, Fixed008, Title245}
-use Rattle.union_words.specs.Words.{is_text}
+use Rattle.union_words.specs.Words.{same_text}
 use Rattle.union_explain.specs.Texts as texts
 
 -- the rule of that name
 abbrev pub rule_named : List ℕ → Option Rule
 rule_named text =
-    (if is_text text (codes "Truncated") then Some Truncated else
-    (if is_text text (codes "TooLong") then Some TooLong else
-    (if is_text text (codes "TooShort") then Some TooShort else
-    (if is_text text (codes "LengthDigits") then Some LengthDigits else
-    (if is_text text (codes "LengthDiffers") then Some LengthDiffers else
-    (if is_text text (codes "BaseAddress") then Some BaseAddress else
-    (if is_text text (codes "LeaderCounts") then Some LeaderCounts else
-    (if is_text text (codes "EntryDigits") then Some EntryDigits else
-    (if is_text text (codes "Tag") then Some Tag else
-    (if is_text text (codes "Tiling") then Some Tiling else
-    (if is_text text (codes "Status") then Some Status else
-    (if is_text text (codes "Coding") then Some Coding else
-    (if is_text text (codes "NotUtf8") then Some NotUtf8 else
-    (if is_text text (codes "ControlShape") then Some ControlShape else
-    (if is_text text (codes "DataShape") then Some DataShape else
-    (if is_text text (codes "ControlNumber") then Some ControlNumber else
-    (if is_text text (codes "Repeated") then Some Repeated else
-    (if is_text text (codes "Fixed008") then Some Fixed008 else
-    (if is_text text (codes "Title245") then Some Title245 else None)))))))))))))))))))
+    (if same_text text (codes "Truncated") then Some Truncated else
+    (if same_text text (codes "TooLong") then Some TooLong else
+    (if same_text text (codes "TooShort") then Some TooShort else
+    (if same_text text (codes "LengthDigits") then Some LengthDigits else
+    (if same_text text (codes "LengthDiffers") then Some LengthDiffers else
+    (if same_text text (codes "BaseAddress") then Some BaseAddress else
+    (if same_text text (codes "LeaderCounts") then Some LeaderCounts else
+    (if same_text text (codes "EntryDigits") then Some EntryDigits else
+    (if same_text text (codes "Tag") then Some Tag else
+    (if same_text text (codes "Tiling") then Some Tiling else
+    (if same_text text (codes "Status") then Some Status else
+    (if same_text text (codes "Coding") then Some Coding else
+    (if same_text text (codes "NotUtf8") then Some NotUtf8 else
+    (if same_text text (codes "ControlShape") then Some ControlShape else
+    (if same_text text (codes "DataShape") then Some DataShape else
+    (if same_text text (codes "ControlNumber") then Some ControlNumber else
+    (if same_text text (codes "Repeated") then Some Repeated else
+    (if same_text text (codes "Fixed008") then Some Fixed008 else
+    (if same_text text (codes "Title245") then Some Title245 else None)))))))))))))))))))
 
 -- the place of a refusal by that rule is the number of an entry, where it is not 0
 abbrev pub points_at_entry : Rule → Bool

@@ -10,7 +10,7 @@ use marc_leader::entry::{ENTRY_SIZE, SIZE_END, START_END, TAG_END};
 use marc_leader::leader::LEADER_SIZE;
 use marc_leader::numeral::digits;
 use marc_parts::loads::has_number_shape;
-use union_base::trimming::trimmed;
+use union_base::blanks::trimmed;
 
 /// The byte after a directory and after each field (ISO 2709, 'Field separator').
 const FIELD_TERMINATOR: u8 = 0x1E;

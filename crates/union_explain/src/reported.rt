@@ -2,7 +2,8 @@
 ghost use Rattle.std.specs.Prelude.{◌≡◌, ◌<◌, ◌≤◌, ◌^◌, IfOk, IfSome};
 ghost use Rattle.std.specs.List.{filter_map};
 ghost use Rattle.union_words.specs.Lines.{lines_of};
-ghost use Rattle.union_explain.specs.Reports.{first_word, rest_of, all_told, told_by, is_refused_line, refused_by, rising, IsRising};
+ghost use Rattle.union_explain.specs.Reports.{all_told, told_by, is_refused_line, refused_by, rising, IsRising};
+ghost use Rattle.union_base.specs.Blanks.{first_word, rest_of};
 
 use crate::rules::rule_named;
 use crate::words::{after, before};

@@ -1,7 +1,8 @@
 //! What the words of the command line ask for, and the texts of the program's own.
 ghost use Rattle.std.specs.Prelude.{◌≡◌};
 ghost use Rattle.std.specs.Option.{option_map};
-ghost use Rattle.union_explain.specs.Requests.{request_meaning, alone_of, table_of, request_of};
+ghost use Rattle.union_explain.specs.Requests.{request_meaning, table_of, request_of};
+ghost use Rattle.union_words.specs.Words.{alone_of};
 
 use crate::form::Form;
 use union_base::bytes::Bytes;

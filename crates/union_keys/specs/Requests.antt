@@ -3,7 +3,7 @@ use Rattle.std.specs.Prelude.{ℕ, List, [], ◌∷◌, Option, Some, None, if�
 use Rattle.std.specs.Option.{option_copied}
 use Rattle.union_words.specs.Meanings.{libraries_meaning}
 use Rattle.union_words.specs.Numbers.{option_text}
-use Rattle.union_words.specs.Words.{LibraryFile, is_text, are_libraries, libraries_of}
+use Rattle.union_words.specs.Words.{LibraryFile, alone_of, same_text, are_libraries, libraries_of}
 use Rattle.union_keys.specs.declared.request.Request.{Request as RequestInPlace}
 use Rattle.union_keys.specs.declared.request.Request.TheVariants.{Keys as KeysInPlace, Table as TableInPlace, Help as HelpInPlace, Version as VersionInPlace}
 
@@ -44,16 +44,11 @@ abbrev pub table_of : List (List ℕ) → Option Request
 table_of [] = None
 table_of (word ∷ rest) = grouped_numbers_of (option_text (codes "--groups=") word) word rest
 
--- a word that stands alone
-abbrev pub alone_of : Request → List (List ℕ) → Option Request
-alone_of request [] = Some request
-alone_of request (word ∷ rest) = None
-
 -- what the words after the program's name ask for
 abbrev pub request_of : List (List ℕ) → Option Request
 request_of [] = None
 request_of (word ∷ rest) =
-    (if is_text word (codes "--help") then alone_of Help rest
-    else (if is_text word (codes "--version") then alone_of Version rest
-    else (if is_text word (codes "--table") then table_of rest
+    (if same_text word (codes "--help") then alone_of Help rest
+    else (if same_text word (codes "--version") then alone_of Version rest
+    else (if same_text word (codes "--table") then table_of rest
     else grouped_of (option_text (codes "--groups=") word) word rest)))

@@ -2,7 +2,8 @@
 ghost use Rattle.std.specs.Prelude.{◌≡◌};
 ghost use Rattle.std.specs.Option.{option_map, option_copied};
 ghost use Rattle.std.specs.declared.option.Option.{Option};
-ghost use Rattle.union_keys.specs.Requests.{request_meaning, alone_of, keys_of, numbers_of, table_of, request_of};
+ghost use Rattle.union_keys.specs.Requests.{request_meaning, keys_of, numbers_of, table_of, request_of};
+ghost use Rattle.union_words.specs.Words.{alone_of};
 
 use union_base::bytes::Bytes;
 use union_words::libraries::Libraries;

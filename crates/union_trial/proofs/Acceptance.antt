@@ -22,7 +22,7 @@ use Rattle.marc_fields.proofs.NoFailure.{text-spelled}
 use Rattle.marc_parts.specs.declared.marc_record.Record.{Record}
 use Rattle.marc_fields.proofs.RecordLaws.{spelling-IsSpelled}
 use Rattle.marc_parts.specs.Loads.{has_number_shape, is_utf8_field}
-use Rattle.union_base.specs.Trimmed.{trim_start, before_trimmed, trim_end, trimmed}
+use Rattle.union_base.specs.Blanks.{trim_start, before_trimmed, trim_end, trimmed}
 use Rattle.marc_rules.proofs.CheckLaws.{frame-IsWhole}
 use Rattle.marc_rules.specs.Contents.{is_utf8_at, content_failure}
 use Rattle.marc_rules.specs.NineteenRules.{first_rule}

@@ -2,10 +2,6 @@
 use Rattle.std.specs.Prelude.{ℕ, zero, suc, ◌+◌, ◌*◌, ◌/◌, ◌%◌, ◌^◌, ◌==◌, List, [], ◌∷◌, if◌then◌else◌}
 use Rattle.union_trial.specs.declared.draws.Draws.{Draws}
 
--- the most frames that are generated
-abbrev pub most_frames : ℕ
-most_frames = 200000
-
 -- the state after a draw
 unfoldable pub next_state : ℕ → ℕ
 next_state state = (state * 6364136223846793005 + 1442695040888963407) % 2 ^ 64

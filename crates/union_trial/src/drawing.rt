@@ -1,6 +1,7 @@
 //! The draws of one library's frames, one after the other.
 ghost use Rattle.std.specs.Prelude.{◌≡◌, ◌∷◌, ◌<◌, ◌≤◌, [], MatchOption};
-ghost use Rattle.union_trial.specs.Draws.{library_draws, most_frames};
+ghost use Rattle.union_trial.specs.Draws.{library_draws};
+ghost use Rattle.union_words.specs.Numbers.{most_generated};
 ghost use Rattle.union_trial.specs.Streams.{still_drawn};
 
 use crate::draws::Draws;
@@ -14,7 +15,7 @@ impl LibraryDraws {
     /// The draws of the library at that place, of `count` frames that are generated from that seed.
     pub fn of(seed: u64, count: u32, place: u32) -> LibraryDraws
         requires some { 0 < count }
-        requires most { count ≤ most_frames }
+        requires most { count ≤ most_generated }
         ensures { still_drawn result ≡ library_draws seed count place }
     {
         LibraryDraws {

@@ -1,6 +1,7 @@
 //! The generator of the frames' draws.
 ghost use Rattle.std.specs.Prelude.{◌≡◌, ◌<◌, ◌≤◌};
-ghost use Rattle.union_trial.specs.Draws.{most_frames, next_state, number_below, draws_of, state_behind};
+ghost use Rattle.union_trial.specs.Draws.{next_state, number_below, draws_of, state_behind};
+ghost use Rattle.union_words.specs.Numbers.{most_generated};
 
 use crate::draws::Draws;
 
@@ -36,7 +37,7 @@ impl Generator {
     /// What is drawn for the next frame, where `count` are generated.
     pub fn draws(&mut self, count: u32) -> Draws
         requires some { 0 < count }
-        requires most { count ≤ most_frames }
+        requires most { count ≤ most_generated }
         ensures state { self.new.state ≡ state_behind self.old.state }
         ensures draws { result ≡ draws_of count self.old.state }
     {

@@ -1,6 +1,6 @@
 //! The draws of one library's frames.
 ghost use Rattle.std.specs.Prelude.{◌<◌, ◌≤◌};
-ghost use Rattle.union_trial.specs.Draws.{most_frames};
+ghost use Rattle.union_words.specs.Numbers.{most_generated};
 
 use crate::generator::Generator;
 
@@ -17,6 +17,6 @@ pub struct LibraryDraws {
     /// The number of the next frame.
     pub number: u32,
     pub ghost some: { 0 < count },
-    pub ghost most: { count ≤ most_frames },
+    pub ghost most: { count ≤ most_generated },
     pub ghost within: { number ≤ count },
 }

@@ -1,7 +1,7 @@
 //! The loading of a library's stream.
 ghost use Rattle.std.specs.Prelude.{◌≡◌, [], ◌<◌, ◌≤◌, IfOk, OnOk};
 ghost use Rattle.union_trial.specs.Blocks.{IsBlockOf};
-ghost use Rattle.union_trial.specs.Draws.{most_frames};
+ghost use Rattle.union_words.specs.Numbers.{most_generated};
 ghost use Rattle.union_trial.specs.Streams.{library_code, Loads, still_drawn, AreLoaded};
 
 use crate::drawing::LIBRARIES;
@@ -68,7 +68,7 @@ fn load_library<R: Threads + Sync, L: Ledger>(
     steps: &mut Steps<L>,
 ) -> Result<(), Memory>
     requires some { 0 < count }
-    requires most { count ≤ most_frames }
+    requires most { count ≤ most_generated }
     requires place { place < 3 }
     requires some_worker { 1 ≤ crew.workers }
     requires most_workers { crew.workers ≤ 64 }
@@ -103,7 +103,7 @@ pub fn load_all<R: Threads + Sync, L: Ledger>(
     steps: &mut Steps<L>,
 ) -> Result<(), Memory>
     requires some { 0 < count }
-    requires most { count ≤ most_frames }
+    requires most { count ≤ most_generated }
     requires some_worker { 1 ≤ crew.workers }
     requires most_workers { crew.workers ≤ 64 }
     requires new { catalogue.old.history ≡ [] }

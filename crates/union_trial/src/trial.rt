@@ -1,7 +1,7 @@
 //! The run of a trial.
 ghost use Rattle.std.specs.Prelude.{◌≡◌, ◌≤◌, ◌<◌, ◌++◌, IfOk, OnOk, codes};
 ghost use Rattle.library_batches.specs.Reports.{counted};
-ghost use Rattle.union_trial.specs.Draws.{most_frames};
+ghost use Rattle.union_words.specs.Numbers.{most_generated};
 ghost use Rattle.union_trial.specs.Trials.{trial_line, IsTrialText, IsTrial};
 
 use crate::loading::load_all;
@@ -60,7 +60,7 @@ fn text_by<R: Threads + Sync, L: Ledger>(
     requires parts { blank.parts ≡ L.parts }
     requires some { 0 < L.parts }
     requires count_some { 0 < count }
-    requires count_most { count ≤ most_frames }
+    requires count_most { count ≤ most_generated }
     requires some_worker { 1 ≤ crew.workers }
     requires most_workers { crew.workers ≤ 64 }
     ensures { IfOk result (λ told. IsTrialText seed count told.0.items) }
@@ -83,7 +83,7 @@ fn trial_text<R: Threads + Sync>(
     crew: Crew,
 ) -> Result<(Vec<u8>, Catalogue), Memory>
     requires some { 0 < count }
-    requires most { count ≤ most_frames }
+    requires most { count ≤ most_generated }
     requires some_worker { 1 ≤ crew.workers }
     requires most_workers { crew.workers ≤ 64 }
     ensures { IfOk result (λ told. IsTrialText seed count told.0.items) }
@@ -109,7 +109,7 @@ pub fn trial_run<R: Threads + Sync, O: Sink>(
     out: &mut O,
 ) -> Status
     requires some { 1 ≤ count }
-    requires most { count ≤ most_frames }
+    requires most { count ≤ most_generated }
     requires some_worker { 1 ≤ crew.workers }
     requires most_workers { crew.workers ≤ 64 }
     ensures { IsTrial seed count (record {

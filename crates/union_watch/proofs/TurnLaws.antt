@@ -12,7 +12,7 @@ use Rattle.library_batches.specs.Streams.{Frame}
 use Rattle.catalogue_editions.specs.declared.batch.Batch.{Batch}
 use Rattle.catalogue_editions.specs.declared.history_entry.HistoryEntry.{HistoryEntry}
 use Rattle.library_batches.specs.Batches.{IsBatchOf}
-use Rattle.union_words.specs.Alike.{is_text}
+use Rattle.union_base.specs.Alike.{same_text}
 use Rattle.union_files.specs.Deliveries.{Stream, AreDistinct, batches_of}
 use Rattle.union_files.specs.Interleavings.{batches_under, IsInterleaving}
 use Rattle.union_base.specs.LibraryCodes.{is_library_code}
@@ -80,15 +80,15 @@ own-batches prefer library (block ∷ blocks) [] are = absurd are
 own-batches prefer library (block ∷ blocks) (batch ∷ batches) are = (are.0.library_is, own-batches prefer library blocks batches are.1)
 
 -- the place of a library that is named once
-same-text : (text : List ℕ) → is_text text text ≡ true
+same-text : (text : List ℕ) → same_text text text ≡ true
 same-text text = (bytes_decides text text).1 refl
 
-apart-as : (b : Bool) (x y : List ℕ) → is_text x y ≡ b → x ≢ y → is_text x y ≡ false
+apart-as : (b : Bool) (x y : List ℕ) → same_text x y ≡ b → x ≢ y → same_text x y ≡ false
 apart-as true x y is differ = absurd (differ ((bytes_decides x y).0 is))
 apart-as false x y is differ = is
 
-apart : (x y : List ℕ) → x ≢ y → is_text x y ≡ false
-apart x y differ = apart-as (is_text x y) x y refl differ
+apart : (x y : List ℕ) → x ≢ y → same_text x y ≡ false
+apart x y differ = apart-as (same_text x y) x y refl differ
 
 pub at-place : (P : List ℕ → Type 0) (texts : List (List ℕ)) (place : ℕ) → AllByRecursion P texts → place < length texts → P (get_or texts place [])
 at-place P [] place all within = absurd (omega arith)

@@ -1,5 +1,5 @@
 -- What is told of the lines of a file of questions.
-use Rattle.std.specs.Prelude.{◌≡◌, ℕ, ◌==◌, ◌||◌, nat_lt, if◌then◌else◌, List, [], ◌∷◌, ◌++◌, map, take, drop, codes, Result, Ok, Err}
+use Rattle.std.specs.Prelude.{◌≡◌, ℕ, List, [], ◌∷◌, ◌++◌, take, drop, codes, Result, Ok, Err}
 use Rattle.std.specs.List.{flat_map, AllZip}
 use Rattle.authority_names.specs.Leads.{Table}
 use Rattle.catalogue_editions.specs.declared.history_entry.HistoryEntry.{HistoryEntry}
@@ -9,6 +9,7 @@ use Rattle.catalogue_query.specs.declared.query.Query.{Query}
 use Rattle.catalogue_query.specs.declared.query.QueryRefusal.{QueryRefusal}
 use Rattle.catalogue_query.specs.declared.query.QueryRefusal.TheVariants.{Unknown, Word as BadRest, Memory as QueryMemory}
 use Rattle.catalogue_query.specs.LineTexts.{IsAnswer, ended_lines, refused_unknown, refused_word}
+use Rattle.union_base.specs.OneLine.{shown}
 use Rattle.union_words.specs.Texts.{line_feed}
 use Rattle.union_watch.specs.AskLines.{AskLine}
 use Rattle.union_watch.specs.TurnLines.{six_digits}
@@ -17,14 +18,6 @@ use Rattle.union_watch.specs.TurnLines.{six_digits}
 pub data Told : Type 0 where
   Reply : (over : ℕ) (line answer : List ℕ) → Told
   Refused : (refusal : QueryRefusal) → Told
-
--- a blank for a control character, which could end a line
-abbrev pub shown_byte : ℕ → ℕ
-shown_byte b = (if nat_lt b 0x20 || (b == 0x7F) then 0x20 else b)
-
--- a line as it is shown
-abbrev pub shown : List ℕ → List ℕ
-shown line = map shown_byte line
 
 -- `reply T LINE`
 unfoldable pub reply_line : ℕ → List ℕ → List ℕ

@@ -5,7 +5,7 @@ use Rattle.catalogue_editions.specs.declared.batch.Batch.{Batch}
 use Rattle.catalogue_editions.specs.declared.history_entry.HistoryEntry.{HistoryEntry}
 pub use Rattle.catalogue_query.specs.LineTexts.{six_digits}
 use Rattle.library_batches.specs.Reports.{counted}
-use Rattle.union_words.specs.Alike.{is_text}
+use Rattle.union_base.specs.Alike.{same_text}
 use Rattle.union_words.specs.Texts.{line_feed}
 
 -- a line on a turn: its number, its library, and how many operations it had
@@ -47,7 +47,7 @@ dealt streams (place ∷ places) = first_entry place (streams place) ++ dealt (w
 
 -- the place of a library among these
 abbrev pub place_of : List (List ℕ) → List ℕ → ℕ
-place_of libraries library = position_or_len (is_text library) libraries
+place_of libraries library = position_or_len (same_text library) libraries
 
 -- the history that turn lines stand for, where the libraries of the command have these streams of batches: the line that is the
 -- nth with its library stands for the nth batch of that library's stream, under the library's place in the command

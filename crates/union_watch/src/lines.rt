@@ -3,7 +3,7 @@
 //! Each function appends its text to a buffer.
 ghost use Rattle.std.specs.Prelude.{◌≡◌, ◌++◌, OnOk};
 ghost use Rattle.union_watch.specs.AskLines.{line_meaning};
-ghost use Rattle.union_watch.specs.Told.{shown_byte, shown, reply_line, told_first, left_behind, told_text_of};
+ghost use Rattle.union_watch.specs.Told.{reply_line, told_first, left_behind, told_text_of};
 ghost use Rattle.union_watch.specs.TurnLines.{turn_of, turn_text};
 
 use crate::ask_line::AskLine;
@@ -12,6 +12,7 @@ use catalogue_query::answer::Answer;
 use catalogue_query::line_texts::{REFUSED_UNKNOWN, REFUSED_WORD, add_lines, add_six_digits};
 use library_batches::report_lines::add_counted;
 use std::alloc::AllocError;
+use union_base::one_line::add_shown;
 
 /// Adds `turn T LIB N`.
 pub fn add_turn_line(text: &mut Vec<u8>, turn: u64, entry: &HistoryEntry) -> Result<(), AllocError>
@@ -23,27 +24,6 @@ pub fn add_turn_line(text: &mut Vec<u8>, turn: u64, entry: &HistoryEntry) -> Res
     add_six_digits(text, turn)?;
     add_counted(text, batch.library.bytes(), count)?;
     text.push(b'\n')?;
-    Ok(())
-}
-
-/// A byte of a line as it is shown: a blank for a control character. Takes no memory.
-fn shown_byte(byte: u8) -> u8
-    ensures { result ≡ shown_byte byte }
-{
-    if byte < 0x20 || byte == 0x7F {
-        b' '
-    } else {
-        byte
-    }
-}
-
-/// Adds a line of the file, as it is shown.
-fn add_shown(text: &mut Vec<u8>, line: &[u8]) -> Result<(), AllocError>
-    ensures { OnOk result (text.new.items ≡ text.old.items ++ shown line.now) }
-{
-    for byte in line {
-        text.push(shown_byte(*byte))?;
-    }
     Ok(())
 }
 

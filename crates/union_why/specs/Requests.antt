@@ -3,7 +3,7 @@ use Rattle.std.specs.Prelude.{ℕ, ◌==◌, ◌&&◌, nat_le, Bool, List, [], �
 use Rattle.std.specs.List.{list_all, before_first, position_or_len}
 use Rattle.union_base.specs.LibraryCodes.{is_library_code}
 use Rattle.union_words.specs.Meanings.{libraries_meaning}
-use Rattle.union_words.specs.Words.{LibraryFile, is_text, are_libraries, libraries_of}
+use Rattle.union_words.specs.Words.{LibraryFile, alone_of, same_text, are_libraries, libraries_of}
 use Rattle.union_why.specs.declared.request.Request.{Request as RequestInPlace}
 use Rattle.union_why.specs.declared.request.Request.TheVariants.{Why as WhyInPlace, Fields as FieldsInPlace, Help as HelpInPlace, Version as VersionInPlace}
 
@@ -51,16 +51,11 @@ fields_of words =
     then Some (Fields (libraries_of (take (library_count words) words)) (drop (library_count words) words))
     else None)
 
--- a word that stands alone
-abbrev pub alone_of : Request → List (List ℕ) → Option Request
-alone_of request [] = Some request
-alone_of request (word ∷ rest) = None
-
 -- what the words after the program's name ask for
 abbrev pub request_of : List (List ℕ) → Option Request
 request_of [] = None
 request_of (word ∷ rest) =
-    (if is_text word (codes "--help") then alone_of Help rest
-    else (if is_text word (codes "--version") then alone_of Version rest
-    else (if is_text word (codes "--fields") then fields_of rest
+    (if same_text word (codes "--help") then alone_of Help rest
+    else (if same_text word (codes "--version") then alone_of Version rest
+    else (if same_text word (codes "--fields") then fields_of rest
     else why_of (word ∷ rest))))

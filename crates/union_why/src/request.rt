@@ -3,7 +3,8 @@ ghost use Rattle.std.specs.Prelude.{◌≡◌, ◌≤◌, IfOk, length, position
 ghost use Rattle.std.specs.List.{list_all};
 ghost use Rattle.std.specs.Option.{option_map};
 ghost use Rattle.union_keys.specs.Groups.{id_in};
-ghost use Rattle.union_why.specs.Requests.{request_meaning, alone_of, why_of, fields_of, request_of};
+ghost use Rattle.union_why.specs.Requests.{request_meaning, why_of, fields_of, request_of};
+ghost use Rattle.union_words.specs.Words.{alone_of};
 ghost use Rattle.union_why.specs.Requests.{is_id_word, are_ids, is_one_id, library_count};
 
 use crate::words::{after, before};

@@ -1,4 +1,3 @@
-pub mod Alike
 pub mod Flows
 pub mod Lines
 pub mod Meanings

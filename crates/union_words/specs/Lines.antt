@@ -1,11 +1,11 @@
 -- The lines of a script or of a file of questions.
 use Rattle.std.specs.Prelude.{ℕ, ◌-◌, Bool, true, not, ◌==◌, List, [], ◌∷◌, length, take, drop, map, filter, Option, Some, None, if◌then◌else◌}
 use Rattle.std.specs.List.{slice_split}
-use Rattle.union_words.specs.Words.{is_text}
+use Rattle.union_words.specs.Words.{same_text}
 
 -- a line without the carriage return at its end
 abbrev pub without_return : List ℕ → List ℕ
-without_return line = (if is_text (drop (length line - 1) line) (0x0D ∷ []) then take (length line - 1) line else line)
+without_return line = (if same_text (drop (length line - 1) line) (0x0D ∷ []) then take (length line - 1) line else line)
 
 -- the lines of a text: each ends at a line feed or at the end of the text, so nothing after the last line feed is an
 -- empty line

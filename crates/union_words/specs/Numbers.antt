@@ -4,7 +4,7 @@ use Rattle.std.specs.List.{list_all}
 use Rattle.std.specs.Option.{option_and_then}
 use Rattle.std.specs.Char.{is_ascii_digit}
 use Rattle.std.specs.Str.Parse.{digits_value}
-use Rattle.union_words.specs.Alike.{is_text}
+use Rattle.union_base.specs.Alike.{same_text}
 
 -- a zero stands before another digit
 abbrev pub has_leading_zero : List ℕ → Bool
@@ -47,7 +47,7 @@ seed_of text = number_within 0 (2 ^ 64 - 1) text
 
 -- what stands after the name of an option, where the word begins with it
 abbrev pub option_text : List ℕ → List ℕ → Option (List ℕ)
-option_text name word = (if is_text (take (length name) word) name then Some (drop (length name) word) else None)
+option_text name word = (if same_text (take (length name) word) name then Some (drop (length name) word) else None)
 
 -- a word `--workers=N`
 abbrev pub workers_word : List ℕ → Option ℕ

@@ -1,8 +1,8 @@
 -- What a line of a script asks for.
-use Rattle.std.specs.Prelude.{ℕ, Bool, false, ◌&&◌, ◌==◌, List, [], ◌∷◌, if◌then◌else◌, codes}
-use Rattle.std.specs.List.{before_first, after_first}
+use Rattle.std.specs.Prelude.{ℕ, Bool, false, ◌&&◌, List, [], ◌∷◌, if◌then◌else◌, codes}
+use Rattle.union_base.specs.Blanks.{first_word, rest_of}
 use Rattle.union_base.specs.LibraryCodes.{is_library_code}
-use Rattle.union_words.specs.Words.{LibraryFile, is_text, is_path}
+use Rattle.union_words.specs.Words.{LibraryFile, same_text, is_path}
 
 -- what a line asks for: to load a library's file, the export, the works, that the turns of later loads are told, or what the
 -- line itself asks of the catalogue. A load says whether its turns are told, which they are not where it stands alone. `Word` is
@@ -14,18 +14,6 @@ pub data ScriptLine : Type 0 where
   Notices : ScriptLine
   Ask : (line : List ℕ) → ScriptLine
   Word : ScriptLine
-
--- a blank
-abbrev pub is_blank : ℕ → Bool
-is_blank b = b == 0x20
-
--- up to the first blank, or to the end
-abbrev pub first_word : List ℕ → List ℕ
-first_word line = before_first is_blank line
-
--- after the first blank: nothing where there is none
-abbrev pub rest_of : List ℕ → List ℕ
-rest_of line = after_first is_blank line
 
 -- after `load` a library code, one blank, and a path, which is all the rest
 abbrev pub load_line : List ℕ → ScriptLine
@@ -41,7 +29,7 @@ lone_line wanted (b ∷ rest) = Word
 -- what a line of a script asks for
 abbrev pub script_line : List ℕ → ScriptLine
 script_line line =
-    (if is_text (first_word line) (codes "load") then load_line (rest_of line)
-    else (if is_text (first_word line) (codes "export") then lone_line Export (rest_of line)
-    else (if is_text (first_word line) (codes "works") then lone_line Works (rest_of line)
-    else (if is_text (first_word line) (codes "notices") then lone_line Notices (rest_of line) else Ask line))))
+    (if same_text (first_word line) (codes "load") then load_line (rest_of line)
+    else (if same_text (first_word line) (codes "export") then lone_line Export (rest_of line)
+    else (if same_text (first_word line) (codes "works") then lone_line Works (rest_of line)
+    else (if same_text (first_word line) (codes "notices") then lone_line Notices (rest_of line) else Ask line))))

@@ -1,5 +1,5 @@
 -- For which causes a run stops at an input that it reads: which of its files was at fault, or is too long, or that memory ran out.
-use Rattle.std.specs.Prelude.{◌≡◌, ℕ, ◌<◌, ◌⊎◌, List, [], ◌∷◌, length, map, IfSome}
+use Rattle.std.specs.Prelude.{◌≡◌, ℕ, ◌<◌, ◌^◌, ◌⊎◌, List, [], ◌∷◌, length, map, IfSome}
 use Rattle.union_words.specs.Flows.{ShelfFlow, IsCalm, InputFile, FailsAt}
 use Rattle.union_words.specs.Words.{LibraryFile}
 use Rattle.union_words.specs.declared.input.Input.{Input}
@@ -9,10 +9,10 @@ use Rattle.union_words.specs.declared.status.Status.TheVariants.{Done, DoneWithR
 
 -- the most bytes that are read of an input: 2^40 of a library's file or a file of names, and 2^20 of a script or a file of questions
 abbrev pub limit_of : Input → ℕ
-limit_of (Library code) = 1099511627776
-limit_of Asks = 1048576
-limit_of Script = 1048576
-limit_of Names = 1099511627776
+limit_of (Library code) = 2 ^ 40
+limit_of Asks = 2 ^ 20
+limit_of Script = 2 ^ 20
+limit_of Names = 2 ^ 40
 
 -- the input that is a library's file
 abbrev pub input_of : LibraryFile → InputFile

@@ -9,7 +9,7 @@ use Rattle.union_words.specs.Numbers.{option_text, workers_word, seed_of, count_
 use Rattle.union_words.specs.declared.form.Exporting.{Exporting}
 use Rattle.union_words.specs.declared.form.Form.{Form}
 use Rattle.union_words.specs.declared.form.Form.TheVariants.{Iso2709, Json}
-pub use Rattle.union_words.specs.Alike.{is_text}
+pub use Rattle.union_base.specs.Alike.{same_text}
 
 -- a library and the path of its file
 pub record LibraryFile : Type 0 where
@@ -23,6 +23,11 @@ pub record Loading : Type 0 where
   pub prefer : List (List ℕ)
   pub names : Option (List ℕ)
   pub libraries : List LibraryFile
+
+-- what a word asks for that stands alone
+abbrev pub alone_of : {R : Type 0} → R → List (List ℕ) → Option R
+alone_of request [] = Some request
+alone_of request (word ∷ rest) = None
 
 -- what the words ask for
 pub data Job : Type 0 where
@@ -74,7 +79,7 @@ library_of word = record { library = code_text word; path = path_text word }
 
 -- the two words name one library
 abbrev pub name_one_library : List ℕ → List ℕ → Bool
-name_one_library a b = is_text (code_text a) (code_text b)
+name_one_library a b = same_text (code_text a) (code_text b)
 
 -- no library is named twice
 abbrev pub have_distinct_codes : List (List ℕ) → Bool
@@ -176,7 +181,7 @@ options_in words = named_options (workers_in words).0 (prefer_in (workers_in wor
 
 -- the word that asks for MARC in JSON
 abbrev pub is_json_word : List ℕ → Bool
-is_json_word word = is_text word (codes "--json")
+is_json_word word = same_text word (codes "--json")
 
 -- the form of an export, by a first word `--json` where there is one, and the words after it
 abbrev pub form_in : List (List ℕ) → Form × List (List ℕ)
@@ -185,7 +190,7 @@ form_in (word ∷ rest) = (if is_json_word word then (Json, rest) else (Iso2709,
 
 -- the word by which local fields tell whose they are
 abbrev pub is_owners_word : List ℕ → Bool
-is_owners_word word = is_text word (codes "--owners")
+is_owners_word word = same_text word (codes "--owners")
 
 -- whether they do, by a first word `--owners` where there is one, and the words after it
 abbrev pub owners_in : List (List ℕ) → Bool × List (List ℕ)
@@ -271,21 +276,21 @@ trial_job (seed ∷ count ∷ workers ∷ more ∷ rest) = None
 -- what a word that stands alone asks for
 abbrev pub lone_job : List ℕ → Option Job
 lone_job word =
-    (if is_text word (codes "--help") then Some Help
-    else (if is_text word (codes "--version") then Some Version else None))
+    (if same_text word (codes "--help") then Some Help
+    else (if same_text word (codes "--version") then Some Version else None))
 
 -- what a command with words after it asks for
 abbrev pub command_job : List ℕ → List (List ℕ) → Option Job
 command_job command words =
-    (if is_text command (codes "check") then check_job words
-    else (if is_text command (codes "tojson") then to_json_job words
-    else (if is_text command (codes "fromjson") then from_json_job words
-    else (if is_text command (codes "export") then export_job words
-    else (if is_text command (codes "works") then works_job words
-    else (if is_text command (codes "watch") then watch_job words
-    else (if is_text command (codes "follow") then follow_job words
-    else (if is_text command (codes "script") then script_job words
-    else (if is_text command (codes "trial") then trial_job words else None)))))))))
+    (if same_text command (codes "check") then check_job words
+    else (if same_text command (codes "tojson") then to_json_job words
+    else (if same_text command (codes "fromjson") then from_json_job words
+    else (if same_text command (codes "export") then export_job words
+    else (if same_text command (codes "works") then works_job words
+    else (if same_text command (codes "watch") then watch_job words
+    else (if same_text command (codes "follow") then follow_job words
+    else (if same_text command (codes "script") then script_job words
+    else (if same_text command (codes "trial") then trial_job words else None)))))))))
 
 -- what the words after the program's name ask for: None where they are in no form that the program has
 abbrev pub job_of : List (List ℕ) → Option Job

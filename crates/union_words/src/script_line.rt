@@ -1,12 +1,11 @@
 //! One line of a script.
 ghost use Rattle.std.specs.Prelude.{◌≡◌};
-ghost use Rattle.std.specs.List.{before_first, after_first};
 ghost use Rattle.union_words.specs.Meanings.{line_meaning};
 ghost use Rattle.union_words.specs.ScriptLines as lines;
-ghost use Rattle.union_words.specs.ScriptLines.{is_blank, load_line, lone_line, script_line};
+ghost use Rattle.union_words.specs.ScriptLines.{load_line, lone_line, script_line};
 
 use crate::library_file::{LibraryFile, is_path};
-use memchr::memchr;
+use union_base::blanks::cut_at_blank;
 use union_base::library_code::LibraryCode;
 
 /// What a line of a script asks for. It borrows the line.
@@ -93,16 +92,5 @@ fn notices_line(rest: &[u8]) -> ScriptLine<'_>
     match rest {
         [] => ScriptLine::Notices,
         _ => ScriptLine::Word,
-    }
-}
-
-/// What stands before the first blank of the text and what stands after it: all of it and nothing where there is no blank.
-fn cut_at_blank(text: &[u8]) -> (&[u8], &[u8])
-    ensures before { result.0.now ≡ before_first is_blank text.now }
-    ensures behind { result.1.now ≡ after_first is_blank text.now }
-{
-    match memchr(b' ', text) {
-        Some(at) => (text.split_at(at).0, text.split_at(at + 1).1),
-        None => (text, &[]),
     }
 }

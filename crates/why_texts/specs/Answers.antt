@@ -1,7 +1,7 @@
 -- What is told of one record, and of two, as text.
-use Rattle.std.specs.Prelude.{ℕ, List, ◌++◌, codes, length, filter}
+pub use Rattle.edition_sources.specs.Members.{members}
+use Rattle.std.specs.Prelude.{ℕ, List, ◌++◌, codes, length}
 use Rattle.union_base.specs.declared.record_id.RecordId.{RecordId}
-use Rattle.catalogue_editions.specs.Matching.{match}
 use Rattle.catalogue_editions.specs.declared.edition.Edition.{Edition}
 use Rattle.edition_derivations.specs.declared.asking.Answer.{Answer}
 use Rattle.edition_derivations.specs.declared.asking.Answer.TheVariants.{Same, Apart}
@@ -13,10 +13,6 @@ use Rattle.why_texts.specs.Differences.{differences_text}
 -- how many records the edition has
 abbrev pub size_text : Edition → List ℕ
 size_text e = count_text (length e.content.contributors)
-
--- of the records to which a resolution belongs, those of one of its editions: they match it
-abbrev pub members : List Edition → Edition → List Edition
-members records e = filter (λ r. match r e) records
 
 -- the record's edition, and the steps by which its records came together
 unfoldable pub alone_text : RecordId → Edition → List Edition → List Step → List ℕ

@@ -1,18 +1,11 @@
 -- Fields of records as text.
-use Rattle.std.specs.Prelude.{ℕ, ◌==◌, ◌||◌, nat_lt, if◌then◌else◌, List, ◌∷◌, ◌++◌, codes, map}
+use Rattle.std.specs.Prelude.{ℕ, List, ◌∷◌, ◌++◌, codes}
 use Rattle.std.specs.List.{flat_map}
 use Rattle.union_base.specs.Bodies.{Subfield, Body, Control, Data}
+use Rattle.union_base.specs.OneLine.{shown}
 use Rattle.union_base.specs.declared.field.Field.{Field}
 use Rattle.union_base.specs.declared.record_id.RecordId.{RecordId}
 use Rattle.why_texts.specs.Ids.{id_text}
-
--- a byte of a text: a blank in place of a control character
-abbrev pub shown_byte : ℕ → ℕ
-shown_byte b = (if nat_lt b 0x20 || (b == 0x7F) then 0x20 else b)
-
--- a text on one line
-abbrev pub shown : List ℕ → List ℕ
-shown text = map shown_byte text
 
 -- a dollar sign, a subfield's code, and its text
 abbrev pub subfield_text : Subfield → List ℕ

@@ -2,6 +2,7 @@
 use Rattle.std.specs.Prelude.{ℕ, if◌then◌else◌, List, [], ◌∷◌, ◌++◌, codes, map, Option, Some, None}
 use Rattle.std.specs.List.{flat_map}
 use Rattle.std.specs.Ordering.{is_eq}
+use Rattle.union_base.specs.OneLine.{shown}
 use Rattle.union_base.specs.declared.field.Field.{Field}
 use Rattle.union_base.specs.declared.record_id.RecordId.{RecordId}
 use Rattle.field_merge.specs.Orders.{rank_cmp}
@@ -15,7 +16,7 @@ use Rattle.edition_sources.specs.declared.ranking.Reason.{Reason}
 use Rattle.edition_sources.specs.declared.ranking.Reason.TheVariants.{Preference, Encoding, Date, Id}
 use Rattle.why_texts.specs.Ids.{id_text, ids_text}
 use Rattle.why_texts.specs.Answers.{size_text}
-use Rattle.why_texts.specs.FieldTexts.{shown, body_text}
+use Rattle.why_texts.specs.FieldTexts.{body_text}
 use Rattle.why_texts.specs.Reasons.{of_some}
 
 -- by what one record's field is shown and not another's

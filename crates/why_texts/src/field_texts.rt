@@ -1,36 +1,16 @@
 //! Fields of records as text.
 ghost use Rattle.std.specs.Prelude.{◌≡◌, ◌++◌, OnOk};
 ghost use Rattle.std.specs.List.{flat_map};
-ghost use Rattle.why_texts.specs.FieldTexts.{shown_byte, shown, subfield_text, body_text, place_text, field_text};
+ghost use Rattle.why_texts.specs.FieldTexts.{subfield_text, body_text, place_text, field_text};
 
 use crate::ids::add_id;
 use std::alloc::AllocError;
 use union_base::body::{Body, Parts};
 use union_base::field::Field;
+use union_base::one_line::add_shown;
 use union_base::record_id::RecordId;
 use union_base::subfield::Subfield;
 use union_base::subfields::Subfields;
-
-/// The byte of a text: a blank in place of a control character.
-fn shown_byte(byte: u8) -> u8
-    ensures { result ≡ shown_byte byte }
-{
-    if byte < 0x20 || byte == 0x7F {
-        b' '
-    } else {
-        byte
-    }
-}
-
-/// Adds a text, on one line.
-pub fn add_shown(text: &mut Vec<u8>, bytes: &[u8]) -> Result<(), AllocError>
-    ensures { OnOk result (text.new.items ≡ text.old.items ++ shown bytes.now) }
-{
-    for byte in bytes {
-        text.push(shown_byte(*byte))?;
-    }
-    Ok(())
-}
 
 /// Adds a dollar sign, the subfield's code and its text.
 fn add_subfield(text: &mut Vec<u8>, subfield: &Subfield<'_>) -> Result<(), AllocError>

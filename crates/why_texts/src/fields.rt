@@ -8,7 +8,7 @@ ghost use Rattle.why_texts.specs.Fields.{reason_name, rank_text, other_text, oth
 ghost use Rattle.why_texts.specs.Fields.{parts_text, having_text, united_text, contents_of, content_text, fields_text};
 
 use crate::answers::add_size;
-use crate::field_texts::{add_body, add_shown};
+use crate::field_texts::add_body;
 use crate::ids::{add_id, add_ids};
 use catalogue_editions::edition::Edition;
 use catalogue_editions::shared_content::SharedContent;
@@ -19,6 +19,7 @@ use field_merge::rank::Rank;
 use std::alloc::{AllocError, Global};
 use union_base::field::Field;
 use union_base::memory::Memory;
+use union_base::one_line::add_shown;
 use union_base::record_id::RecordId;
 
 /// By what one record's field is shown and not another's.

@@ -12,7 +12,7 @@ use Rattle.naco_normal.specs.declared.form.Comma.{Comma}
 use Rattle.naco_normal.specs.declared.form.Comma.TheVariants.{First, None as NoComma}
 use Rattle.naco_normal.specs.Normal.{Mark, comma_sign, is_letter_or_number, is_kept, kept_marked, first_comma_marked, comma_marked, others_blank, letters, normal_form}
 use Rattle.naco_normal.specs.Words.{joined_words, joined}
-use Rattle.union_base.specs.Trimmed.{blank}
+use Rattle.union_base.specs.Blanks.{blank}
 use Rattle.naco_normal.proofs.WordsLemmas.{joined_words-cons}
 use Rattle.naco_normal.specs.Heading.{chosen, main_code, part_forms, form_with_comma, form_without_comma, form_skipping, skipped, heading_of, title_of}
 use Rattle.ucd_category.proofs.Computing.{ucd_category}

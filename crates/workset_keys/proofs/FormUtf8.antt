@@ -9,7 +9,7 @@ use Rattle.union_base.specs.Both.{both_true, true_both}
 use Rattle.union_base.specs.Bodies.{Subfield}
 use Rattle.naco_normal.specs.declared.form.Comma.TheVariants.{First, None as NoComma}
 use Rattle.naco_normal.specs.Words.{joined_words}
-use Rattle.union_base.specs.Trimmed.{blank}
+use Rattle.union_base.specs.Blanks.{blank}
 use Rattle.naco_normal.specs.Heading.{chosen, main_code, part_forms, form_with_comma, form_without_comma, form_skipping, skipped, heading_of, title_of}
 use Rattle.workset_keys.proofs.FormLetters.{joined_words-all, utf8-form}
 

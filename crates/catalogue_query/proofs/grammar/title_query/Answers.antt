@@ -2,7 +2,7 @@ use Rattle.std.proofs.Common.{◌==◌, length, sym, ap, ◌∙◌}
 use Rattle.std.specs.Str.{is_utf8}
 use Rattle.std.proofs.lemmas.Str.{IsUtf8-from_is_utf8, is_utf8-from_IsUtf8}
 use Rattle.naco_normal.specs.Heading.{form_without_comma}
-use Rattle.catalogue_query.proofs.CutLaws.{false_of}
+use Rattle.union_base.proofs.BlankLaws.{false_of}
 use Rattle.catalogue_query.proofs.TitleLaws.{title_found, title_missing}
 use Rattle.catalogue_query.proofs.grammar.title_query.Goals as goal
 

@@ -1,6 +1,6 @@
 use Rattle.std.proofs.Common.{◌≡◌, length}
-use Rattle.union_base.specs.Trimmed.{trim_start}
-use Rattle.union_base.proofs.trimming.trimmed_start.Given as goal
+use Rattle.union_base.specs.Blanks.{trim_start}
+use Rattle.union_base.proofs.blanks.trimmed_start.Given as goal
 
 abbrev pub invariant-loop-first : goal.invariant-loop-first
 invariant-loop-first l = trim_start l.text ≡ trim_start l.rest

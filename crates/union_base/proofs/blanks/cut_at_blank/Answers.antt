@@ -1,9 +1,9 @@
 use Rattle.std.proofs.Common.{◌+◌, take, drop, take_all, sym, ap, ◌∙◌, arith}
 use Rattle.std.proofs.lemmas.List.{drop_all}
 use Rattle.std.specs.List.{position_or_len}
-use Rattle.catalogue_query.specs.Queries.{is_blank}
-use Rattle.catalogue_query.proofs.CutLaws.{blank_at, no_blank}
-use Rattle.catalogue_query.proofs.word.cut_at_blank.Goals as goal
+use Rattle.union_base.specs.Blanks.{is_blank}
+use Rattle.union_base.proofs.BlankLaws.{blank_at, no_blank}
+use Rattle.union_base.proofs.blanks.cut_at_blank.Goals as goal
 
 pub returns-in-Some-clause-before : goal.returns-in-Some-clause-before
 returns-in-Some-clause-before c =

@@ -1,6 +1,6 @@
 use Rattle.std.proofs.Common.{◌≡◌, length}
-use Rattle.union_base.specs.Trimmed.{trim_end}
-use Rattle.union_base.proofs.trimming.trimmed_end.Given as goal
+use Rattle.union_base.specs.Blanks.{trim_end}
+use Rattle.union_base.proofs.blanks.trimmed_end.Given as goal
 
 abbrev pub invariant-loop-last : goal.invariant-loop-last
 invariant-loop-last l = trim_end l.text ≡ trim_end l.rest

@@ -1,6 +1,9 @@
-//! Texts without the blanks at their ends.
+//! Texts cut at a blank, or without the blanks at their ends.
 ghost use Rattle.std.specs.Prelude.{◌≡◌};
-ghost use Rattle.union_base.specs.Trimmed.{trim_start, trim_end, trimmed};
+ghost use Rattle.std.specs.List.{before_first, after_first};
+ghost use Rattle.union_base.specs.Blanks.{is_blank, trim_start, trim_end, trimmed};
+
+use memchr::memchr;
 
 /// The text without the blanks (0x20) at its ends. Takes no memory.
 pub fn trimmed(text: &[u8]) -> &[u8]
@@ -35,4 +38,16 @@ fn trimmed_end(text: &[u8]) -> &[u8]
         rest = before;
     }
     rest
+}
+
+/// What stands before the first blank of the text and what stands after it: all of it and nothing where there is no blank.
+/// Takes no memory.
+pub fn cut_at_blank(text: &[u8]) -> (&[u8], &[u8])
+    ensures before { result.0.now ≡ before_first is_blank text.now }
+    ensures behind { result.1.now ≡ after_first is_blank text.now }
+{
+    match memchr(b' ', text) {
+        Some(at) => (text.split_at(at).0, text.split_at(at + 1).1),
+        None => (text, &[]),
+    }
 }

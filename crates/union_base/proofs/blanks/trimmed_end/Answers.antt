@@ -1,7 +1,7 @@
 use Rattle.std.proofs.Common.{◌∙◌, sym, ap}
-use Rattle.union_base.specs.Trimmed.{trim_end}
+use Rattle.union_base.specs.Blanks.{trim_end}
 use Rattle.union_base.proofs.TrimLaws.{trim_end-kept, trim_end-blank}
-use Rattle.union_base.proofs.trimming.trimmed_end.Goals as goal
+use Rattle.union_base.proofs.blanks.trimmed_end.Goals as goal
 
 pub returns-then-last-ne32 : goal.returns-then-last-ne32
 returns-then-last-ne32 c =

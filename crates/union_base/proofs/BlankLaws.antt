@@ -2,7 +2,7 @@
 use Rattle.std.proofs.Common.{◌≡◌, ◌<◌, ℕ, Bool, true, false, List, length, get_or, arith, refl}
 use Rattle.std.specs.List.{position_or_len}
 use Rattle.std.proofs.lemmas.List.Sums.{position_or_len_is}
-use Rattle.catalogue_query.specs.Queries.{is_blank}
+use Rattle.union_base.specs.Blanks.{is_blank}
 
 -- what is not true is false
 pub false_of : (b : Bool) → (b ≡ true → ⊥) → b ≡ false

@@ -1,9 +1,21 @@
--- Texts without the blanks at their ends. A blank is the byte 0x20 and no other.
-use Rattle.std.specs.Prelude.{ℕ, ◌==◌, List, [], ◌∷◌, if◌then◌else◌}
+-- Texts cut at a blank, or without the blanks at their ends. A blank is the byte 0x20 and no other.
+use Rattle.std.specs.Prelude.{ℕ, ◌==◌, Bool, List, [], ◌∷◌, if◌then◌else◌}
+use Rattle.std.specs.List.{before_first, after_first}
 
 -- a blank
 abbrev pub blank : ℕ
 blank = 0x20
+
+abbrev pub is_blank : ℕ → Bool
+is_blank b = b == blank
+
+-- up to the first blank, or to the end
+abbrev pub first_word : List ℕ → List ℕ
+first_word line = before_first is_blank line
+
+-- after the first blank: nothing where there is none
+abbrev pub rest_of : List ℕ → List ℕ
+rest_of line = after_first is_blank line
 
 -- the text without the blanks at its start
 abbrev pub trim_start : List ℕ → List ℕ
