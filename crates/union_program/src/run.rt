@@ -43,7 +43,7 @@ use union_trial::trial::trial_run;
 use union_watch::notes::put_early;
 use union_watch::shelved::check_file;
 use union_watch::showing::write_shown;
-use union_watch::shown::Shown;
+use union_watch::shown::{Shown, ShownBy};
 use union_watch::watching::{read_asks, write_answered};
 use union_words::job::Job;
 use union_words::libraries::Libraries;
@@ -218,9 +218,9 @@ fn run_union<R: Threads + Wait + Sync, F: Shelf, O: Sink, N: Sink, G: Gate>(
             let none = Questions::none(host.alloc);
             match load_by_names(host, loading, names, none, shelf) {
                 Ok(watched) => {
-                    let loaded = watched.loaded;
                     let workers = loading.workers;
-                    write_shown(host.rt, host.alloc, shown, workers, loaded, out, notes)
+                    let by = ShownBy { shown, workers };
+                    write_shown(host.rt, host.alloc, by, watched.loaded, out, notes)
                 }
                 Err(status) => end(notes, status),
             }

@@ -7,10 +7,10 @@ ghost use Rattle.catalogue_core.specs.Histories.{AreEditionsOf};
 ghost use Rattle.catalogue_editions.specs.declared.edition.Edition.{Edition as EditionModel};
 ghost use Rattle.catalogue_export.specs.Sources.{left_of};
 ghost use Rattle.catalogue_export.specs.Writing.{HasWritten, outflow};
-ghost use Rattle.union_watch.specs.Runs.{exported_as, listed, showing_of, shown_by, sources_of, IsReported, Shows};
+ghost use Rattle.union_watch.specs.Runs.{listed, showing_of, shown_by, sources_of, IsReported, Shows};
 
 use crate::notes::put_early;
-use crate::shown::Shown;
+use crate::shown::{Shown, ShownBy};
 use catalogue_export::by_workers::{export_by_workers, owners_by_workers};
 use catalogue_export::export_fail::ExportFail;
 use catalogue_export::form::{ExportForm, Iso2709};
@@ -194,17 +194,16 @@ fn write_works<R: Threads + Sync, O: Sink, N: Sink>(
     }
 }
 
-/// Writes what is to be shown of the catalogue, and the reports. The records of an export are made by `workers` workers.
+/// Writes what is to be shown of the catalogue, and the reports.
 pub fn write_shown<R: Threads + Sync, O: Sink, N: Sink>(
     rt: &R,
     alloc: Global,
-    shown: Shown,
-    workers: Workers,
+    by: ShownBy,
     loaded: Loaded,
     out: &mut O,
     notes: &mut N,
 ) -> Status
-    ensures { Shows (showing_of shown) loaded
+    ensures { Shows (showing_of by.shown) loaded
         (record {
           old = O.written out.old;
           new = O.written out.new;
@@ -220,44 +219,19 @@ pub fn write_shown<R: Threads + Sync, O: Sink, N: Sink>(
         })
         result }
 {
-    match shown {
-        Shown::Export(exporting) => {
-            write_exporting(rt, alloc, exporting, workers, loaded, out, notes)
+    let workers = by.workers;
+    match by.shown {
+        Shown::Export(Exporting { form, owners }) => {
+            let making = Making { workers, owners };
+            match form {
+                Form::Iso2709 => {
+                    write_export::<R, Iso2709, O, N>(rt, alloc, making, loaded, out, notes)
+                }
+                Form::Json => {
+                    write_export::<R, JsonLines, O, N>(rt, alloc, making, loaded, out, notes)
+                }
+            }
         }
         Shown::Works => write_works(rt, alloc, workers, loaded, out, notes),
-    }
-}
-
-/// Writes the export in this way, and the reports. Its records are made by `workers` workers.
-fn write_exporting<R: Threads + Sync, O: Sink, N: Sink>(
-    rt: &R,
-    alloc: Global,
-    exporting: Exporting,
-    workers: Workers,
-    loaded: Loaded,
-    out: &mut O,
-    notes: &mut N,
-) -> Status
-    ensures { Shows (exported_as exporting) loaded
-        (record {
-          old = O.written out.old;
-          new = O.written out.new;
-          before = O.faults out.old;
-          after
-              = O.faults out.new;
-        })
-        (record {
-          old = N.written notes.old;
-          new = N.written notes.new;
-          before = N.faults notes.old;
-          after = N.faults notes.new;
-        })
-        result }
-{
-    let owners = exporting.owners;
-    let making = Making { workers, owners };
-    match exporting.form {
-        Form::Iso2709 => write_export::<R, Iso2709, O, N>(rt, alloc, making, loaded, out, notes),
-        Form::Json => write_export::<R, JsonLines, O, N>(rt, alloc, making, loaded, out, notes),
     }
 }
