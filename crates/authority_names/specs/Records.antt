@@ -7,7 +7,7 @@ use Rattle.union_base.specs.declared.field.Field.{Field}
 use Rattle.marc_parts.specs.declared.marc_record.Record.{Record}
 use Rattle.marc_parts.specs.Loads.{is_plain, is_utf8_field}
 use Rattle.marc_parts.specs.Parts.{has_tag}
-use Rattle.naco_normal.specs.Words.{where_not_empty}
+use Rattle.naco_normal.specs.Words.{is_empty, where_not_empty}
 use Rattle.workset_keys.specs.Names.{name_of}
 use Rattle.authority_names.specs.Names.{Authority, authority}
 use Rattle.authority_names.specs.declared.refusal.NameRefusal.{NameRefusal}

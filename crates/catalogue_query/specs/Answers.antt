@@ -4,10 +4,9 @@ use Rattle.std.specs.Prelude.{ℕ, ◌&&◌, Bool, false, List, [], ◌∷◌, �
 use Rattle.std.specs.List.{list_any}
 use Rattle.std.specs.Option.{option_map_or}
 use Rattle.std.specs.Map.{values_of}
-use Rattle.union_base.specs.SortedLists.{has, set_of}
+use Rattle.union_base.specs.SortedLists.{set_of}
 use Rattle.union_base.specs.declared.record_id.RecordId.{RecordId}
 use Rattle.match_features.specs.Kept.{texts_cmp}
-use Rattle.union_base.specs.RecordIds.{id_cmp}
 use Rattle.holdings_book.specs.Holdings.{holdings_of}
 use Rattle.catalogue_core.specs.Ids.{least}
 use Rattle.catalogue_core.specs.EditionKeys.{work_key_by}

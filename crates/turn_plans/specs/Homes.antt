@@ -1,8 +1,6 @@
 -- Where the current records of a catalogue are found.
-use Rattle.std.specs.Prelude.{◌≡◌, ℕ, Bool, IsTrue, List, Option, Some}
-use Rattle.union_base.specs.SortedLists.{has}
+use Rattle.std.specs.Prelude.{◌≡◌, ℕ, IsTrue, List, Option, Some}
 use Rattle.union_base.specs.declared.record_id.RecordId.{RecordId}
-use Rattle.union_base.specs.RecordIds.{id_cmp}
 use Rattle.swoosh_resolver.specs.Tables.{Entry, block_at}
 use Rattle.turn_plans.specs.Histories.{MapOf, at_id}
 use Rattle.turn_plans.specs.Keeping.{map_values}
