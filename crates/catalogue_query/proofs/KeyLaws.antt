@@ -18,12 +18,12 @@ use Rattle.union_base.specs.Alike.{same_text}
 use Rattle.catalogue_query.specs.Lines.{edition_line}
 use Rattle.catalogue_query.specs.Answers.{stands_in, pair_stands_in, is_asked, told, told_of_all}
 use Rattle.catalogue_query.specs.declared.query.Query.TheVariants.{Isbn, Issn, Control, Title}
-use Rattle.catalogue_query.proofs.WorkLaws.{same_text}
+use Rattle.catalogue_query.proofs.WorkLaws.{key-same_text}
 
 text-stands : (text : List ℕ) (texts : List (List ℕ)) → has texts_cmp texts text ≡ stands_in text texts
 text-stands text [] = refl
 text-stands text (held ∷ texts) =
-    ap (λ b. b || has texts_cmp texts text) (same_text text held) ∙ ap (λ b. same_text held text || b) (text-stands text texts)
+    ap (λ b. b || has texts_cmp texts text) (key-same_text text held) ∙ ap (λ b. same_text held text || b) (text-stands text texts)
 
 both-equal : (r s : Ordering) → is_eq (ordering_then r s) ≡ (is_eq r && is_eq s)
 both-equal Less s = refl
@@ -35,7 +35,7 @@ pair-stands source number [] = refl
 pair-stands source number (pair ∷ pairs) =
     ap (λ b. b || has pairs_cmp pairs (source, number))
     (both-equal (texts_cmp source pair.0) (texts_cmp number pair.1)
-    ∙ ap (λ b. b && is_eq (texts_cmp number pair.1)) (same_text source pair.0) ∙ ap (λ b. same_text pair.0 source && b) (same_text number pair.1))
+    ∙ ap (λ b. b && is_eq (texts_cmp number pair.1)) (key-same_text source pair.0) ∙ ap (λ b. same_text pair.0 source && b) (key-same_text number pair.1))
     ∙ ap (λ b. (same_text pair.0 source && same_text pair.1 number) || b) (pair-stands source number pairs)
 
 -- an edition of which only its line is told

@@ -24,8 +24,8 @@ use Rattle.catalogue_query.specs.Answers.{is_asked, told, told_of_all, work_keys
 use Rattle.catalogue_query.specs.declared.query.Query.TheVariants.{Work}
 
 -- a key is a text where the two are equal, byte by byte
-pub same_text : (key text : List ℕ) → is_key key text ≡ same_text text key
-same_text key text =
+pub key-same_text : (key text : List ℕ) → is_key key text ≡ same_text text key
+key-same_text key text =
     ap is_eq (key_total.antisymm key text) ∙ elim (key_cmp text key) as (λ r. is_eq (ordering_reverse r) ≡ is_eq r) [ Less ↦ refl | Equal ↦ refl | Greater ↦ refl ]
     ∙ sym (texts_ties text key)
 
@@ -33,7 +33,7 @@ same_text key text =
 ids_of_work : (names : Table) (key : List ℕ) (all : List Edition) → map (λ p. p.1) (filter (λ p. is_key key p.0) (work_pairs names all)) ≡ map least (filter (is_asked names (Work key)) all)
 ids_of_work names key [] = refl
 ids_of_work names key (e ∷ all) =
-    ap (λ b. map (λ p. p.1) (cond b ((work_key_by names e, least e) ∷ filter (λ p. is_key key p.0) (work_pairs names all)) (filter (λ p. is_key key p.0) (work_pairs names all)))) (same_text key (work_key_by names e))
+    ap (λ b. map (λ p. p.1) (cond b ((work_key_by names e, least e) ∷ filter (λ p. is_key key p.0) (work_pairs names all)) (filter (λ p. is_key key p.0) (work_pairs names all)))) (key-same_text key (work_key_by names e))
     ∙ elim (same_text (work_key_by names e) key) as (λ b. map (λ p. p.1) (cond b ((work_key_by names e, least e) ∷ filter (λ p. is_key key p.0) (work_pairs names all)) (filter (λ p. is_key key p.0) (work_pairs names all)))
     ≡ map least (cond b (e ∷ filter (is_asked names (Work key)) all) (filter (is_asked names (Work key)) all))) [
       | true ↦ ap (λ ids. least e ∷ ids) (ids_of_work names key all)
