@@ -54,10 +54,13 @@ WHAT IS WRITTEN
 
     With --fields, of one record: each field of its edition's record, as union
     export shows it, with the records that have it. Of a field that is shown
-    once, whose it is, and each other record that has such a field, with why its
-    own is not shown: 'before LIBB.b1 by encoding level'. That may be 'encoding
-    level', 'date of 005' or 'id'. 001, 003, 991 and 993 are left out, since
-    union makes them.
+    once, the record whose it is, and each other record that has such a field,
+    with the reason why that one is not shown, such as
+
+        245 of LIBA.a1, before LIBB.b1 by encoding level: $aRed ships
+
+    The reason is the encoding level (leader/17), the date of 005 or else the
+    id. 001, 003, 991 and 993 are left out, since union makes them.
 
     The rules: a control number with its source, a type and an ISBN, a type and
     an ISSN, or a type that is no serial's, a title, a date and a name. A type

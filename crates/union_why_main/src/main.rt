@@ -109,6 +109,7 @@ fn answer<Rt: Threads + Sync, F: Shelf, O: Sink>(
 }
 
 /// The libraries, the ids that are asked for, and whether the fields of their edition are.
+#[derive(Clone, Copy)]
 struct Asked<'a> {
     libraries: Libraries<'a>,
     ids: &'a [Bytes],
