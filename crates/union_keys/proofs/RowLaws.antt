@@ -21,6 +21,7 @@ width-number key =
 
 -- the number of a key, that of its owner, and its mark
 pub width-key : (number mark : ℕ) (key : FeatureKey) → length (key_row number mark key) ≡ 24
+unfolding key_row
 width-key number mark key =
     let all = length-append (key_number key) (word number ++ word mark) in
     let rest = length-append (word number) (word mark) in

@@ -33,9 +33,14 @@ groups_of all bytes = groups_in all (length bytes / 8) bytes []
 abbrev pub last_of_each : List Standing → List Standing
 last_of_each members = values_of (table_of members)
 
--- the keys of the editions to which the last records of the ids of each group resolve were added, where the first group has that number
+-- the keys were added of the editions to which the last records of the ids resolve, where the group has that number
+abbrev pub AddsGroup : ℕ → List Standing → List ℕ → List ℕ → Type 0
+AddsGroup number members before after =
+    (editions : List Edition) × IsOrderedResolution (editions_in (last_of_each members)) editions
+    × (after ≡ before ++ flat_map (key_rows number) editions)
+
+-- the keys of the groups were added, one after the other, where the first has that number
 abbrev pub AddsGroups : ℕ → List (List Standing) → List ℕ → List ℕ → Type 0
 AddsGroups number [] before after = after ≡ before
 AddsGroups number (members ∷ rest) before after =
-    (editions : List Edition) × IsOrderedResolution (editions_in (last_of_each members)) editions
-    × AddsGroups (number + 1) rest (before ++ flat_map (key_rows number) editions) after
+    (between : List ℕ) × AddsGroup number members before between × AddsGroups (number + 1) rest between after

@@ -30,13 +30,13 @@ id_in text =
     else None)
 
 -- the record under the id, if the text is one
-abbrev pub at_id : Table → Option RecordId → Option Standing
-at_id table None = None
-at_id table (Some id) = lookup (is_at (id_cmp id)) table
+abbrev pub standing_at : Table → Option RecordId → Option Standing
+standing_at table None = None
+standing_at table (Some id) = lookup (is_at (id_cmp id)) table
 
 -- the record that a line names
 abbrev pub named_by : Table → List ℕ → Option Standing
-named_by table line = at_id table (id_in line)
+named_by table line = standing_at table (id_in line)
 
 -- the groups of lines, where `begun` tells whether a group is begun, which has these records already. A line that names no record
 -- adds none. An empty line ends the group that is begun, and makes none where none is

@@ -20,7 +20,7 @@ abbrev pub key_number : FeatureKey → List ℕ
 key_number key = take 8 (md5 (key_text key))
 
 -- a key, 24 bytes: its number (8), the number of its record or group (8), and its mark (8)
-abbrev pub key_row : ℕ → ℕ → FeatureKey → List ℕ
+unfoldable pub key_row : ℕ → ℕ → FeatureKey → List ℕ
 key_row number mark key = key_number key ++ (word number ++ word mark)
 
 -- the keys that an edition seeks, each with the mark 1, and those under which an index has it, each with the mark 2

@@ -1,18 +1,16 @@
 //! The keys of groups of records as numbers.
-ghost use Rattle.std.specs.Prelude.{◌≡◌, ◌++◌, length, IfOk, OnOk, List, slice_get};
-ghost use Rattle.std.specs.List.{flat_map};
+ghost use Rattle.std.specs.Prelude.{◌≡◌, ◌++◌, ◌+◌, ◌-◌, ◌^◌, ◌<◌, ◌≤◌, [], length, IfOk, OnOk, List, ℕ, slice_get};
 ghost use Rattle.std.specs.Option.{option_to_list};
-ghost use Rattle.catalogue_editions.specs.Resolutions.{IsOrderedResolution};
-ghost use Rattle.catalogue_editions.specs.declared.edition.Edition.{Edition};
-ghost use Rattle.union_keys.specs.Lines.{editions_in};
-ghost use Rattle.union_keys.specs.Tables.{key_rows, record_rows};
-ghost use Rattle.union_keys.specs.GroupTables.{word_in, groups_of, last_of_each, AddsGroups};
+ghost use Rattle.union_keys.specs.Tables.{record_rows};
+ghost use Rattle.union_keys.specs.GroupTables.{word_in, groups_by, groups_of, last_of_each, AddsGroup, AddsGroups};
+ghost use Rattle.union_keys.specs.declared.standing.Standing.{Standing};
 
 use crate::groups::table_of;
 use crate::line::resolved;
 use crate::standing::Standing;
 use crate::table::{add_editions, add_records};
 use std::alloc::Global;
+use std::mem;
 use union_base::memory::Memory;
 
 /// How many bytes name a record.
@@ -49,16 +47,14 @@ fn add_group(
     number: u64,
     members: Vec<Standing>,
 ) -> Result<(), Memory>
-    ensures { OnOk result ((editions : List Edition)
-        × IsOrderedResolution (editions_in (last_of_each members.items)) editions
-        × (text.new.items ≡ text.old.items ++ flat_map (key_rows number) editions)) }
+    ensures { OnOk result (AddsGroup number members.items text.old.items text.new.items) }
 {
     let last = last_of_each(alloc, members)?;
     let editions = resolved(alloc, last.as_slice())?;
     add_editions(alloc, text, number, editions.as_slice())
 }
 
-/// The records of the group that is begun, with the record of that number, if there is one. Returns `Memory` if allocation fails.
+/// Adds the record of that number to the group that is begun, if there is one. Returns `Memory` if allocation fails.
 fn add_member(
     alloc: Global,
     members: &mut Vec<Standing>,
@@ -68,10 +64,59 @@ fn add_member(
     ensures { OnOk result (members.new.items
         ≡ members.old.items ++ option_to_list (slice_get standings.now number)) }
 {
-    if number < standings.len() as u64 {
-        members.push(standings[number as usize].copied(alloc)?)?;
+    match standings.get(number as usize) {
+        Some(standing) => {
+            members.push(standing.copied(alloc)?)?;
+            Ok(())
+        }
+        None => Ok(()),
     }
-    Ok(())
+}
+
+/// The rows so far, and the group that is begun: its number, and its records.
+#[derive(Drop)]
+struct Rows {
+    text: Vec<u8>,
+    number: u64,
+    members: Vec<Standing>,
+}
+
+impl Rows {
+    /// Adds the rows of the group that is begun, and begins the next.
+    fn end_group(&mut self, alloc: Global) -> Result<(), Memory>
+        requires { self.old.number < 2 ^ 64 - 1 }
+        ensures rows { OnOk result (AddsGroup self.old.number self.old.members.items
+            self.old.text.items self.new.text.items) }
+        ensures number { OnOk result (self.new.number ≡ self.old.number + 1) }
+        ensures members { OnOk result (self.new.members.items ≡ []) }
+    {
+        let members = mem::replace(&mut self.members, Vec::new(alloc));
+        add_group(alloc, &mut self.text, self.number, members)?;
+        self.number += 1;
+        Ok(())
+    }
+
+    /// Takes a word: 0 ends the group that is begun, and n adds the n-th record to it.
+    ///
+    /// Returns `Memory` if allocation fails.
+    fn take(&mut self, alloc: Global, standings: &[Standing], word: u64) -> Result<(), Memory>
+        requires { self.old.number < 2 ^ 64 - 1 }
+        ensures groups { OnOk result ((later : List Standing → List (List Standing))
+            (after : List ℕ)
+            → AddsGroups self.new.number (later self.new.members.items) self.new.text.items after
+            → AddsGroups self.old.number
+            (groups_by standings.now word self.old.members.items later)
+            self.old.text.items after) }
+        ensures number { OnOk result (self.new.number ≤ self.old.number + 1) }
+    {
+        if word == 0 {
+            self.end_group(alloc)?;
+            Ok(())
+        } else {
+            add_member(alloc, &mut self.members, standings, word - 1)?;
+            Ok(())
+        }
+    }
 }
 
 /// The table of the records, as `table` has it, but with the keys of groups in place of those of records. The groups are named by
@@ -84,20 +129,21 @@ pub fn group_table(alloc: Global, standings: &[Standing], groups: &[u8]) -> Resu
 {
     let mut text = Vec::new(alloc);
     add_records(alloc, &mut text, standings)?;
-    let mut members = Vec::new(alloc);
-    let mut number = 0;
+    let mut rows = Rows {
+        text,
+        number: 0,
+        members: Vec::new(alloc),
+    };
     let mut rest = groups;
     while WORD <= rest.len() {
         let (bytes, behind) = rest.split_at(WORD);
-        let word = word_in(bytes);
-        if word == 0 {
-            add_group(alloc, &mut text, number, members)?;
-            members = Vec::new(alloc);
-            number += 1;
-        } else {
-            add_member(alloc, &mut members, standings, word - 1)?;
-        }
+        rows.take(alloc, standings, word_in(bytes))?;
         rest = behind;
     }
+    let Rows {
+        text,
+        number: _,
+        members: _,
+    } = rows;
     Ok(text)
 }

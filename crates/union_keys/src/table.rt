@@ -63,7 +63,8 @@ fn add_key_row(
 {
     add_key_number(alloc, text, key)?;
     add_word(text, number)?;
-    add_word(text, mark)
+    add_word(text, mark)?;
+    Ok(())
 }
 
 /// Adds the rows of keys that have the same mark.
