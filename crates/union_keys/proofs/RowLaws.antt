@@ -1,12 +1,11 @@
 -- How wide rows are.
-use Rattle.std.proofs.Common.{◌≡◌, ℕ, ◌+◌, ◌≤◌, List, ◌++◌, ◌∷◌, length, take, drop, refl, arith, length-append, length-drop}
+use Rattle.std.proofs.Common.{◌≡◌, ℕ, List, ◌++◌, ◌∷◌, length, drop, refl, arith, length-append, length-drop}
 use Rattle.std.specs.Prelude.{IsTrue, replicate}
 use Rattle.std.proofs.lemmas.List.{length-take-le, length-replicate}
 use Rattle.md5.specs.Md5.{md5}
 use Rattle.md5.proofs.StandardFacts.{length-md5}
 use Rattle.match_features.specs.declared.keys.FeatureKey.{FeatureKey}
 use Rattle.union_base.specs.LibraryCodes.{is_library_code, longest-is_library_code}
-use Rattle.union_base.specs.declared.record_id.RecordId.{RecordId}
 use Rattle.union_keys.specs.Lines.{key_text}
 use Rattle.union_keys.specs.Tables.{word, key_number, key_row, id_number, code_cell, loads, record_row}
 use Rattle.union_keys.specs.declared.standing.Standing.{Standing}
@@ -29,10 +28,10 @@ width-key number mark key =
 
 width-code : (code : List ℕ) → IsTrue (is_library_code code) → length (code_cell code) ≡ 16
 width-code code is =
+    let zeros : List ℕ = replicate 16 0 in
     let short = longest-is_library_code code is in
-    let zeros = length-drop (length code) (replicate 16 0) in
-    let sixteen : length (replicate 16 0) ≡ 16 = length-replicate 16 0 in
-    omega (arith, short, length-append code (drop (length code) (replicate 16 0)), zeros, sixteen)
+    let sixteen : length zeros ≡ 16 = length-replicate {A = ℕ} 16 0 in
+    omega (arith, short, length-append code (drop (length code) zeros), length-drop (length code) zeros, sixteen)
 
 -- a library, an id, an offset, a length, and whether it loads
 pub width-record : (s : Standing) → IsTrue (is_library_code s.id.library) → length (record_row s) ≡ 56

@@ -1,5 +1,5 @@
 -- The keys of groups of records as numbers, where the groups are named by numbers too.
-use Rattle.std.specs.Prelude.{◌≡◌, ℕ, zero, suc, ◌+◌, ◌/◌, List, [], ◌++◌, ◌∷◌, length, take, drop, slice_get, Option}
+use Rattle.std.specs.Prelude.{◌≡◌, ℕ, zero, suc, ◌+◌, ◌/◌, List, [], ◌++◌, ◌∷◌, length, take, drop, slice_get}
 use Rattle.std.specs.Int.{w64, from_le_bytes}
 use Rattle.std.specs.List.{flat_map}
 use Rattle.std.specs.Map.{values_of}
@@ -8,7 +8,7 @@ use Rattle.catalogue_editions.specs.Resolutions.{IsOrderedResolution}
 use Rattle.catalogue_editions.specs.declared.edition.Edition.{Edition}
 use Rattle.union_keys.specs.Groups.{table_of}
 use Rattle.union_keys.specs.Lines.{editions_in}
-use Rattle.union_keys.specs.Tables.{key_rows, record_rows}
+use Rattle.union_keys.specs.Tables.{key_rows}
 use Rattle.union_keys.specs.declared.standing.Standing.{Standing}
 
 -- the number in the first eight bytes, of which the first is the least

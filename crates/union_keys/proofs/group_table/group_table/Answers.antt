@@ -1,15 +1,18 @@
-use Rattle.std.proofs.Common.{◌+◌, ◌/◌, length, ap, sym, subst, ◌∙◌, arith}
+use Rattle.std.proofs.Common.{◌/◌, ◌++◌, length, ap, subst, ◌∙◌, arith}
 use Rattle.union_keys.specs.GroupTables.{groups_by, groups_in, groups_of, AddsGroups}
+use Rattle.union_keys.specs.Tables.{record_rows}
 use Rattle.union_keys.proofs.TableLaws.{word-first, word-front, groups-last}
 use Rattle.union_keys.proofs.group_table.group_table.Goals as goal
 
 pub loop-rest-init : goal.loop-rest-init
 loop-rest-init c =
     let all = c.args.standings.now in
+    let groups = c.args.groups.now in
+    let rows = c.in_ok-add_records.ensures ∙ ap (λ text. text ++ record_rows all) c.new-text.ensures.items in
     record {
       added = λ after t.
-          subst (λ text. AddsGroups 0 (groups_of all c.args.groups.now) text after)
-          c.in_ok-add_records.ensures t;
+          subst (λ text. AddsGroups 0 (groups_of all groups) text after) rows
+          (subst (λ members. AddsGroups 0 (groups_in all (length groups / 8) groups members) c.add_records.new.text.items after) c.new.ensures.items t);
       few = omega arith;
     }
 
