@@ -12,7 +12,6 @@ use crate::crew::Crew;
 use crate::due::Turning;
 use crate::end::End;
 use crate::served::Served;
-use crate::rounds::turn_rounds;
 use crate::session::Session;
 use crate::turning::turn_batches;
 use catalogue_lock::desk::Desk;
@@ -71,11 +70,7 @@ fn run_reader<R: Threads + Wait + Sync, S: Source + Send, G: Gate>(
         session.new }
 {
     let mut counts = OutcomeCounts::new();
-    let turned = if crew.prepares || crew.workers == 1 {
-        turn_batches(turning, &mut reader, &mut counts, session, crew)
-    } else {
-        turn_rounds(turning, &mut reader, &mut counts, session, crew.workers)
-    };
+    let turned = turn_batches(turning, &mut reader, &mut counts, session, crew);
     session.report = report_of(reader, counts);
     session.end = end_of(turned);
 }
