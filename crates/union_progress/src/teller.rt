@@ -46,6 +46,14 @@ pub struct Teller<'a, C> {
 /// No line is due any more.
 const OVER: u64 = u64::MAX;
 
+/// How many bytes a read asks for.
+const PIECE: u64 = 65_536;
+
+/// Of how many pieces one is looked at, once so many bytes were read: to count all records would take a fifth of the time of a check.
+const SAMPLE: u64 = 16;
+
+const COUNTED_WHOLE: u64 = 1_048_576;
+
 impl<'a, C: Clock> Teller<'a, C> {
     /// Tells the progress of a run that begins now, which reads `total` bytes, or 0 where that is not known, in this style. `is_shared`
     /// says whether standard output goes where the progress is shown: it ends then where standard output begins.
@@ -82,6 +90,13 @@ impl<'a, C: Clock> Teller<'a, C> {
     /// Whether anything is told from here on.
     fn is_telling(&self) -> bool {
         self.due.load(Ordering::Relaxed) != OVER
+    }
+
+    /// Counts the records that end in a piece, which stands for that many.
+    fn count(&self, piece: &[u8], pieces: u64) {
+        let records = memchr_iter(RECORD_TERMINATOR, piece).count() as u64;
+        self.records
+            .fetch_add(records.wrapping_mul(pieces), Ordering::Relaxed);
     }
 
     /// The milliseconds since the run began.
@@ -146,9 +161,12 @@ impl<C: Clock + Sync> Tells for Teller<'_, C> {
         if !self.is_telling() {
             return;
         }
-        let records = memchr_iter(RECORD_TERMINATOR, piece).count();
-        self.records.fetch_add(records as u64, Ordering::Relaxed);
-        self.read.fetch_add(piece.len() as u64, Ordering::Relaxed);
+        let before = self.read.fetch_add(piece.len() as u64, Ordering::Relaxed);
+        if before < COUNTED_WHOLE {
+            self.count(piece, 1);
+        } else if (before / PIECE) % SAMPLE == 0 {
+            self.count(piece, SAMPLE);
+        }
         self.tell();
     }
 
