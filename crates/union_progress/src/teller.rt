@@ -49,8 +49,9 @@ const OVER: u64 = u64::MAX;
 /// How many bytes a read asks for.
 const PIECE: u64 = 65_536;
 
-/// Of how many pieces one is looked at, once so many bytes were read: to count all records would take a fifth of the time of a check.
-const SAMPLE: u64 = 16;
+/// Of how many pieces one has its records counted and the clock looked at, once so many bytes were read: to count all records would take
+/// a fifth of the time of a check.
+const SAMPLE: u64 = 64;
 
 const COUNTED_WHOLE: u64 = 1_048_576;
 
@@ -161,13 +162,18 @@ impl<C: Clock + Sync> Tells for Teller<'_, C> {
         if !self.is_telling() {
             return;
         }
-        let before = self.read.fetch_add(piece.len() as u64, Ordering::Relaxed);
+        let size = piece.len() as u64;
+        let before = self.read.fetch_add(size, Ordering::Relaxed);
+        let is_sampled = (before / PIECE) % SAMPLE == 0;
         if before < COUNTED_WHOLE {
             self.count(piece, 1);
-        } else if (before / PIECE) % SAMPLE == 0 {
+        } else if is_sampled {
             self.count(piece, SAMPLE);
         }
-        self.tell();
+        // A slow pipe gives pieces that are not full.
+        if is_sampled || size < PIECE {
+            self.tell();
+        }
     }
 
     fn wrote(&self, count: usize) {
