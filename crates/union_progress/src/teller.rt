@@ -34,8 +34,10 @@ pub struct Teller<'a, C> {
     begun: Option<Instant>,
     /// The bytes of all files, 0 where that is not known.
     total: u64,
-    records: AtomicU64,
     read: AtomicU64,
+    /// Of these the bytes that were looked at, and the records that end in them.
+    counted: AtomicU64,
+    records: AtomicU64,
     written: AtomicU64,
     /// When the next line is due, in milliseconds from the beginning; `OVER` when there is none to come.
     due: AtomicU64,
@@ -49,11 +51,9 @@ const OVER: u64 = u64::MAX;
 /// How many bytes a read asks for.
 const PIECE: u64 = 65_536;
 
-/// Of how many pieces one has its records counted and the clock looked at, once so many bytes were read: to count all records would take
-/// a fifth of the time of a check.
+/// So many bytes are looked at first, and then one piece of so many: to count all records would take a fifth of the time of a check.
+const COUNTED_WHOLE: u64 = 262_144;
 const SAMPLE: u64 = 64;
-
-const COUNTED_WHOLE: u64 = 1_048_576;
 
 impl<'a, C: Clock> Teller<'a, C> {
     /// Tells the progress of a run that begins now, which reads `total` bytes, or 0 where that is not known, in this style. `is_shared`
@@ -80,8 +80,9 @@ impl<'a, C: Clock> Teller<'a, C> {
             is_shared,
             begun,
             total,
-            records: AtomicU64::new(0),
             read: AtomicU64::new(0),
+            counted: AtomicU64::new(0),
+            records: AtomicU64::new(0),
             written: AtomicU64::new(0),
             due: AtomicU64::new(due),
             shown: AtomicU64::new(0),
@@ -93,11 +94,22 @@ impl<'a, C: Clock> Teller<'a, C> {
         self.due.load(Ordering::Relaxed) != OVER
     }
 
-    /// Counts the records that end in a piece, which stands for that many.
-    fn count(&self, piece: &[u8], pieces: u64) {
+    /// Counts the records that end in a piece.
+    fn count(&self, piece: &[u8]) {
         let records = memchr_iter(RECORD_TERMINATOR, piece).count() as u64;
-        self.records
-            .fetch_add(records.wrapping_mul(pieces), Ordering::Relaxed);
+        self.records.fetch_add(records, Ordering::Relaxed);
+        self.counted
+            .fetch_add(piece.len() as u64, Ordering::Relaxed);
+    }
+
+    /// About how many records end in so many bytes, by those that were counted.
+    fn records_in(&self, bytes: u64) -> u64 {
+        let counted = self.counted.load(Ordering::Relaxed);
+        let records = self.records.load(Ordering::Relaxed);
+        records
+            .saturating_mul(bytes)
+            .checked_div(counted)
+            .unwrap_or(0)
     }
 
     /// The milliseconds since the run began.
@@ -130,9 +142,10 @@ impl<'a, C: Clock> Teller<'a, C> {
 
     /// Shows where the run is.
     fn show(&self, milliseconds: u64) {
+        let read = self.read.load(Ordering::Relaxed);
         let amounts = Amounts {
-            records: self.records.load(Ordering::Relaxed),
-            read: self.read.load(Ordering::Relaxed),
+            records: self.records_in(read),
+            read,
             total: self.total,
             written: self.written.load(Ordering::Relaxed),
             milliseconds,
@@ -164,14 +177,12 @@ impl<C: Clock + Sync> Tells for Teller<'_, C> {
         }
         let size = piece.len() as u64;
         let before = self.read.fetch_add(size, Ordering::Relaxed);
-        let is_sampled = (before / PIECE) % SAMPLE == 0;
-        if before < COUNTED_WHOLE {
-            self.count(piece, 1);
-        } else if is_sampled {
-            self.count(piece, SAMPLE);
+        let is_counted = before < COUNTED_WHOLE || (before / PIECE) % SAMPLE == 0;
+        if is_counted {
+            self.count(piece);
         }
         // A slow pipe gives pieces that are not full.
-        if is_sampled || size < PIECE {
+        if is_counted || size < PIECE {
             self.tell();
         }
     }
