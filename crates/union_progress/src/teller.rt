@@ -53,6 +53,7 @@ const PIECE: u64 = 65_536;
 
 /// So many bytes are looked at first, and then one piece of so many: to count all records would take a fifth of the time of a check.
 const COUNTED_WHOLE: u64 = 262_144;
+
 const SAMPLE: u64 = 64;
 
 impl<'a, C: Clock> Teller<'a, C> {
