@@ -51,10 +51,8 @@ const OVER: u64 = u64::MAX;
 /// How many bytes a read asks for.
 const PIECE: u64 = 65_536;
 
-/// So many bytes are looked at first, and then one piece of so many: to count all records would take a fifth of the time of a check.
-const COUNTED_WHOLE: u64 = 262_144;
-
-const SAMPLE: u64 = 64;
+/// Of how many pieces one is looked at: to count all records would take half the time of a check.
+const SAMPLE: u64 = 128;
 
 impl<'a, C: Clock> Teller<'a, C> {
     /// Tells the progress of a run that begins now, which reads `total` bytes, or 0 where that is not known, in this style. `is_shared`
@@ -178,7 +176,7 @@ impl<C: Clock + Sync> Tells for Teller<'_, C> {
         }
         let size = piece.len() as u64;
         let before = self.read.fetch_add(size, Ordering::Relaxed);
-        let is_counted = before < COUNTED_WHOLE || (before / PIECE) % SAMPLE == 0;
+        let is_counted = (before / PIECE) % SAMPLE == 0;
         if is_counted {
             self.count(piece);
         }
