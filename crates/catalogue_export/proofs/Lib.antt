@@ -16,6 +16,8 @@ pub mod ExportedProof
 pub mod EditionLaws
 pub mod WritingLaws
 mod OwnedLaws
+mod DealtLaws
+mod BorrowedUnions
 pub mod OwnersProof
 mod HomeLaws
 pub mod ExportLaws

@@ -12,6 +12,5 @@ pub mod JsonExport
 pub mod OwnersLaws
 pub mod Owners
 pub mod Sources
-pub mod ToldFields
 pub mod Holdings
 pub mod Homes

@@ -30,12 +30,12 @@ abbrev pub is_local : Field → Bool
 is_local f = (has_tag (codes "852") f || has_tag (codes "856") f) || (is_59X f.tag || is_9XX f.tag)
 
 -- one of the subfields is a subfield 5
-abbrev pub tell_owner : List Subfield → Bool
-tell_owner subfields = list_any (λ s. s.code == 0x35) subfields
+abbrev pub has_subfield_5 : List Subfield → Bool
+has_subfield_5 subfields = list_any (λ s. s.code == 0x35) subfields
 
 -- the field tells by a subfield 5 whose it is
 abbrev pub has_owner : Field → Bool
-has_owner f = tell_owner (subfields_of f.body)
+has_owner f = has_subfield_5 (subfields_of f.body)
 
 -- a data field's body with one subfield 5 more, the last, that has the library's code
 abbrev pub owned_body : List ℕ → Body → Body

@@ -16,9 +16,8 @@ use union_base::memory::Memory;
 use union_base::record_id::RecordId;
 
 /// Appends the records of the editions in this form, one after the other, each under its own work key by the names of what the export
-/// takes of their catalogue; and
-/// appends to `left`, for each edition of which fields were left out since a frame has no room for more, its least contributor
-/// and their number.
+/// takes of their catalogue; and appends to `left`, for each edition of which fields were left out since a frame has no room for more,
+/// its least contributor and their number.
 ///
 /// Returns `Memory` if allocation fails.
 pub fn append_editions<F: ExportForm>(

@@ -7,8 +7,8 @@ ghost use Rattle.catalogue_export.specs.Owners.{owned_content};
 ghost use Rattle.catalogue_export.specs.Sources.{owned_text, owned_line, owned_left};
 
 use crate::edition::{append_kept, kept_record};
+use crate::holdings::{holdings_of, OwnedFields};
 use crate::own_fields::own_fields;
-use crate::owners::{holdings_of, owned_fields};
 use crate::records::Records;
 use crate::shown_fields::all_with;
 use authority_names::name_table::NameTable;
@@ -72,10 +72,8 @@ fn append_bytes(
     let own = own_fields(alloc, &content, key)?;
     let ids = content.contributors().as_slice();
     let holdings = holdings_of(alloc, records, ids)?;
-    let told = holdings.as_slice();
-    let united = owned_fields(alloc, told)?;
-    let fields = united.as_slice();
-    let all = all_with(alloc, &content, &own, fields)?;
+    let united = OwnedFields::of(alloc, holdings.as_slice())?;
+    let all = all_with(alloc, &content, &own, &united)?;
     append_kept(content.fixed().codes, all, into)
 }
 
@@ -96,9 +94,7 @@ fn owned_record(
     let own = own_fields(alloc, &content, key)?;
     let ids = content.contributors().as_slice();
     let holdings = holdings_of(alloc, records, ids)?;
-    let told = holdings.as_slice();
-    let united = owned_fields(alloc, told)?;
-    let fields = united.as_slice();
-    let all = all_with(alloc, &content, &own, fields)?;
+    let united = OwnedFields::of(alloc, holdings.as_slice())?;
+    let all = all_with(alloc, &content, &own, &united)?;
     kept_record(alloc, content.fixed().codes, all)
 }

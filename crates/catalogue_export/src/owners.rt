@@ -1,21 +1,16 @@
-//! The united fields of an edition, where each local field tells whose it is.
+//! Which fields of a record tell whose they are, and what they are shown as.
 //!
-//! Cost: one look-up for each record of the edition, and one sort of its records' fields, which finds each record's in order. Only
-//! a field that gets a subfield 5 is made; the others are borrowed from where they lie.
+//! Cost: one walk over the record's fields. Only a field that gets a subfield 5 is made; the others are borrowed from where they lie.
 ghost use Rattle.std.specs.Prelude.{◌≡◌, ◌++◌, ◌∷◌, [], suc, length, IfOk, OnOk, IsTrue};
 ghost use Rattle.std.specs.Char.{is_ascii_digit};
 ghost use Rattle.std.specs.List.{flat_map};
-ghost use Rattle.union_base.specs.FieldOrder.{field_cmp};
 ghost use Rattle.union_base.specs.Fields.{is_field};
 ghost use Rattle.union_base.specs.LibraryCodes.{is_library_code};
-ghost use Rattle.union_base.specs.SortedLists.{set_of};
+ghost use Rattle.catalogue_editions.specs.Borrowed.{fields_of};
 ghost use Rattle.catalogue_export.specs.Exported.{field_of};
-ghost use Rattle.catalogue_export.specs.Owners.{is_59X, is_9XX, is_local, tell_owner, has_owner, has_room, is_marked, owned_body, owned_field, record_fields};
-ghost use Rattle.catalogue_export.specs.Holdings.{holding_fields};
+ghost use Rattle.catalogue_export.specs.Owners.{is_59X, is_9XX, is_local, has_subfield_5, has_owner, has_room, is_marked, owned_body};
+ghost use Rattle.catalogue_export.specs.Holdings.{kept_field, marked_field};
 
-use crate::records::Records;
-use crate::told_field::ToldField;
-use catalogue_editions::shared_content::SharedContent;
 use marc_fields::encoding::LONGEST_FIELD;
 use marc_parts::parts::has_tag;
 use std::alloc::Global;
@@ -24,104 +19,35 @@ use union_base::bytes::Bytes;
 use union_base::field::Field;
 use union_base::library_code::LibraryCode;
 use union_base::memory::Memory;
-use union_base::record_id::RecordId;
-use union_base::sorted_list::SortedList;
 use union_base::subfields::Subfields;
 
 /// The subfield that tells whose a field is (MARC 21, Appendix A, `$5`).
 const OWNER: u8 = b'5';
 
-/// What a library's current record says.
-#[derive(Drop)]
-pub(crate) struct Holding {
-    pub(crate) library: LibraryCode,
-    pub(crate) content: SharedContent,
-}
-
-/// What the current records of these ids say. Takes room for them, and returns `Memory` if allocation fails.
-pub(crate) fn holdings_of(
-    alloc: Global,
-    records: &Records<'_>,
-    ids: &[RecordId],
-) -> Result<Vec<Holding>, Memory>
-    ensures { IfOk result (λ holdings. flat_map holding_fields holdings.items
-        ≡ flat_map (record_fields records.now) ids.now) }
-{
-    let mut holdings = Vec::with_capacity(alloc, ids.len())?;
-    for id in ids {
-        push_holding(alloc, records, id, &mut holdings)?;
-    }
-    Ok(holdings)
-}
-
-/// Pushes what the current record of that id says, where it is current. Returns `Memory` if allocation fails.
-fn push_holding(
-    alloc: Global,
-    records: &Records<'_>,
-    id: &RecordId,
-    holdings: &mut Vec<Holding>,
-) -> Result<(), Memory>
-    ensures { OnOk result (flat_map holding_fields holdings.new.items
-        ≡ flat_map holding_fields holdings.old.items ++ record_fields records.now id.now) }
-{
-    if let Some(edition) = records.get(id) {
-        holdings.push(Holding {
-            library: id.library,
-            content: edition.content(alloc)?,
-        })?;
-    }
-    Ok(())
-}
-
-/// The fields of these records, in order and each once, where each local field tells whose it is. Returns `Memory` if allocation
-/// fails.
-pub(crate) fn owned_fields<'a>(
-    alloc: Global,
-    holdings: &'a [Holding],
-) -> Result<SortedList<ToldField<'a>>, Memory>
-    ensures { IfOk result (λ fields. fields
-        ≡ set_of field_cmp (flat_map holding_fields holdings.now)) }
-{
-    let mut fields = Vec::new(alloc);
-    for holding in holdings {
-        let united = holding.content.content().united.as_slice();
-        push_owned(alloc, &holding.library, united, &mut fields)?;
-    }
-    SortedList::of(fields)
-}
-
-/// Pushes the fields of a record of the library, where each local field tells whose it is. Returns `Memory` if allocation fails.
-fn push_owned<'a>(
+/// Deals the fields of a record of the library, in order: those that stay as they are are borrowed and pushed to `kept`, and each
+/// that gets a subfield 5 is made and pushed to `marked`. Returns `Memory` if allocation fails.
+pub(crate) fn deal_fields<'a>(
     alloc: Global,
     library: &LibraryCode,
     united: &'a [Field],
-    into: &mut Vec<ToldField<'a>>,
+    kept: &mut Vec<&'a Field>,
+    marked: &mut Vec<Field>,
 ) -> Result<(), Memory>
-    ensures { OnOk result (into.new.items ≡ into.old.items
-        ++ flat_map (owned_field library.now) united.now) }
-{
-    into.reserve(united.len())?;
-    for field in united {
-        let told = owned_field(alloc, library, field)?;
-        into.push(told)?;
-    }
-    Ok(())
-}
-
-/// The field of a record of the library, which tells whose it is if it is local. Returns `Memory` if allocation fails.
-fn owned_field<'a>(
-    alloc: Global,
-    library: &LibraryCode,
-    field: &'a Field,
-) -> Result<ToldField<'a>, Memory>
-    ensures { IfOk result (λ told. owned_field library.now field.now ≡ told ∷ []) }
+    ensures kept { OnOk result (fields_of kept.new.items ≡ fields_of kept.old.items
+        ++ flat_map (kept_field library.now) united.now) }
+    ensures marked { OnOk result (marked.new.items ≡ marked.old.items
+        ++ flat_map (marked_field library.now) united.now) }
 {
     let code = library.bytes();
-    if is_marked(code, field) {
-        Ok(ToldField::made(with_owner(alloc, code, field)?))
-    } else {
-        Ok(ToldField::kept(field))
+    kept.reserve(united.len())?;
+    for field in united {
+        if is_marked(code, field) {
+            marked.push(with_owner(alloc, code, field)?)?;
+        } else {
+            kept.push(field)?;
+        }
     }
+    Ok(())
 }
 
 /// Whether the field of a record of the library gets a subfield 5. Takes no memory.
@@ -156,12 +82,12 @@ fn is_9xx(tag: &[u8; 3]) -> bool
 fn has_owner(field: &Field) -> bool
     ensures { result ≡ has_owner field.now }
 {
-    tell_owner(field.body.subfields())
+    has_subfield_5(field.body.subfields())
 }
 
 /// Whether one of them is a subfield 5.
-fn tell_owner(subfields: Subfields<'_>) -> bool
-    ensures { result ≡ tell_owner subfields.entry }
+fn has_subfield_5(subfields: Subfields<'_>) -> bool
+    ensures { result ≡ has_subfield_5 subfields.entry }
 {
     for subfield in subfields {
         if subfield.code == OWNER {

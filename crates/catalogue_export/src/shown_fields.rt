@@ -9,8 +9,8 @@ ghost use Rattle.catalogue_export.specs.OwnFields.{slots_around, own_list, all_f
 ghost use Rattle.catalogue_export.specs.TagOrder.{in_tag_order};
 
 use crate::fitting::fitting_count;
+use crate::holdings::OwnedFields;
 use crate::own_fields::OwnFields;
-use crate::told_field::ToldField;
 use catalogue_core::shown::Shown;
 use field_merge::slot::Slot;
 use std::alloc::Global;
@@ -68,27 +68,16 @@ pub(crate) fn all_with<'a>(
     alloc: Global,
     content: &'a Shown<'_>,
     own: &'a OwnFields,
-    united: &'a [ToldField<'_>],
+    united: &'a OwnedFields<'_>,
 ) -> Result<Vec<&'a Field>, Memory>
     ensures { IfOk result (λ all. map (λ f. f.now) all.items
         ≡ own_list own.now content.now ++ united.now) }
 {
     let room = OTHER_FIELDS.saturating_add(own.contributors.len());
-    let mut fields = Vec::with_capacity(alloc, room.saturating_add(united.len()))?;
+    let mut fields = Vec::with_capacity(alloc, room)?;
     push_own(content, own, &mut fields)?;
-    push_told(united, &mut fields)?;
+    united.push_each(alloc, &mut fields)?;
     Ok(fields)
-}
-
-/// Adds each field, wherever it is.
-fn push_told<'a>(fields: &'a [ToldField<'_>], into: &mut Vec<&'a Field>) -> Result<(), Memory>
-    ensures { OnOk result (map (λ f. f.now) into.new.items
-        ≡ map (λ f. f.now) into.old.items ++ fields.now) }
-{
-    for field in fields {
-        into.push(field.field())?;
-    }
-    Ok(())
 }
 
 /// Adds the fields before the united ones.

@@ -44,8 +44,8 @@ append_kept-requires c =
     let e = c.args.edition.now in
     let key = c.args.key.now in
     let ids = c.as_slice-ids.ensures.value ∙ (c.contributors.ensures.value ∙ ap (λ (k : Content). k.contributors) c.shown-content.ensures) in
-    let united = c.as_slice-fields.ensures.value ∙ (c.in_ok-united.ensures ∙ ap (set_of field_cmp) (ap (flat_map holding_fields) c.as_slice-told.ensures.value ∙ (c.in_ok-holdings.ensures ∙ ap (flat_map (record_fields records)) ids))) in
-    let all = c.in_ok-all.ensures ∙ owned-all records e key c.in_ok-own.own c.as_slice-fields.result.now c.shown-content.result c.shown-content.ensures c.in_ok-own.ensures united in
+    let united = c.in_ok-united.ensures ∙ ap (set_of field_cmp) (ap (flat_map holding_fields) c.as_slice.ensures.value ∙ (c.in_ok-holdings.ensures ∙ ap (flat_map (record_fields records)) ids)) in
+    let all = c.in_ok-all.ensures ∙ owned-all records e key c.in_ok-own.own c.in_ok-united.united c.shown-content.result c.shown-content.ensures c.in_ok-own.ensures united in
     ap (list_all is_short) all ∙ parts-short (owned_content records e) (owned-sound records e) key
 
 pub returns-clause-text : goal.returns-clause-text
@@ -55,8 +55,8 @@ returns-clause-text c =
     let e = c.args.edition.now in
     let key = c.args.key.now in
     let ids = c.as_slice-ids.ensures.value ∙ (c.contributors.ensures.value ∙ ap (λ (k : Content). k.contributors) c.shown-content.ensures) in
-    let united = c.as_slice-fields.ensures.value ∙ (c.in_ok-united.ensures ∙ ap (set_of field_cmp) (ap (flat_map holding_fields) c.as_slice-told.ensures.value ∙ (c.in_ok-holdings.ensures ∙ ap (flat_map (record_fields records)) ids))) in
-    let all = c.in_ok-all.ensures ∙ owned-all records e key c.in_ok-own.own c.as_slice-fields.result.now c.shown-content.result c.shown-content.ensures c.in_ok-own.ensures united in
+    let united = c.in_ok-united.ensures ∙ ap (set_of field_cmp) (ap (flat_map holding_fields) c.as_slice.ensures.value ∙ (c.in_ok-holdings.ensures ∙ ap (flat_map (record_fields records)) ids)) in
+    let all = c.in_ok-all.ensures ∙ owned-all records e key c.in_ok-own.own c.in_ok-united.united c.shown-content.result c.shown-content.ensures c.in_ok-own.ensures united in
     let fixed = c.fixed.ensures.value ∙ ap (λ (k : Content). k.fixed) c.shown-content.ensures in
     let rec = ap (λ (f : Fixed). record_of f.codes (in_tag_order (fitting (map see c.in_ok-all.all.items)))) fixed ∙ ap (λ fs. record_of e.content.fixed.codes (in_tag_order (fitting fs))) all in
     subst (λ text. Appends c.append_kept.result c.args.into.now.items c.append_kept.new.into.items text) (ap spelling rec) c.append_kept.ensures.text
@@ -68,6 +68,6 @@ returns-clause-left c =
     let e = c.args.edition.now in
     let key = c.args.key.now in
     let ids = c.as_slice-ids.ensures.value ∙ (c.contributors.ensures.value ∙ ap (λ (k : Content). k.contributors) c.shown-content.ensures) in
-    let united = c.as_slice-fields.ensures.value ∙ (c.in_ok-united.ensures ∙ ap (set_of field_cmp) (ap (flat_map holding_fields) c.as_slice-told.ensures.value ∙ (c.in_ok-holdings.ensures ∙ ap (flat_map (record_fields records)) ids))) in
-    let all = c.in_ok-all.ensures ∙ owned-all records e key c.in_ok-own.own c.as_slice-fields.result.now c.shown-content.result c.shown-content.ensures c.in_ok-own.ensures united in
+    let united = c.in_ok-united.ensures ∙ ap (set_of field_cmp) (ap (flat_map holding_fields) c.as_slice.ensures.value ∙ (c.in_ok-holdings.ensures ∙ ap (flat_map (record_fields records)) ids)) in
+    let all = c.in_ok-all.ensures ∙ owned-all records e key c.in_ok-own.own c.in_ok-united.united c.shown-content.result c.shown-content.ensures c.in_ok-own.ensures united in
     subst (λ fs. IfOk c.append_kept.result (λ n. n ≡ length fs - length (fitting fs))) all c.append_kept.ensures.left

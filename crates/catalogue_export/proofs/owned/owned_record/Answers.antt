@@ -22,8 +22,8 @@ kept_record-requires c =
     let e = c.args.edition.now in
     let key = c.args.key.now in
     let ids = c.as_slice-ids.ensures.value ∙ (c.contributors.ensures.value ∙ ap (λ (k : Content). k.contributors) c.shown-content.ensures) in
-    let united = c.as_slice-fields.ensures.value ∙ (c.in_ok-united.ensures ∙ ap (set_of field_cmp) (ap (flat_map holding_fields) c.as_slice-told.ensures.value ∙ (c.in_ok-holdings.ensures ∙ ap (flat_map (record_fields records)) ids))) in
-    let all = c.in_ok-all.ensures ∙ owned-all records e key c.in_ok-own.own c.as_slice-fields.result.now c.shown-content.result c.shown-content.ensures c.in_ok-own.ensures united in
+    let united = c.in_ok-united.ensures ∙ ap (set_of field_cmp) (ap (flat_map holding_fields) c.as_slice.ensures.value ∙ (c.in_ok-holdings.ensures ∙ ap (flat_map (record_fields records)) ids)) in
+    let all = c.in_ok-all.ensures ∙ owned-all records e key c.in_ok-own.own c.in_ok-united.united c.shown-content.result c.shown-content.ensures c.in_ok-own.ensures united in
     ap (list_all is_short) all ∙ parts-short (owned_content records e) (owned-sound records e) key
 
 pub returns-clause-value : goal.returns-clause-value
@@ -33,8 +33,8 @@ returns-clause-value c =
     let e = c.args.edition.now in
     let key = c.args.key.now in
     let ids = c.as_slice-ids.ensures.value ∙ (c.contributors.ensures.value ∙ ap (λ (k : Content). k.contributors) c.shown-content.ensures) in
-    let united = c.as_slice-fields.ensures.value ∙ (c.in_ok-united.ensures ∙ ap (set_of field_cmp) (ap (flat_map holding_fields) c.as_slice-told.ensures.value ∙ (c.in_ok-holdings.ensures ∙ ap (flat_map (record_fields records)) ids))) in
-    let all = c.in_ok-all.ensures ∙ owned-all records e key c.in_ok-own.own c.as_slice-fields.result.now c.shown-content.result c.shown-content.ensures c.in_ok-own.ensures united in
+    let united = c.in_ok-united.ensures ∙ ap (set_of field_cmp) (ap (flat_map holding_fields) c.as_slice.ensures.value ∙ (c.in_ok-holdings.ensures ∙ ap (flat_map (record_fields records)) ids)) in
+    let all = c.in_ok-all.ensures ∙ owned-all records e key c.in_ok-own.own c.in_ok-united.united c.shown-content.result c.shown-content.ensures c.in_ok-own.ensures united in
     let fixed = c.fixed.ensures.value ∙ ap (λ (k : Content). k.fixed) c.shown-content.ensures in
     let rec = ap (λ (f : Fixed). record_of f.codes (in_tag_order (fitting (map see c.in_ok-all.all.items)))) fixed ∙ ap (λ fs. record_of e.content.fixed.codes (in_tag_order (fitting fs))) all in
     subst (λ rec. IfOk c.kept_record.result (λ r. r.0 ≡ rec)) rec c.kept_record.ensures.value
@@ -46,6 +46,6 @@ returns-clause-left c =
     let e = c.args.edition.now in
     let key = c.args.key.now in
     let ids = c.as_slice-ids.ensures.value ∙ (c.contributors.ensures.value ∙ ap (λ (k : Content). k.contributors) c.shown-content.ensures) in
-    let united = c.as_slice-fields.ensures.value ∙ (c.in_ok-united.ensures ∙ ap (set_of field_cmp) (ap (flat_map holding_fields) c.as_slice-told.ensures.value ∙ (c.in_ok-holdings.ensures ∙ ap (flat_map (record_fields records)) ids))) in
-    let all = c.in_ok-all.ensures ∙ owned-all records e key c.in_ok-own.own c.as_slice-fields.result.now c.shown-content.result c.shown-content.ensures c.in_ok-own.ensures united in
+    let united = c.in_ok-united.ensures ∙ ap (set_of field_cmp) (ap (flat_map holding_fields) c.as_slice.ensures.value ∙ (c.in_ok-holdings.ensures ∙ ap (flat_map (record_fields records)) ids)) in
+    let all = c.in_ok-all.ensures ∙ owned-all records e key c.in_ok-own.own c.in_ok-united.united c.shown-content.result c.shown-content.ensures c.in_ok-own.ensures united in
     subst (λ fs. IfOk c.kept_record.result (λ r. r.1 ≡ length fs - length (fitting fs))) all c.kept_record.ensures.left

@@ -2,7 +2,7 @@ use Rattle.std.proofs.Common.{◌≡◌, take}
 use Rattle.std.specs.List.{flat_map}
 use Rattle.catalogue_export.specs.Holdings.{holding_fields}
 use Rattle.catalogue_export.specs.Owners.{record_fields}
-use Rattle.catalogue_export.proofs.owners.holdings_of.Given as goal
+use Rattle.catalogue_export.proofs.holdings.holdings_of.Given as goal
 
 -- the holdings so far have the fields of the ids so far
 abbrev pub invariant-loop-id : goal.invariant-loop-id
