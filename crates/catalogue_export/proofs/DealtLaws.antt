@@ -68,15 +68,15 @@ dealt all some others each (x ∷ xs) q =
     ∙ ap₂ ◌||◌ (each x q) (dealt all some others each xs q)
     ∙ or_pair (has field_cmp (some x) q) (has field_cmp (others x) q) (has field_cmp (flat_map some xs) q) (has field_cmp (flat_map others xs) q)
     ∙ sym (ap₂ ◌||◌
-      (ap (λ fs. has field_cmp fs q) (flat_map-cons some x xs) ∙ has-append (some x) (flat_map some xs) q)
-      (ap (λ fs. has field_cmp fs q) (flat_map-cons others x xs) ∙ has-append (others x) (flat_map others xs) q))
+    (ap (λ fs. has field_cmp fs q) (flat_map-cons some x xs) ∙ has-append (some x) (flat_map some xs) q)
+    (ap (λ fs. has field_cmp fs q) (flat_map-cons others x xs) ∙ has-append (others x) (flat_map others xs) q))
 
 -- a field is shown as what it is dealt to
 dealt-field : (library : List ℕ) (f q : Field)
     → has field_cmp (owned_field library f) q ≡ (has field_cmp (kept_field library f) q || has field_cmp (marked_field library f) q)
 dealt-field library f q =
     elim (is_marked library f) as (λ b. has field_cmp (if b then field_of f.tag (owned_body library f.body) else f ∷ []) q
-        ≡ (has field_cmp (if b then [] else f ∷ []) q || has field_cmp (if b then field_of f.tag (owned_body library f.body) else []) q)) [
+    ≡ (has field_cmp (if b then [] else f ∷ []) q || has field_cmp (if b then field_of f.tag (owned_body library f.body) else []) q)) [
       | true ↦ refl
       | false ↦ sym (or_false (has field_cmp (f ∷ []) q))
     ]
@@ -100,7 +100,7 @@ flat-halves fields first behind left middle rest is split =
 pub kept-halves : (first : Holding) (behind left : List Holding) (middle : Holding) (rest : List Holding) {right : List Holding}
     → behind ≡ left ++ right → right ≡ middle ∷ rest
     → union field_cmp (set_of field_cmp (flat_map kept_fields (first ∷ left))) (set_of field_cmp (flat_map kept_fields (middle ∷ rest)))
-      ≡ set_of field_cmp (flat_map kept_fields (first ∷ behind))
+    ≡ set_of field_cmp (flat_map kept_fields (first ∷ behind))
 kept-halves first behind left middle rest is split =
     set-both (flat_map kept_fields (first ∷ left)) (flat_map kept_fields (middle ∷ rest)) (flat_map kept_fields (first ∷ behind))
     (λ q. ap (λ fs. has field_cmp fs q) (flat-halves kept_fields first behind left middle rest is split)

@@ -7,7 +7,7 @@ ghost use Rattle.catalogue_export.specs.Owners.{owned_content};
 ghost use Rattle.catalogue_export.specs.Sources.{owned_text, owned_line, owned_left};
 
 use crate::edition::{append_kept, kept_record};
-use crate::holdings::{holdings_of, OwnedFields};
+use crate::holdings::{OwnedFields, holdings_of};
 use crate::own_fields::own_fields;
 use crate::records::Records;
 use crate::shown_fields::all_with;
