@@ -12,8 +12,8 @@ use Rattle.catalogue_export.proofs.DealtLaws.{ascending-set_of, kept-halves, mar
 use Rattle.catalogue_export.proofs.holdings.+deal_records.Goals as goal
 
 -- records of which the greater half is empty are none
-alone : (xs right : List Holding) → length right + length xs / 2 ≡ length xs → right ≡ [] → xs ≡ []
-alone xs right size none = nil_from_length xs (omega (arith, size, ap length none))
+alone : (xs right : List Holding) → length right + length xs / 2 ≡ length xs → length right ≡ 0 → xs ≡ []
+alone xs right size none = nil_from_length xs (omega (arith, size, none))
 
 pub push_union-requires : goal.push_union-requires
 push_union-requires t c =
