@@ -1,4 +1,4 @@
-use Rattle.std.proofs.Common.{◌≡◌, ◌∙◌, ◌++◌, Bor, List, ap, ap₂}
+use Rattle.std.proofs.Common.{◌∙◌, ◌++◌, Bor, List, ap, ap₂}
 use Rattle.std.specs.List.{flat_map}
 use Rattle.union_base.specs.FieldOrder.{field_cmp}
 use Rattle.union_base.specs.SortedLists.{is_ascending, set_of, union}
