@@ -35,7 +35,7 @@ pub struct Teller<'a, C> {
     /// The bytes of all files, 0 where that is not known.
     total: u64,
     read: AtomicU64,
-    /// Of these the bytes that were looked at, and the records that end in them.
+    /// Of these the bytes of the pieces whose records were counted, and how many these are.
     counted: AtomicU64,
     records: AtomicU64,
     written: AtomicU64,
@@ -51,7 +51,7 @@ const OVER: u64 = u64::MAX;
 /// How many bytes a read asks for.
 const PIECE: u64 = 65_536;
 
-/// Of how many pieces one is looked at: to count all records would take half the time of a check.
+/// Of how many pieces one has its records counted: to count them all would take half the time of a check.
 const SAMPLE: u64 = 128;
 
 impl<'a, C: Clock> Teller<'a, C> {
@@ -174,16 +174,11 @@ impl<C: Clock + Sync> Tells for Teller<'_, C> {
         if !self.is_telling() {
             return;
         }
-        let size = piece.len() as u64;
-        let before = self.read.fetch_add(size, Ordering::Relaxed);
-        let is_counted = (before / PIECE) % SAMPLE == 0;
-        if is_counted {
+        let before = self.read.fetch_add(piece.len() as u64, Ordering::Relaxed);
+        if (before / PIECE) % SAMPLE == 0 {
             self.count(piece);
         }
-        // A slow pipe gives pieces that are not full.
-        if is_counted || size < PIECE {
-            self.tell();
-        }
+        self.tell();
     }
 
     fn wrote(&self, count: usize) {
