@@ -1,0 +1,5 @@
+pub mod Comparing
+pub mod Reasons
+pub mod Doubts
+pub mod DoubtfulSteps
+pub mod Groups
