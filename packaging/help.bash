@@ -138,10 +138,18 @@ wrong_one_id() {
 wrong_why() {
   local count=0 word wrong ids=wrong_ids
   local LC_ALL=C
-  if [ "${1-}" = --fields ]; then
-    ids=wrong_one_id
-    shift
-  fi
+  case ${1-} in
+    --fields)
+      ids=wrong_one_id
+      shift
+      ;;
+    --doubtful)
+      shift
+      [ "${1-}" != --csv ] || shift
+      wrong_libraries 64 "$@"
+      return
+      ;;
+  esac
   for word; do
     [[ ! $word =~ ^[A-Z0-9]{1,16}\. ]] || break
     count=$((count + 1))

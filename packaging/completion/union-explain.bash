@@ -14,7 +14,8 @@ _union_tools() {
     union-explain:1) options="--csv --help --version" ;;
     union-keys:1) options="--table --groups= --help --version" ;;
     union-keys:2) options="--groups=" ;;
-    union-why:1) options="--fields --help --version" ;;
+    union-why:1) options="--fields --doubtful --help --version" ;;
+    union-why:2) options="--csv" ;;
     union-overlap:*)
       if [[ $word == -* ]]; then
         options="--csv --help --version"

@@ -3,11 +3,12 @@ ghost use Rattle.std.specs.Prelude.{◌≡◌, ◌≤◌, IfOk, length, position
 ghost use Rattle.std.specs.List.{list_all};
 ghost use Rattle.std.specs.Option.{option_map};
 ghost use Rattle.union_keys.specs.Groups.{id_in};
-ghost use Rattle.union_why.specs.Requests.{request_meaning, why_of, fields_of, request_of};
+ghost use Rattle.union_why.specs.Requests.{request_meaning, why_of, fields_of, listed_as, doubtful_of, request_of};
 ghost use Rattle.union_words.specs.Words.{alone_of};
 ghost use Rattle.union_why.specs.Requests.{is_id_word, are_ids, is_one_id, library_count};
 
 use crate::words::{after, before};
+use doubt_texts::form::Form;
 use std::alloc::Global;
 use union_base::bytes::Bytes;
 use union_base::library_code::LibraryCode;
@@ -25,6 +26,7 @@ union-why - say why records are one edition, and why they are not
 USAGE
     union-why LIB=PATH .. ID [ID]
     union-why --fields LIB=PATH .. ID
+    union-why --doubtful [--csv] LIB=PATH ..
     union-why --help          show this help
     union-why --version       show the program's name and version
 
@@ -62,6 +64,23 @@ WHAT IS WRITTEN
     The reason is the encoding level (leader/17), the date of 005 or else the
     id. 001, 003, 991 and 993 are left out, since union makes them.
 
+    With --doubtful, each edition of several records that deserves a look, in
+    the order of their ids: its id, how many records it has, the reasons, and
+    the step that first brought together records of which a reason stands:
+
+        titles       no title (245) is common to its records
+        ISBNs        its records with ISBNs (020) have none in common
+        languages    two languages differ (008/35-37)
+        carriers     two forms of item differ (008/23, or 29 of maps and visual
+                     materials), or the records that have 006 or 007 have no
+                     first byte of it in common
+        edition statements
+                     two edition statements differ (250)
+
+    At the end stands how often each reason stands. With --csv the same is a
+    table of four columns (RFC 4180), without the counts. Codes that tell
+    nothing, such as 'und' and fill characters, differ from none.
+
     The rules: a control number with its source, a type and an ISBN, a type and
     an ISSN, or a type that is no serial's, a title, a date and a name. A type
     is the type of record and the bibliographic level (leader/06 and 07).
@@ -84,7 +103,8 @@ EXIT STATUS
 COST
     All records are kept in memory, some 3 KB each. Of an edition of m records
     up to m * m pairs are compared, for two records several times: one of 10,000
-    records takes long.
+    records takes long. With --doubtful each record is compared with each
+    edition: 100,000 records take some minutes.
 ";
 
 /// What the program is asked to do. It borrows the words.
@@ -94,6 +114,8 @@ pub enum Request<'a> {
     Why(Libraries<'a>, &'a [Bytes]),
     /// `--fields LIB=PATH .. ID`: tell where the fields of one record's edition come from.
     Fields(Libraries<'a>, &'a [Bytes]),
+    /// `--doubtful [--csv] LIB=PATH ..`: list the merged editions that deserve a look.
+    Doubtful(Form, Libraries<'a>),
     /// `--help`: tell the forms of words.
     Help,
     /// `--version`: tell the program's name and version.
@@ -115,6 +137,8 @@ impl<'a> Request<'a> {
                     alone(Request::Version, rest)
                 } else if word.bytes() == b"--fields".as_slice() {
                     fields(rest)
+                } else if word.bytes() == b"--doubtful".as_slice() {
+                    doubtful(rest)
                 } else {
                     why(words)
                 }
@@ -203,6 +227,32 @@ fn fields<'a>(words: &'a [Bytes]) -> Option<Request<'a>>
     match Libraries::read(front) {
         Some(libraries) => Some(Request::Fields(libraries, ids)),
         None => None,
+    }
+}
+
+/// The list of the libraries that the words name.
+fn listed<'a>(form: Form, words: &'a [Bytes]) -> Option<Request<'a>>
+    ensures { option_map request_meaning result ≡ listed_as form words.now }
+{
+    match Libraries::read(words) {
+        Some(libraries) => Some(Request::Doubtful(form, libraries)),
+        None => None,
+    }
+}
+
+/// The same in the form that the first word may ask for.
+fn doubtful<'a>(words: &'a [Bytes]) -> Option<Request<'a>>
+    ensures { option_map request_meaning result ≡ doubtful_of words.now }
+{
+    match words {
+        [] => None,
+        [word, rest @ ..] => {
+            if word.bytes() == b"--csv".as_slice() {
+                listed(Form::Table, rest)
+            } else {
+                listed(Form::Lines, words)
+            }
+        }
     }
 }
 

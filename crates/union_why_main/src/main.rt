@@ -1,6 +1,7 @@
 //! The program that tells why records are one edition: the real files and streams, handed to the crate that does the work.
 #![tactic(auto)]
 
+use doubt_texts::form::Form;
 use key_hashing::hashing::Hashing;
 use std::alloc::Global;
 use std::collections::BTreeMap;
@@ -20,6 +21,7 @@ use union_keys::groups::table_of;
 use union_keys::run::read_files;
 use union_keys::standing::Standing;
 use union_why::fates::add_fate;
+use union_why::listings::tell_doubtful;
 use union_why::records::{records_in, tell_fields, tell_one, tell_two};
 use union_why::request::{HELP, Request, VERSION, id_in};
 use union_words::libraries::Libraries;
@@ -105,6 +107,10 @@ fn answer<Rt: Threads + Sync, F: Shelf, O: Sink>(
             };
             tell_files(rt, hashing, alloc, &asked, shelf, out)
         }
+        Some(Request::Doubtful(form, libraries)) => {
+            let wanted = Wanted { libraries, form };
+            list_files(rt, hashing, alloc, &wanted, shelf, out)
+        }
     }
 }
 
@@ -132,6 +138,43 @@ fn tell_files<Rt: Threads + Sync, F: Shelf, O: Sink>(
         },
         Err(status) => status,
     }
+}
+
+/// The libraries whose doubtful editions are listed, and in which form.
+#[derive(Clone, Copy)]
+struct Wanted<'a> {
+    libraries: Libraries<'a>,
+    form: Form,
+}
+
+/// Reads the libraries' files, and lists the merged editions that deserve a look.
+fn list_files<Rt: Threads + Sync, F: Shelf, O: Sink>(
+    rt: &Rt,
+    hashing: Hashing,
+    alloc: Global,
+    wanted: &Wanted<'_>,
+    shelf: &mut F,
+    out: &mut O,
+) -> Status {
+    match read_files(alloc, &wanted.libraries, shelf) {
+        Ok(reading) => match list(rt, hashing, alloc, reading.into_standings(), wanted.form) {
+            Ok(text) => told(out, text.as_slice()),
+            Err(Memory) => Status::Memory,
+        },
+        Err(status) => status,
+    }
+}
+
+/// The list of the merged editions that deserve a look, by the records of the files in their order.
+fn list<Rt: Threads + Sync>(
+    rt: &Rt,
+    hashing: Hashing,
+    alloc: Global,
+    standings: Vec<Standing>,
+    form: Form,
+) -> Result<Vec<u8>, Memory> {
+    let records = records_in(alloc, table_of(alloc, standings)?)?;
+    tell_doubtful(rt, hashing, alloc, records.as_slice(), form)
 }
 
 /// Writes a text.
