@@ -2,6 +2,8 @@
 ghost use Rattle.std.specs.Prelude.{◌≡◌, ◌-◌, ◌++◌, ◌∷◌, [], length, map, IfOk, OnOk, IsTrue};
 ghost use Rattle.std.specs.List.{list_all};
 ghost use Rattle.std.specs.Option.{option_to_list};
+ghost use Rattle.std.specs.Ordering.{nat_cmp};
+ghost use Rattle.std.specs.Cmp.Lexicographic.{slice_cmp};
 ghost use Rattle.marc_fields.specs.Spelling.{is_short};
 ghost use Rattle.catalogue_export.specs.Exported.{slot_field};
 ghost use Rattle.catalogue_export.specs.Fitting.{fitting};
@@ -14,8 +16,10 @@ use crate::told_field::ToldField;
 use catalogue_core::shown::Shown;
 use field_merge::slot::Slot;
 use std::alloc::Global;
+use std::cmp::Ordering;
 use union_base::field::Field;
 use union_base::memory::Memory;
+use union_base::text_order::tag_order;
 
 /// How many fields an edition has at most beside its contributors' and its united ones: 001, 003, 991, 008 and six slots.
 const OTHER_FIELDS: usize = 10;
@@ -40,10 +44,10 @@ fn in_tag_order<'a>(mut fields: Vec<&'a Field>) -> Result<Vec<&'a Field>, Memory
     ensures { IfOk result (λ sorted. map (λ f. f.now) sorted.items
         ≡ in_tag_order (map (λ f. f.now) fields.entry.items)) }
 {
-    fields.sort_by_key(
-        |f: &&Field| -> [u8; 3]
-            ensures { result ≡ f.now.now.tag }
-        { f.tag },
+    fields.sort_by(
+        |f: &&Field, g: &&Field| -> Ordering
+            ensures { result ≡ slice_cmp nat_cmp f.now.now.tag g.now.now.tag }
+        { tag_order(&f.tag, &g.tag) },
     )?;
     Ok(fields)
 }

@@ -44,7 +44,7 @@ pub enum SingleClass {
 }
 
 /// Whether the two tags are one.
-fn are_same(tag: &[u8], other: &[u8]) -> bool
+fn are_same(tag: &[u8; 3], other: &[u8; 3]) -> bool
     ensures { result ≡ is_same tag.now other.now }
 {
     tag == other
@@ -58,7 +58,7 @@ fn are_control_number(text: &[u8]) -> bool
 }
 
 /// The number of the one entry with that tag, or why there is not one.
-fn only_entry(entries: &[Entry], tag: &[u8]) -> Result<u32, NotOne>
+fn only_entry(entries: &[Entry], tag: &[u8; 3]) -> Result<u32, NotOne>
     requires { length entries.now ≤ 9999 }
     ensures { MatchResult result (λ i. (places tag.now 1 entries.now ≡ i ∷ [])
         × ((1 ≤ i) × (i ≤ length entries.now)))

@@ -9,6 +9,7 @@ use union_base::library_code::LibraryCode;
 use union_base::record_id::RecordId;
 use union_base::sorted_list::SortedList;
 use union_base::subfield::Subfield;
+use union_base::text_order::{tag_order, text_order};
 
 /// The field whose bytes are spelled so: a control field's text, or two indicators and subfields after delimiters.
 fn field(alloc: Global, tag: &[u8; 3], spelling: &[u8]) -> Result<Option<Field>, Fail> {
@@ -128,6 +129,44 @@ fn some_bytes_spell_no_field(rt: HostRuntime) -> Result<(), Fail> {
         assert!(rt; field(rt.alloc(), tag, spelling)?.is_none());
     }
     Ok(())
+}
+
+/// Texts in ascending order, which differ at their first byte, behind four or eight, or in their lengths alone.
+static TEXTS: [&[u8]; 13] = [
+    b"",
+    b"\x00",
+    b"1968",
+    b"1968000",
+    b"19680000",
+    b"196800000",
+    b"1968000000000000",
+    b"1968000000000001",
+    b"19680001",
+    b"1968\xFF",
+    b"1969",
+    b"\x7Faaaaaaaa",
+    b"\x80",
+];
+
+#[test]
+fn texts_are_ordered_by_their_bytes(rt: HostRuntime) {
+    for (place, text) in TEXTS.iter().enumerate() {
+        for (behind, other) in TEXTS.iter().enumerate() {
+            assert!(rt; text_order(text, other) == place.cmp(&behind));
+        }
+    }
+}
+
+/// Tags in ascending order.
+static TAGS: [&[u8; 3]; 5] = [b"001", b"010", b"100", b"24A", b"900"];
+
+#[test]
+fn tags_are_ordered_by_their_bytes(rt: HostRuntime) {
+    for (place, tag) in TAGS.iter().enumerate() {
+        for (behind, other) in TAGS.iter().enumerate() {
+            assert!(rt; tag_order(tag, other) == place.cmp(&behind));
+        }
+    }
 }
 
 /// Libraries and control numbers of ids in ascending order.

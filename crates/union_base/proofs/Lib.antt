@@ -3,4 +3,5 @@ pub mod ReadingLaws
 pub mod SortedListLaws
 pub mod SortedListMaking
 pub mod SubfieldLaws
+pub mod TextOrderLaws
 pub mod TrimLaws

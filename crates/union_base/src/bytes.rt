@@ -7,6 +7,7 @@ ghost use Rattle.std.specs.Cmp.{partial_equiv_from_equiv};
 use crate::copied::Copied;
 use crate::memory::Memory;
 use crate::sorted_list::Element;
+use crate::text_order::text_order;
 use std::alloc::Global;
 use std::cmp::Ordering;
 use std::hash::{Hash, Hasher};
@@ -148,7 +149,7 @@ impl Ord for Bytes {
     ghost matches_eq = { texts_ties };
 
     fn cmp(&self, other: &Bytes) -> Ordering {
-        self.bytes().cmp(other.bytes())
+        text_order(self.bytes(), other.bytes())
     }
 }
 

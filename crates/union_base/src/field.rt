@@ -6,6 +6,7 @@ use crate::body::Body;
 use crate::copied::Copied;
 use crate::memory::Memory;
 use crate::sorted_list::Element;
+use crate::text_order::{tag_order, text_order};
 use std::alloc::Global;
 use std::cmp::Ordering;
 
@@ -82,8 +83,8 @@ impl Ord for Field {
     ghost matches_eq = { Prim.search (comparing, rules) };
 
     fn cmp(&self, other: &Field) -> Ordering {
-        match self.tag.cmp(&other.tag) {
-            Ordering::Equal => self.body.spelling().cmp(other.body.spelling()),
+        match tag_order(&self.tag, &other.tag) {
+            Ordering::Equal => text_order(self.body.spelling(), other.body.spelling()),
             unequal => unequal,
         }
     }

@@ -16,3 +16,4 @@ pub mod sequence;
 pub mod sorted_list;
 pub mod subfield;
 pub mod subfields;
+pub mod text_order;

@@ -6,6 +6,7 @@ ghost use Rattle.std.specs.Cmp.Lexicographic.{pointwise, slice_cmp, nat_list_eq_
 ghost use Rattle.std.specs.Cmp.{partial_equiv_from_equiv};
 ghost use Rattle.union_base.specs.LibraryCodes.{may_stand, is_library_code};
 
+use crate::text_order::text_order;
 use std::cmp::Ordering;
 use std::marker::Model;
 
@@ -126,6 +127,6 @@ impl Ord for LibraryCode {
         if self.size == other.size && self.buffer == other.buffer {
             return Ordering::Equal;
         }
-        self.bytes().cmp(other.bytes())
+        text_order(self.bytes(), other.bytes())
     }
 }

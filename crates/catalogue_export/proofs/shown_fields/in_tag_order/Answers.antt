@@ -9,7 +9,7 @@ pub returns : goal.returns
 returns c =
     let see = λ (f : Bor Field). f.now in
     ap (map see)
-    (in_order-from_sort (seen_lower see) (seen_lower-order see) c.args.fields.items c.sort_by_key.new.self.items
-    (c.in_ok-sort_by_key.ensures.sorted (λ f. f.now.tag) (answers_always _ _ _ (λ f a r q k. search rules)))
-    (c.in_ok-sort_by_key.ensures.stable (λ f. f.now.tag) (answers_always _ _ _ (λ f a r q k. search rules))))
+    (in_order-from_sort (seen_lower see) (seen_lower-order see) c.args.fields.items c.sort_by.new.self.items
+    (c.in_ok-sort_by.ensures.sorted (seen_lower see) (seen_lower-order see) (answers_always _ _ _ (λ f a r q k. search rules)))
+    (c.in_ok-sort_by.ensures.stable (seen_lower see) (seen_lower-order see) (answers_always _ _ _ (λ f a r q k. search rules))))
     ∙ in_order-seen see c.args.fields.items
