@@ -24,5 +24,8 @@ pub mod refused;
 pub mod report;
 pub mod report_lines;
 pub mod report_texts;
+pub mod several;
 mod shares;
 pub mod stop;
+mod work;
+mod working;

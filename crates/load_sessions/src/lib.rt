@@ -23,6 +23,7 @@ mod due;
 pub mod end;
 pub mod preparing;
 mod reading;
+mod rounds;
 pub mod running;
 pub mod served;
 pub mod session;

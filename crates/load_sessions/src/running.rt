@@ -12,6 +12,7 @@ use crate::crew::Crew;
 use crate::due::Turning;
 use crate::end::End;
 use crate::served::Served;
+use crate::rounds::turn_rounds;
 use crate::session::Session;
 use crate::turning::turn_batches;
 use catalogue_lock::desk::Desk;
@@ -70,7 +71,11 @@ fn run_reader<R: Threads + Wait + Sync, S: Source + Send, G: Gate>(
         session.new }
 {
     let mut counts = OutcomeCounts::new();
-    let turned = turn_batches(turning, &mut reader, &mut counts, session, crew);
+    let turned = if crew.prepares || crew.workers == 1 {
+        turn_batches(turning, &mut reader, &mut counts, session, crew)
+    } else {
+        turn_rounds(turning, &mut reader, &mut counts, session, crew.workers)
+    };
     session.report = report_of(reader, counts);
     session.end = end_of(turned);
 }
