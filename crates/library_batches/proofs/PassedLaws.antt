@@ -1,6 +1,6 @@
 -- What a reader that passed blocks without a batch answers next.
 use Rattle.std.proofs.Common.{◌≡◌, ℕ, ◌+◌, ◌≤◌, ◌<◌, Bool, true, false, List, [], ◌∷◌, ◌++◌, length, append_assoc, inl, inr, refl, sym, ap, subst, ◌∙◌, arith, add-zero, append-nil, length-append}
-use Rattle.std.specs.Prelude.{Option, Some, None, Ok, Err, ⊤, IsTrue, filter}
+use Rattle.std.specs.Prelude.{Option, Some, None, Ok, Err, IsTrue, filter}
 use Rattle.std.proofs.lemmas.Bool.{le-leb}
 use Rattle.std.proofs.lemmas.List.{length-map}
 use Rattle.std.proofs.lemmas.List.Sums.{length-filter, count_by-le-length}
@@ -14,7 +14,7 @@ use Rattle.library_batches.specs.Streams.{Frame, is_accepted, accepted}
 use Rattle.library_batches.specs.Refused.{refused_from}
 use Rattle.library_batches.specs.Batches.{AreBatches, AreFirstBatches, IsBatchOf, IsOpOf, block_size}
 use Rattle.library_batches.specs.Reading.{Batching, AnswersBatch, KeepsFrames, Losses, ahead}
-use Rattle.library_batches.specs.Passing.{PassesBlocks, Passes}
+use Rattle.library_batches.specs.Passing.{Passes}
 use Rattle.library_batches.specs.Blocks.{IsBlock, IsChecked, IsFull, StopsBlock, BlockAnswers}
 use Rattle.library_batches.specs.declared.block.Block.{Block}
 use Rattle.library_batches.specs.declared.refused.RefusedFrame.{RefusedFrame}

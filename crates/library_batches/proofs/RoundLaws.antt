@@ -1,18 +1,16 @@
 -- The batches that the blocks of a round give.
 use Rattle.std.proofs.Common.{◌≡◌, ℕ, ◌+◌, ◌≤◌, ◌<◌, Bool, List, [], ◌∷◌, ◌++◌, length, append_assoc, append-nil, refl, sym, ap, subst, ◌∙◌, arith, add-zero, length-append}
-use Rattle.std.specs.Prelude.{Option, Some, None, Ok, true, false, filter}
-use Rattle.std.specs.List.{AllZip}
+use Rattle.std.specs.Prelude.{Option, Some, Ok, true, false, filter}
 use Rattle.std.proofs.lemmas.List.{length-map}
 use Rattle.std.proofs.lemmas.List.Sums.{length-filter, count_by-le-length}
 use Rattle.std.proofs.lemmas.Slice.Zip.{AllZip-long}
-use Rattle.library_stream.specs.Streaming.{Streaming, most_ahead}
+use Rattle.library_stream.specs.Streaming.{Streaming}
 use Rattle.catalogue_editions.specs.declared.batch.Batch.{Batch}
 use Rattle.catalogue_editions.specs.declared.op.Op.{Op}
 use Rattle.library_batches.specs.Streams.{Frame, is_accepted, accepted}
 use Rattle.library_batches.specs.Refused.{refused_from}
 use Rattle.library_batches.specs.Batches.{IsOpOf}
 use Rattle.library_batches.specs.Reading.{Batching, AnswersBatch, AnswersEach}
-use Rattle.library_batches.specs.Passing.{Passes}
 use Rattle.library_batches.specs.Blocks.{IsBlock, IsChecked}
 use Rattle.library_batches.specs.Shares.{KeepsFront}
 use Rattle.library_batches.specs.Works.{AreCut, AreNumbered, CutsRound, frames_of}

@@ -26,10 +26,10 @@ pub struct Round {
 
 impl BatchReader {
     /// The batches of the next round of the source's frames, 16 blocks or fewer, whose frames are checked and their operations made by
-    /// `workers` workers, 1 to 64, and whether the source ended within the round, and within the limit.
+    /// `workers` workers, and whether the source ended within the round, and within the limit.
     ///
-    /// Stops as `next` does, and then too the refused frames before are kept, but where allocation fails: then those of the first
-    /// of these frames are, of all but a round and one more at most. The batches of a round that was not whole by then are dropped.
+    /// Stops as `next` does, and keeps the refused frames before the stop too. If allocation fails, it keeps those of the first frames, of
+    /// all but a round and one more at most. The batches of a round that was not whole by then are dropped.
     pub fn next_round<R: Threads + Sync, S: Source>(
         &mut self,
         rt: &R,
@@ -37,8 +37,7 @@ impl BatchReader {
         source: &mut S,
         workers: u32,
     ) -> Result<Round, Stop>
-        requires least { 1 ≤ workers }
-        requires most { workers ≤ 64 }
+        requires { 1 ≤ workers }
         ensures name { S.name source.new ≡ S.name source.old }
         ensures prefer { self.new.prefer ≡ self.old.prefer }
         ensures library { self.new.library ≡ self.old.library }
@@ -53,8 +52,14 @@ impl BatchReader {
             library: &self.library,
             number: self.frames + 1,
         };
-        let Worked { works, cut } =
-            work_round(rt, alloc, &mut self.reader, source, &origin, workers)?;
+        let Worked { works, cut } = work_round(
+            rt,
+            alloc,
+            &mut self.reader,
+            source,
+            &origin,
+            workers,
+        )?;
         self.frames += frame_count(works.as_slice());
         let made = batches_of(alloc, &origin, works, &mut self.refused);
         match cut {

@@ -1,5 +1,5 @@
-use Rattle.std.proofs.Common.{◌≡◌, ◌≤◌, ◌<◌, ◌+◌, length, ap, sym, subst, ◌∙◌, arith}
-use Rattle.std.specs.Prelude.{Ok, Err, true}
+use Rattle.std.proofs.Common.{length, ap, subst, ◌∙◌, arith}
+use Rattle.std.specs.Prelude.{Ok}
 use Rattle.std.proofs.lemmas.Result.{err_from_is_err_and}
 use Rattle.library_batches.specs.Works.{AddsWork, frames_of}
 use Rattle.library_batches.proofs.WorkLaws.{AreCutSoFar, frames-count, round-ended, round-stopped, round-whole, so_far-more}
