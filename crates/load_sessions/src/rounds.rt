@@ -25,7 +25,7 @@ use union_io::source::Source;
 
 /// Makes a turn for each of the batches, in order, the first of which is the session's turn `first`, and counts what came of them.
 ///
-/// Returns `Memory` if allocation fails. Turns were made of the first of the batches then.
+/// Returns `Memory` if allocation fails. Turns were made of the first batches then.
 fn turn_each<R: Wait, G: Gate>(
     turning: &Turning<'_, R, G>,
     pass: &mut Pass<Served>,
@@ -58,8 +58,8 @@ fn turn_each<R: Wait, G: Gate>(
     Ok(())
 }
 
-/// A turn for each batch of the session's source, as the reader hands them out in rounds that `workers` workers check, and the counts of
-/// what came of them.
+/// Makes a turn for each batch of the session's source, which the reader hands out in rounds that `workers` workers check, and counts what
+/// came of them.
 pub(crate) fn turn_rounds<R: Threads + Wait + Sync, S: Source + Send, G: Gate>(
     turning: &Turning<'_, R, G>,
     reader: &mut BatchReader,
@@ -68,7 +68,6 @@ pub(crate) fn turn_rounds<R: Threads + Wait + Sync, S: Source + Send, G: Gate>(
     workers: u32,
 ) -> Result<(), Stop>
     requires some { 1 ≤ workers }
-    requires most { workers ≤ 64 }
     requires desk { IsPassOf session.old.pass turning.now.desk.now }
     requires own { (view session.old.pass).own ≡ [] }
     requires limit { session.old.limit ≤ most_bytes }

@@ -4,6 +4,7 @@ use Rattle.std.proofs.lemmas.Result.{err_from_is_err_and}
 use Rattle.catalogue_lock.specs.Tokens.{view}
 use Rattle.library_batches.specs.Outcomes.{AreCounted}
 use Rattle.library_batches.specs.Tallies.{found}
+use Rattle.load_sessions.proofs.TurnLaws.{TurnsEach-first}
 use Rattle.load_sessions.proofs.rounds.turn_each.Goals as goal
 
 pub loop-batch-init : goal.loop-batch-init
@@ -65,9 +66,10 @@ pub returns-in_err-outcomes-clause-turned : goal.returns-in_err-outcomes-clause-
 returns-in_err-outcomes-clause-turned g c =
     let so = c.loop-batch.invariant in
     let front = c.loop-batch.yielded in
+    let rest = c.in-Some.batch ∷ c.next.new.self.rest.items in
     let p = err_from_is_err_and c.from_residual.result c.from_residual.ensures.1 in
-    rw (p.1, p.2)
-    (front, c.in-Some.batch ∷ c.next.new.self.rest.items, so.all ∙ ap (λ bs. front ++ bs) c.in-Some.ensures.steps.0, c.in_err-outcomes.ensures.memory ∙ so.own)
+    TurnsEach-first (view c.args.pass.now).own c.args.batches.items (view c.turn_due.new.pass).own front rest c.from_residual.result _ p.1
+    (so.all ∙ ap (λ bs. front ++ bs) c.in-Some.ensures.steps.0) (c.in_err-outcomes.ensures.memory ∙ so.own)
 
 pub returns-clause-turned : goal.returns-clause-turned
 returns-clause-turned g c =

@@ -1,4 +1,4 @@
-use Rattle.std.proofs.Common.{◌≡◌, ◌++◌, [], length, take, refl, sym, ap, subst, ◌∙◌, arith}
+use Rattle.std.proofs.Common.{[], take, refl, sym, ap, subst, ◌∙◌, arith}
 use Rattle.std.specs.Prelude.{Err, IfSome}
 use Rattle.std.proofs.lemmas.Result.{err_from_is_err_and}
 use Rattle.iso2709_frame.specs.Frames.{frames}
@@ -33,12 +33,6 @@ loop-batches-init g c =
       turns = omega (arith, room, c.requires.limit);
     }
 
-pub turn_each-requires-turns : goal.turn_each-requires-turns
-turn_each-requires-turns g c = omega (arith, c.loop-batches.invariant.turns, c.in_ok-batches.ensures.answers.fewer)
-
-pub turn_each-requires-few : goal.turn_each-requires-few
-turn_each-requires-few g c = omega (arith, c.loop-batches.invariant.few, c.in_ok-batches.ensures.answers.fewer)
-
 pub returns-in_err-batches : goal.returns-in_err-batches
 returns-in_err-batches g c =
     let before = c.loop-batches.invariant in
@@ -46,7 +40,7 @@ returns-in_err-batches g c =
     let left = g.S.Source.left start.source in
     let own = (view c.loop-batches.session.pass).own in
     let told = g.S.Source.left c.loop-batches.session.source in
-    let round = c.next_round-batches in
+    let round = c.next_round in
     let then = g.S.Source.left round.new.source in
     let stop = c.in_err-batches.field-0.0 in
     let p = err_from_is_err_and c.from_residual.result c.from_residual.ensures.1 in
@@ -74,13 +68,13 @@ returns-in_err-turn_each g c =
     let left = g.S.Source.left start.source in
     let own = (view c.loop-batches.session.pass).own in
     let told = g.S.Source.left c.loop-batches.session.source in
-    let round = c.next_round-batches in
+    let round = c.next_round in
     let then = g.S.Source.left round.new.source in
     let batches = c.in_ok-batches.field-0.batches.items in
     let turned = c.in_err-turn_each.ensures.turned in
-    let p = err_from_is_err_and c.from_residual.result c.from_residual.ensures.1 in
+    let p = err_from_is_err_and c.from_residual-in_err-turn_each.result c.from_residual-in_err-turn_each.ensures.1 in
     Turns-stopped g.S.Source.name g.S.Source.left g.S.Source.faults c.args.turning.now.desk.now.board.shared.table_id start _ round.new.self
-    c.turn_each.new.counts c.from_residual.result Memory (p.1 ∙ ap Err p.2)
+    c.turn_each.new.counts c.from_residual-in_err-turn_each.result Memory (p.1 ∙ ap Err p.2)
     (record {
       number = before.keeps.number;
       library = before.keeps.library;
@@ -104,7 +98,7 @@ returns-then-ended g c =
     let left = g.S.Source.left start.source in
     let own = (view c.loop-batches.session.pass).own in
     let told = g.S.Source.left c.loop-batches.session.source in
-    let round = c.next_round-batches in
+    let round = c.next_round in
     let then = g.S.Source.left round.new.source in
     let answers = c.in_ok-batches.ensures.answers in
     let batches = c.in_ok-batches.field-0.batches.items in
@@ -136,7 +130,7 @@ loop-batches-preserved g c =
     let left = g.S.Source.left start.source in
     let own = (view c.loop-batches.session.pass).own in
     let told = g.S.Source.left c.loop-batches.session.source in
-    let round = c.next_round-batches in
+    let round = c.next_round in
     let then = g.S.Source.left round.new.source in
     let answers = c.in_ok-batches.ensures.answers in
     let batches = c.in_ok-batches.field-0.batches.items in
@@ -155,5 +149,5 @@ loop-batches-preserved g c =
           (HandsOut-round start.prefer start.library start.limit left batches own c.loop-batches.reader round.new.self told then before.handed answers.hands);
       brought = c.in_ok-turn_each.ensures.counts;
       few = omega (arith, before.few, answers.fewer, c.in_ok-turn_each.ensures.few);
-      turns = omega (arith, before.turns, answers.fewer, c.len.ensures);
+      turns = omega (arith, before.turns, answers.fewer, c.len-count.ensures, c.in_ok-batches.field-0.batches.ok);
     }
