@@ -51,7 +51,7 @@ const OVER: u64 = u64::MAX;
 /// How many bytes a read asks for.
 const PIECE: u64 = 65_536;
 
-/// Of how many pieces one has its records counted: to count them all would take half the time of a check.
+/// Of how many pieces one has its records counted: to count them all would add half to the instructions of a check.
 const SAMPLE: u64 = 128;
 
 impl<'a, C: Clock> Teller<'a, C> {
