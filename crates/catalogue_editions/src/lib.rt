@@ -33,4 +33,4 @@ pub mod shared_content;
 mod shared_part;
 pub mod shown;
 mod slots;
-mod united;
+pub mod united;

@@ -38,8 +38,8 @@ pub(crate) fn push_united<'a>(
     }
 }
 
-/// Pushes the fields of either list in order, each once. Returns `Memory` if allocation fails.
-fn push_union<'a>(
+/// Pushes the fields of either list in order, each once; each list is in ascending order. Returns `Memory` if allocation fails.
+pub fn push_union<'a>(
     one: &[&'a Field],
     other: &[&'a Field],
     into: &mut Vec<&'a Field>,

@@ -1,10 +1,11 @@
 -- The united fields of records, dealt to those that stay as they are and those that get a subfield 5.
-use Rattle.std.proofs.Common.{◌≡◌, ℕ, ◌+◌, ◌<◌, Bool, true, false, ◌||◌, List, [], ◌∷◌, ◌++◌, length, append-nil, take, get_or, refl, sym, ap, ap₂, ◌∙◌}
+use Rattle.std.proofs.Common.{◌≡◌, ℕ, ◌+◌, ◌<◌, Bool, Bor, true, false, ◌||◌, List, [], ◌∷◌, ◌++◌, length, append-nil, take, get_or, refl, sym, ap, ap₂, ◌∙◌}
 use Rattle.std.specs.Prelude.{if◌then◌else◌}
 use Rattle.std.specs.Ordering.{is_lt}
 use Rattle.std.specs.List.{list_all, flat_map}
 use Rattle.std.specs.Ordering.{eq_by_cmp}
 use Rattle.std.proofs.lemmas.Grind.{flat_map-append}
+use Rattle.std.proofs.lemmas.List.{map-append}
 use Rattle.std.proofs.lemmas.List.Concat.{flat_map-cons}
 use Rattle.std.proofs.lemmas.List.Folds.{list_any-append}
 use Rattle.union_base.specs.Both.{both_true, true_both}
@@ -17,9 +18,9 @@ use Rattle.marc_fields.proofs.AppendingLaws.{take_one_more}
 use Rattle.field_merge.specs.KeptLaws.{field_total}
 use Rattle.field_merge.specs.MergingLaws.{ascending_united}
 use Rattle.catalogue_export.specs.Exported.{field_of}
-use Rattle.catalogue_export.specs.Holdings.{holding_fields, kept_field, marked_field, kept_fields, marked_fields}
+use Rattle.catalogue_export.specs.Holdings.{holdings_in, holding_fields, kept_field, marked_field, kept_fields, marked_fields}
 use Rattle.catalogue_export.specs.Owners.{is_marked, owned_body, owned_field}
-use Rattle.catalogue_export.specs.declared.holdings.Holding.{Holding}
+use Rattle.catalogue_export.specs.declared.holding.Holding.{Holding}
 
 -- ---- sets of fields
 
@@ -90,6 +91,10 @@ set-dealt hs =
     (λ h. dealt (owned_field h.library) (kept_field h.library) (marked_field h.library) (dealt-field h.library) h.content.united) hs)
 
 -- ---- the records by halves
+
+-- where borrowed records are split
+pub split-in : (behind left right : List (Bor Holding)) → behind ≡ left ++ right → holdings_in behind ≡ holdings_in left ++ holdings_in right
+split-in behind left right is = ap holdings_in is ∙ map-append (λ (h : Bor Holding). h.now) left right
 
 -- records of which some stand in front, then one and then the others
 flat-halves : (fields : Holding → List Field) (first : Holding) (behind left : List Holding) (middle : Holding) (rest : List Holding) {right : List Holding}

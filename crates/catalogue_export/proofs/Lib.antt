@@ -17,9 +17,9 @@ pub mod EditionLaws
 pub mod WritingLaws
 mod OwnedLaws
 mod DealtLaws
-mod BorrowedUnions
+mod AddedFields
 pub mod OwnersProof
-mod HomeLaws
+mod RecordLaws
 pub mod ExportLaws
 mod PartLaws
 mod ShareLaws

@@ -1,10 +1,15 @@
 -- What a library's current record brings to its edition.
-use Rattle.std.specs.Prelude.{ℕ, List, [], ◌∷◌, if◌then◌else◌}
+use Rattle.std.specs.Prelude.{ℕ, List, [], ◌∷◌, map, if◌then◌else◌}
+use Rattle.std.specs.Borrow.{Bor}
 use Rattle.std.specs.List.{flat_map}
 use Rattle.union_base.specs.declared.field.Field.{Field}
 use Rattle.catalogue_export.specs.Exported.{field_of}
 use Rattle.catalogue_export.specs.Owners.{is_marked, owned_body, owned_field}
-use Rattle.catalogue_export.specs.declared.holdings.Holding.{Holding}
+use Rattle.catalogue_export.specs.declared.holding.Holding.{Holding}
+
+-- the records' holdings themselves, where they are borrowed from where they lie
+abbrev pub holdings_in : List (Bor Holding) → List Holding
+holdings_in borrowed = map (λ h. h.now) borrowed
 
 -- its united fields, each as the edition shows it
 abbrev pub holding_fields : Holding → List Field

@@ -13,4 +13,5 @@ pub mod OwnersLaws
 pub mod Owners
 pub mod Sources
 pub mod Holdings
-pub mod Homes
+pub mod RecordKeys
+pub mod HeldRecords

@@ -1,42 +1,48 @@
 //! The united fields that the current records of an edition have, where each local field tells whose it is.
 //!
 //! Cost: one look-up for each record of the edition. The fields that stay as they are are borrowed from where they lie and merged by
-//! halves, as references. Only those that get a subfield 5 are made; these are sorted once, and met with the others when the fields
-//! are listed.
-ghost use Rattle.std.specs.Prelude.{◌≡◌, ◌++◌, ◌∷◌, IfOk, OnOk, IsTrue};
+//! halves, as references. Only those that get a subfield 5 are made, each spelled in a buffer that is written over; these are sorted once,
+//! and met with the others when the fields are listed.
+ghost use Rattle.std.specs.Prelude.{◌≡◌, ◌++◌, ◌∷◌, IfOk, OnOk};
 ghost use Rattle.std.specs.List.{flat_map};
 ghost use Rattle.union_base.specs.FieldOrder.{field_cmp};
-ghost use Rattle.union_base.specs.SortedLists.{is_ascending, union, set_of};
+ghost use Rattle.union_base.specs.SortedLists.{set_of};
 ghost use Rattle.catalogue_editions.specs.Borrowed.{fields_of};
 ghost use Rattle.catalogue_export.specs.Owners.{record_fields};
-ghost use Rattle.catalogue_export.specs.Holdings.{holding_fields, kept_fields, marked_fields};
+ghost use Rattle.catalogue_export.specs.Holdings.{holdings_in, holding_fields, kept_fields, marked_fields};
 
+use crate::holding::Holding;
 use crate::owners::deal_fields;
 use crate::records::Records;
-use catalogue_editions::shared_content::SharedContent;
+use catalogue_editions::united::push_union;
 use std::alloc::Global;
-use std::cmp::Ordering;
 use std::marker::Model;
 use union_base::field::Field;
-use union_base::library_code::LibraryCode;
 use union_base::memory::Memory;
 use union_base::record_id::RecordId;
 use union_base::sorted_list::SortedList;
 
-/// What a library's current record says.
-#[derive(Drop)]
-pub(crate) struct Holding {
-    pub(crate) library: LibraryCode,
-    pub(crate) content: SharedContent,
+/// The united fields of the current records of these ids. Takes room for references to what they say, and returns `Memory` if
+/// allocation fails.
+pub(crate) fn owned_fields<'a>(
+    alloc: Global,
+    records: &'a Records<'_>,
+    ids: &[RecordId],
+) -> Result<OwnedFields<'a>, Memory>
+    ensures { IfOk result (λ fields. fields
+        ≡ set_of field_cmp (flat_map (record_fields records.now) ids.now)) }
+{
+    let holdings = holdings_of(alloc, records, ids)?;
+    OwnedFields::of(alloc, holdings.as_slice())
 }
 
-/// What the current records of these ids say. Takes room for them, and returns `Memory` if allocation fails.
-pub(crate) fn holdings_of(
+/// What the current records of these ids say. Returns `Memory` if allocation fails.
+fn holdings_of<'a>(
     alloc: Global,
-    records: &Records<'_>,
+    records: &'a Records<'_>,
     ids: &[RecordId],
-) -> Result<Vec<Holding>, Memory>
-    ensures { IfOk result (λ holdings. flat_map holding_fields holdings.items
+) -> Result<Vec<&'a Holding>, Memory>
+    ensures { IfOk result (λ holdings. flat_map holding_fields (holdings_in holdings.items)
         ≡ flat_map (record_fields records.now) ids.now) }
 {
     let mut holdings = Vec::with_capacity(alloc, ids.len())?;
@@ -47,20 +53,18 @@ pub(crate) fn holdings_of(
 }
 
 /// Pushes what the current record of that id says, where it is current. Returns `Memory` if allocation fails.
-fn push_holding(
+fn push_holding<'a>(
     alloc: Global,
-    records: &Records<'_>,
+    records: &'a Records<'_>,
     id: &RecordId,
-    holdings: &mut Vec<Holding>,
+    holdings: &mut Vec<&'a Holding>,
 ) -> Result<(), Memory>
-    ensures { OnOk result (flat_map holding_fields holdings.new.items
-        ≡ flat_map holding_fields holdings.old.items ++ record_fields records.now id.now) }
+    ensures { OnOk result (flat_map holding_fields (holdings_in holdings.new.items)
+        ≡ flat_map holding_fields (holdings_in holdings.old.items)
+        ++ record_fields records.now id.now) }
 {
-    if let Some(edition) = records.get(id) {
-        holdings.push(Holding {
-            library: id.library,
-            content: edition.content(alloc)?,
-        })?;
+    if let Some(holding) = records.get(alloc, id)? {
+        holdings.push(holding)?;
     }
     Ok(())
 }
@@ -94,14 +98,16 @@ impl<'a> Model for OwnedFields<'a> {
 }
 
 impl<'a> OwnedFields<'a> {
-    /// The fields of these records. Returns `Memory` if allocation fails.
-    pub fn of(alloc: Global, holdings: &'a [Holding]) -> Result<OwnedFields<'a>, Memory>
+    /// The fields of these records. Most records have one field that is made, so there is room for as many. Returns `Memory` if
+    /// allocation fails.
+    fn of(alloc: Global, holdings: &[&'a Holding]) -> Result<OwnedFields<'a>, Memory>
         ensures { IfOk result (λ fields. fields
-            ≡ set_of field_cmp (flat_map holding_fields holdings.now)) }
+            ≡ set_of field_cmp (flat_map holding_fields (holdings_in holdings.now))) }
     {
         let mut kept = Vec::new(alloc);
-        let mut marked = Vec::new(alloc);
-        deal_all(alloc, holdings, &mut kept, &mut marked)?;
+        let mut marked = Vec::with_capacity(alloc, holdings.len())?;
+        let mut buffer = Vec::new(alloc);
+        deal_all(alloc, holdings, &mut kept, &mut marked, &mut buffer)?;
         let marked = SortedList::of(marked)?;
         Ok(OwnedFields { kept, marked })
     }
@@ -119,17 +125,18 @@ impl<'a> OwnedFields<'a> {
 /// Deals the fields of the records, if there are any, as `deal_records` does. Returns `Memory` if allocation fails.
 fn deal_all<'a>(
     alloc: Global,
-    holdings: &'a [Holding],
+    holdings: &[&'a Holding],
     kept: &mut Vec<&'a Field>,
     marked: &mut Vec<Field>,
+    buffer: &mut Vec<u8>,
 ) -> Result<(), Memory>
     ensures kept { OnOk result (fields_of kept.new.items ≡ fields_of kept.old.items
-        ++ set_of field_cmp (flat_map kept_fields holdings.now)) }
+        ++ set_of field_cmp (flat_map kept_fields (holdings_in holdings.now))) }
     ensures marked { OnOk result (marked.new.items ≡ marked.old.items
-        ++ flat_map marked_fields holdings.now) }
+        ++ flat_map marked_fields (holdings_in holdings.now)) }
 {
     match holdings.split_first() {
-        Some((first, behind)) => deal_records(alloc, first, behind, kept, marked),
+        Some((first, behind)) => deal_records(alloc, first, behind, kept, marked, buffer),
         None => Ok(()),
     }
 }
@@ -139,25 +146,26 @@ fn deal_all<'a>(
 fn deal_records<'a>(
     alloc: Global,
     first: &'a Holding,
-    behind: &'a [Holding],
+    behind: &[&'a Holding],
     kept: &mut Vec<&'a Field>,
     marked: &mut Vec<Field>,
+    buffer: &mut Vec<u8>,
 ) -> Result<(), Memory>
     ensures kept { OnOk result (fields_of kept.new.items ≡ fields_of kept.old.items
-        ++ set_of field_cmp (flat_map kept_fields (first.now ∷ behind.now))) }
+        ++ set_of field_cmp (flat_map kept_fields (first.now ∷ holdings_in behind.now))) }
     ensures marked { OnOk result (marked.new.items ≡ marked.old.items
-        ++ flat_map marked_fields (first.now ∷ behind.now)) }
+        ++ flat_map marked_fields (first.now ∷ holdings_in behind.now)) }
 {
     let (left, right) = behind.split_at(behind.len() / 2);
     match right.split_first() {
         Some((middle, rest)) => {
             let mut one = Vec::new(alloc);
-            deal_records(alloc, first, left, &mut one, marked)?;
+            deal_records(alloc, first, left, &mut one, marked, buffer)?;
             let mut other = Vec::new(alloc);
-            deal_records(alloc, middle, rest, &mut other, marked)?;
+            deal_records(alloc, middle, rest, &mut other, marked, buffer)?;
             push_union(one.as_slice(), other.as_slice(), kept)
         }
-        None => deal_record(alloc, first, kept, marked),
+        None => deal_record(alloc, first, kept, marked, buffer),
     }
 }
 
@@ -167,6 +175,7 @@ fn deal_record<'a>(
     holding: &'a Holding,
     kept: &mut Vec<&'a Field>,
     marked: &mut Vec<Field>,
+    buffer: &mut Vec<u8>,
 ) -> Result<(), Memory>
     ensures kept { OnOk result (fields_of kept.new.items
         ≡ fields_of kept.old.items ++ kept_fields holding.now) }
@@ -174,7 +183,7 @@ fn deal_record<'a>(
         ≡ marked.old.items ++ marked_fields holding.now) }
 {
     let united = holding.content.content().united.as_slice();
-    deal_fields(alloc, &holding.library, united, kept, marked)
+    deal_fields(alloc, &holding.library, united, kept, marked, buffer)
 }
 
 /// The fields where they lie. Takes room for references to them, and returns `Memory` if allocation fails.
@@ -186,39 +195,4 @@ fn borrowed(alloc: Global, fields: &[Field]) -> Result<Vec<&Field>, Memory>
         list.push(field)?;
     }
     Ok(list)
-}
-
-/// Pushes the fields of either list in order, each once. Returns `Memory` if allocation fails.
-fn push_union<'a>(
-    one: &[&'a Field],
-    other: &[&'a Field],
-    into: &mut Vec<&'a Field>,
-) -> Result<(), Memory>
-    requires one { IsTrue (is_ascending field_cmp (fields_of one.now)) }
-    requires other { IsTrue (is_ascending field_cmp (fields_of other.now)) }
-    ensures { OnOk result (fields_of into.new.items ≡ fields_of into.old.items
-        ++ union field_cmp (fields_of one.now) (fields_of other.now)) }
-{
-    into.reserve(one.len().saturating_add(other.len()))?;
-    let mut left = 0;
-    let mut right = 0;
-    while let (Some(x), Some(y)) = (one.get(left), other.get(right)) {
-        match x.cmp(y) {
-            Ordering::Less => {
-                into.push(*x)?;
-                left += 1;
-            }
-            Ordering::Equal => {
-                into.push(*x)?;
-                (left, right) = (left + 1, right + 1);
-            }
-            Ordering::Greater => {
-                into.push(*y)?;
-                right += 1;
-            }
-        }
-    }
-    into.extend_from_slice(&one[left..])?;
-    into.extend_from_slice(&other[right..])?;
-    Ok(())
 }

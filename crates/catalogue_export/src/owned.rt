@@ -2,17 +2,19 @@
 ghost use Rattle.std.specs.Prelude.{◌≡◌, ◌++◌, OnOk, IfOk, IsTrue};
 ghost use Rattle.union_base.specs.Fields.{is_text};
 ghost use Rattle.marc_fields.specs.Appending.{Appends};
-ghost use Rattle.catalogue_export.specs.Exported.{exported, edition_bytes, left_out};
+ghost use Rattle.catalogue_export.specs.Exported.{exported, edition_bytes, left_out, parts};
+ghost use Rattle.catalogue_export.specs.OwnFields.{own_list};
 ghost use Rattle.catalogue_export.specs.Owners.{owned_content};
 ghost use Rattle.catalogue_export.specs.Sources.{owned_text, owned_line, owned_left};
 
 use crate::edition::{append_kept, kept_record};
-use crate::holdings::{OwnedFields, holdings_of};
-use crate::own_fields::own_fields;
+use crate::holdings::{OwnedFields, owned_fields};
+use crate::own_fields::{OwnFields, own_fields};
 use crate::records::Records;
 use crate::shown_fields::all_with;
 use authority_names::name_table::NameTable;
 use catalogue_core::edition::Edition;
+use catalogue_core::shown::Shown;
 use marc_json::writing::to_json;
 use marc_parts::marc_record::Record;
 use record_editions::work_key::work_key_of;
@@ -54,6 +56,37 @@ pub(crate) fn append_owned_line(
     Ok(left)
 }
 
+/// What the record of an edition is made of, where each local field tells whose it is: what the edition's records say together, what the
+/// catalogue writes itself, and the united fields.
+#[derive(Drop)]
+struct OwnedParts<'a> {
+    content: Shown<'a>,
+    own: OwnFields,
+    united: OwnedFields<'a>,
+}
+
+/// Those of the edition under this work key. Returns `Memory` if allocation fails.
+fn owned_parts<'a>(
+    alloc: Global,
+    records: &'a Records<'_>,
+    edition: &'a Edition,
+    key: &[u8],
+) -> Result<OwnedParts<'a>, Memory>
+    requires { IsTrue (is_text key.now) }
+    ensures content { IfOk result (λ made. made.content ≡ edition.now.content) }
+    ensures parts { IfOk result (λ made. own_list made.own made.content ++ made.united
+        ≡ parts (owned_content records.now edition.now) key.now) }
+{
+    let content = edition.shown();
+    let own = own_fields(alloc, &content, key)?;
+    let united = owned_fields(alloc, records, content.contributors().as_slice())?;
+    Ok(OwnedParts {
+        content,
+        own,
+        united,
+    })
+}
+
 /// Appends the bytes of the edition's record under this work key; answers how many of its fields were left out.
 fn append_bytes(
     alloc: Global,
@@ -68,13 +101,9 @@ fn append_bytes(
     ensures left { IfOk result (λ n. n ≡ left_out (owned_content records.now edition.now)
         key.now) }
 {
-    let content = edition.shown();
-    let own = own_fields(alloc, &content, key)?;
-    let ids = content.contributors().as_slice();
-    let holdings = holdings_of(alloc, records, ids)?;
-    let united = OwnedFields::of(alloc, holdings.as_slice())?;
-    let all = all_with(alloc, &content, &own, &united)?;
-    append_kept(content.fixed().codes, all, into)
+    let made = owned_parts(alloc, records, edition, key)?;
+    let all = all_with(alloc, &made.content, &made.own, &made.united)?;
+    append_kept(made.content.fixed().codes, all, into)
 }
 
 /// The edition's record under this work key, and how many of its fields were left out.
@@ -90,11 +119,7 @@ fn owned_record(
     ensures left { IfOk result (λ r. r.1 ≡ left_out (owned_content records.now edition.now)
         key.now) }
 {
-    let content = edition.shown();
-    let own = own_fields(alloc, &content, key)?;
-    let ids = content.contributors().as_slice();
-    let holdings = holdings_of(alloc, records, ids)?;
-    let united = OwnedFields::of(alloc, holdings.as_slice())?;
-    let all = all_with(alloc, &content, &own, &united)?;
-    kept_record(alloc, content.fixed().codes, all)
+    let made = owned_parts(alloc, records, edition, key)?;
+    let all = all_with(alloc, &made.content, &made.own, &made.united)?;
+    kept_record(alloc, made.content.fixed().codes, all)
 }

@@ -1,6 +1,7 @@
 //! Which fields of a record tell whose they are, and what they are shown as.
 //!
-//! Cost: one walk over the record's fields. Only a field that gets a subfield 5 is made; the others are borrowed from where they lie.
+//! Cost: one walk over the record's fields. Only a field that gets a subfield 5 is made, spelled in a buffer that is written over; the
+//! others are borrowed from where they lie.
 ghost use Rattle.std.specs.Prelude.{◌≡◌, ◌++◌, ◌∷◌, [], suc, length, IfOk, OnOk, IsTrue};
 ghost use Rattle.std.specs.Char.{is_ascii_digit};
 ghost use Rattle.std.specs.List.{flat_map};
@@ -25,13 +26,14 @@ use union_base::subfields::Subfields;
 const OWNER: u8 = b'5';
 
 /// Deals the fields of a record of the library, in order: those that stay as they are are borrowed and pushed to `kept`, and each
-/// that gets a subfield 5 is made and pushed to `marked`. Returns `Memory` if allocation fails.
+/// that gets a subfield 5 is made and pushed to `marked`. The buffer is written over. Returns `Memory` if allocation fails.
 pub(crate) fn deal_fields<'a>(
     alloc: Global,
     library: &LibraryCode,
     united: &'a [Field],
     kept: &mut Vec<&'a Field>,
     marked: &mut Vec<Field>,
+    buffer: &mut Vec<u8>,
 ) -> Result<(), Memory>
     ensures kept { OnOk result (fields_of kept.new.items ≡ fields_of kept.old.items
         ++ flat_map (kept_field library.now) united.now) }
@@ -42,7 +44,7 @@ pub(crate) fn deal_fields<'a>(
     kept.reserve(united.len())?;
     for field in united {
         if is_marked(code, field) {
-            marked.push(with_owner(alloc, code, field)?)?;
+            marked.push(with_owner(alloc, code, field, buffer)?)?;
         } else {
             kept.push(field)?;
         }
@@ -107,33 +109,41 @@ fn has_room(library: &[u8], field: &Field) -> bool
     size <= LONGEST_FIELD
 }
 
-/// The local field with a last subfield 5 of this code. Returns `Memory` if allocation fails.
-fn with_owner(alloc: Global, library: &[u8], field: &Field) -> Result<Field, Memory>
+/// The local field with a last subfield 5 of this code. The buffer is written over. Returns `Memory` if allocation fails.
+fn with_owner(
+    alloc: Global,
+    library: &[u8],
+    field: &Field,
+    buffer: &mut Vec<u8>,
+) -> Result<Field, Memory>
     requires code { IsTrue (is_library_code library.now) }
     requires local { IsTrue (is_local field.now) }
     ensures { IfOk result (λ made. field_of field.now.tag (owned_body library.now field.now.body)
         ≡ made ∷ []) }
 {
-    let body = owned_body(alloc, library, field)?;
+    let body = owned_body(alloc, library, field, buffer)?;
     Ok(Field {
         tag: field.tag,
         body,
     })
 }
 
-/// The local field's content with a last subfield 5 of this code. It is spelled in room that is made once. Returns `Memory` if
+/// The local field's content with a last subfield 5 of this code. It is spelled in the buffer, which is written over. Returns `Memory` if
 /// allocation fails.
-fn owned_body(alloc: Global, library: &[u8], field: &Field) -> Result<Body, Memory>
+fn owned_body(
+    alloc: Global,
+    library: &[u8],
+    field: &Field,
+    buffer: &mut Vec<u8>,
+) -> Result<Body, Memory>
     requires code { IsTrue (is_library_code library.now) }
     requires local { IsTrue (is_local field.now) }
     ensures value { IfOk result (λ body. body ≡ owned_body library.now field.now.body) }
     ensures formed { IfOk result (λ body. IsTrue (is_field field.now.tag body)) }
 {
-    let body = field.body.spelling();
-    let room = body.len().saturating_add(library.len()).saturating_add(2);
-    let mut spelling = Vec::with_capacity(alloc, room)?;
-    spelling.extend_from_slice(body)?;
-    spelling.extend_from_slice(&[DELIMITER, OWNER])?;
-    spelling.extend_from_slice(library)?;
-    Ok(Body::spelled_by(Bytes::from(spelling)))
+    buffer.clear();
+    buffer.extend_from_slice(field.body.spelling())?;
+    buffer.extend_from_slice(&[DELIMITER, OWNER])?;
+    buffer.extend_from_slice(library)?;
+    Ok(Body::spelled_by(Bytes::of(alloc, buffer.as_slice())?))
 }

@@ -1,35 +1,26 @@
 use Rattle.std.proofs.Common.{◌≡◌, ◌-◌, Bor, length, map, ap, subst, ◌∙◌}
 use Rattle.std.specs.Prelude.{IfOk}
-use Rattle.std.specs.List.{flat_map, list_all}
-use Rattle.union_base.specs.FieldOrder.{field_cmp}
-use Rattle.union_base.specs.SortedLists.{set_of}
+use Rattle.std.specs.List.{list_all}
+use Rattle.std.proofs.Math.Seq.{take-length}
 use Rattle.union_base.specs.declared.field.Field.{Field}
+use Rattle.marc_fields.specs.Appending.{Appends}
 use Rattle.marc_fields.specs.Spelling.{is_short, spelling, record_of}
+use Rattle.marc_fields.proofs.AppendingLaws.{Appends-refused}
 use Rattle.field_merge.specs.declared.content.Content.{Content}
 use Rattle.field_merge.specs.declared.fixed.Fixed.{Fixed}
-use Rattle.catalogue_export.specs.Fitting.{fitting}
-use Rattle.catalogue_export.specs.Holdings.{holding_fields}
-use Rattle.catalogue_export.specs.Owners.{record_fields, owned_content}
-use Rattle.catalogue_export.specs.TagOrder.{in_tag_order}
-use Rattle.catalogue_export.proofs.OwnersProof.{owned-sound, owned-all}
-use Rattle.catalogue_export.proofs.SoundLaws.{parts-short}
-use Rattle.std.proofs.Math.Seq.{take-length}
-use Rattle.marc_fields.proofs.AppendingLaws.{Appends-refused}
-use Rattle.marc_fields.specs.Appending.{Appends}
 use Rattle.catalogue_export.specs.Exported.{edition_bytes}
+use Rattle.catalogue_export.specs.Fitting.{fitting}
+use Rattle.catalogue_export.specs.Owners.{owned_content}
+use Rattle.catalogue_export.specs.TagOrder.{in_tag_order}
+use Rattle.catalogue_export.proofs.OwnersProof.{owned-sound}
+use Rattle.catalogue_export.proofs.SoundLaws.{parts-short}
 use Rattle.catalogue_export.proofs.owned.append_bytes.Goals as goal
 
-pub returns-in_err-holdings-clause-text : goal.returns-in_err-holdings-clause-text
-returns-in_err-holdings-clause-text c =
+pub returns-in_err-made-clause-text : goal.returns-in_err-made-clause-text
+returns-in_err-made-clause-text c =
     let old = c.args.into.now.items in
-    Appends-refused c.from_residual-in_err-holdings.result old old (edition_bytes (owned_content c.args.records.now c.args.edition.now) c.args.key.now)
-    c.from_residual-in_err-holdings.ensures.0 (take-length old)
-
-pub returns-in_err-united-clause-text : goal.returns-in_err-united-clause-text
-returns-in_err-united-clause-text c =
-    let old = c.args.into.now.items in
-    Appends-refused c.from_residual-in_err-united.result old old (edition_bytes (owned_content c.args.records.now c.args.edition.now) c.args.key.now)
-    c.from_residual-in_err-united.ensures.0 (take-length old)
+    Appends-refused c.from_residual.result old old (edition_bytes (owned_content c.args.records.now c.args.edition.now) c.args.key.now)
+    c.from_residual.ensures.0 (take-length old)
 
 pub returns-in_err-all-clause-text : goal.returns-in_err-all-clause-text
 returns-in_err-all-clause-text c =
@@ -39,35 +30,19 @@ returns-in_err-all-clause-text c =
 
 pub append_kept-requires : goal.append_kept-requires
 append_kept-requires c =
-    let see = λ (f : Bor Field). f.now in
     let records = c.args.records.now in
     let e = c.args.edition.now in
-    let key = c.args.key.now in
-    let ids = c.as_slice-ids.ensures.value ∙ (c.contributors.ensures.value ∙ ap (λ (k : Content). k.contributors) c.shown-content.ensures) in
-    let united = c.in_ok-united.ensures ∙ ap (set_of field_cmp) (ap (flat_map holding_fields) c.as_slice.ensures.value ∙ (c.in_ok-holdings.ensures ∙ ap (flat_map (record_fields records)) ids)) in
-    let all = c.in_ok-all.ensures ∙ owned-all records e key c.in_ok-own.own c.in_ok-united.united c.shown-content.result c.shown-content.ensures c.in_ok-own.ensures united in
-    ap (list_all is_short) all ∙ parts-short (owned_content records e) (owned-sound records e) key
+    ap (list_all is_short) (c.in_ok-all.ensures ∙ c.in_ok-made.ensures.parts) ∙ parts-short (owned_content records e) (owned-sound records e) c.args.key.now
 
 pub returns-clause-text : goal.returns-clause-text
 returns-clause-text c =
     let see = λ (f : Bor Field). f.now in
-    let records = c.args.records.now in
     let e = c.args.edition.now in
-    let key = c.args.key.now in
-    let ids = c.as_slice-ids.ensures.value ∙ (c.contributors.ensures.value ∙ ap (λ (k : Content). k.contributors) c.shown-content.ensures) in
-    let united = c.in_ok-united.ensures ∙ ap (set_of field_cmp) (ap (flat_map holding_fields) c.as_slice.ensures.value ∙ (c.in_ok-holdings.ensures ∙ ap (flat_map (record_fields records)) ids)) in
-    let all = c.in_ok-all.ensures ∙ owned-all records e key c.in_ok-own.own c.in_ok-united.united c.shown-content.result c.shown-content.ensures c.in_ok-own.ensures united in
-    let fixed = c.fixed.ensures.value ∙ ap (λ (k : Content). k.fixed) c.shown-content.ensures in
+    let all = c.in_ok-all.ensures ∙ c.in_ok-made.ensures.parts in
+    let fixed = c.fixed.ensures.value ∙ ap (λ (k : Content). k.fixed) c.in_ok-made.ensures.content in
     let rec = ap (λ (f : Fixed). record_of f.codes (in_tag_order (fitting (map see c.in_ok-all.all.items)))) fixed ∙ ap (λ fs. record_of e.content.fixed.codes (in_tag_order (fitting fs))) all in
     subst (λ text. Appends c.append_kept.result c.args.into.now.items c.append_kept.new.into.items text) (ap spelling rec) c.append_kept.ensures.text
 
 pub returns-clause-left : goal.returns-clause-left
 returns-clause-left c =
-    let see = λ (f : Bor Field). f.now in
-    let records = c.args.records.now in
-    let e = c.args.edition.now in
-    let key = c.args.key.now in
-    let ids = c.as_slice-ids.ensures.value ∙ (c.contributors.ensures.value ∙ ap (λ (k : Content). k.contributors) c.shown-content.ensures) in
-    let united = c.in_ok-united.ensures ∙ ap (set_of field_cmp) (ap (flat_map holding_fields) c.as_slice.ensures.value ∙ (c.in_ok-holdings.ensures ∙ ap (flat_map (record_fields records)) ids)) in
-    let all = c.in_ok-all.ensures ∙ owned-all records e key c.in_ok-own.own c.in_ok-united.united c.shown-content.result c.shown-content.ensures c.in_ok-own.ensures united in
-    subst (λ fs. IfOk c.append_kept.result (λ n. n ≡ length fs - length (fitting fs))) all c.append_kept.ensures.left
+    subst (λ fs. IfOk c.append_kept.result (λ n. n ≡ length fs - length (fitting fs))) (c.in_ok-all.ensures ∙ c.in_ok-made.ensures.parts) c.append_kept.ensures.left

@@ -1,51 +1,32 @@
 use Rattle.std.proofs.Common.{◌≡◌, ◌-◌, Bor, length, map, ap, subst, ◌∙◌}
 use Rattle.std.specs.Prelude.{IfOk}
-use Rattle.std.specs.List.{flat_map, list_all}
-use Rattle.union_base.specs.FieldOrder.{field_cmp}
-use Rattle.union_base.specs.SortedLists.{set_of}
+use Rattle.std.specs.List.{list_all}
 use Rattle.union_base.specs.declared.field.Field.{Field}
 use Rattle.marc_fields.specs.Spelling.{is_short, record_of}
 use Rattle.field_merge.specs.declared.content.Content.{Content}
 use Rattle.field_merge.specs.declared.fixed.Fixed.{Fixed}
 use Rattle.catalogue_export.specs.Fitting.{fitting}
-use Rattle.catalogue_export.specs.Holdings.{holding_fields}
-use Rattle.catalogue_export.specs.Owners.{record_fields, owned_content}
+use Rattle.catalogue_export.specs.Owners.{owned_content}
 use Rattle.catalogue_export.specs.TagOrder.{in_tag_order}
-use Rattle.catalogue_export.proofs.OwnersProof.{owned-sound, owned-all}
+use Rattle.catalogue_export.proofs.OwnersProof.{owned-sound}
 use Rattle.catalogue_export.proofs.SoundLaws.{parts-short}
 use Rattle.catalogue_export.proofs.owned.owned_record.Goals as goal
 
 pub kept_record-requires : goal.kept_record-requires
 kept_record-requires c =
-    let see = λ (f : Bor Field). f.now in
     let records = c.args.records.now in
     let e = c.args.edition.now in
-    let key = c.args.key.now in
-    let ids = c.as_slice-ids.ensures.value ∙ (c.contributors.ensures.value ∙ ap (λ (k : Content). k.contributors) c.shown-content.ensures) in
-    let united = c.in_ok-united.ensures ∙ ap (set_of field_cmp) (ap (flat_map holding_fields) c.as_slice.ensures.value ∙ (c.in_ok-holdings.ensures ∙ ap (flat_map (record_fields records)) ids)) in
-    let all = c.in_ok-all.ensures ∙ owned-all records e key c.in_ok-own.own c.in_ok-united.united c.shown-content.result c.shown-content.ensures c.in_ok-own.ensures united in
-    ap (list_all is_short) all ∙ parts-short (owned_content records e) (owned-sound records e) key
+    ap (list_all is_short) (c.in_ok-all.ensures ∙ c.in_ok-made.ensures.parts) ∙ parts-short (owned_content records e) (owned-sound records e) c.args.key.now
 
 pub returns-clause-value : goal.returns-clause-value
 returns-clause-value c =
     let see = λ (f : Bor Field). f.now in
-    let records = c.args.records.now in
     let e = c.args.edition.now in
-    let key = c.args.key.now in
-    let ids = c.as_slice-ids.ensures.value ∙ (c.contributors.ensures.value ∙ ap (λ (k : Content). k.contributors) c.shown-content.ensures) in
-    let united = c.in_ok-united.ensures ∙ ap (set_of field_cmp) (ap (flat_map holding_fields) c.as_slice.ensures.value ∙ (c.in_ok-holdings.ensures ∙ ap (flat_map (record_fields records)) ids)) in
-    let all = c.in_ok-all.ensures ∙ owned-all records e key c.in_ok-own.own c.in_ok-united.united c.shown-content.result c.shown-content.ensures c.in_ok-own.ensures united in
-    let fixed = c.fixed.ensures.value ∙ ap (λ (k : Content). k.fixed) c.shown-content.ensures in
+    let all = c.in_ok-all.ensures ∙ c.in_ok-made.ensures.parts in
+    let fixed = c.fixed.ensures.value ∙ ap (λ (k : Content). k.fixed) c.in_ok-made.ensures.content in
     let rec = ap (λ (f : Fixed). record_of f.codes (in_tag_order (fitting (map see c.in_ok-all.all.items)))) fixed ∙ ap (λ fs. record_of e.content.fixed.codes (in_tag_order (fitting fs))) all in
     subst (λ rec. IfOk c.kept_record.result (λ r. r.0 ≡ rec)) rec c.kept_record.ensures.value
 
 pub returns-clause-left : goal.returns-clause-left
 returns-clause-left c =
-    let see = λ (f : Bor Field). f.now in
-    let records = c.args.records.now in
-    let e = c.args.edition.now in
-    let key = c.args.key.now in
-    let ids = c.as_slice-ids.ensures.value ∙ (c.contributors.ensures.value ∙ ap (λ (k : Content). k.contributors) c.shown-content.ensures) in
-    let united = c.in_ok-united.ensures ∙ ap (set_of field_cmp) (ap (flat_map holding_fields) c.as_slice.ensures.value ∙ (c.in_ok-holdings.ensures ∙ ap (flat_map (record_fields records)) ids)) in
-    let all = c.in_ok-all.ensures ∙ owned-all records e key c.in_ok-own.own c.in_ok-united.united c.shown-content.result c.shown-content.ensures c.in_ok-own.ensures united in
-    subst (λ fs. IfOk c.kept_record.result (λ r. r.1 ≡ length fs - length (fitting fs))) all c.kept_record.ensures.left
+    subst (λ fs. IfOk c.kept_record.result (λ r. r.1 ≡ length fs - length (fitting fs))) (c.in_ok-all.ensures ∙ c.in_ok-made.ensures.parts) c.kept_record.ensures.left

@@ -4,7 +4,7 @@ use Rattle.catalogue_editions.specs.Borrowed.{fields_of}
 use Rattle.catalogue_export.specs.Exported.{field_of}
 use Rattle.catalogue_export.specs.Holdings.{kept_field, marked_field}
 use Rattle.catalogue_export.specs.Owners.{is_marked, owned_body}
-use Rattle.catalogue_export.proofs.BorrowedUnions.{added}
+use Rattle.catalogue_export.proofs.AddedFields.{added}
 use Rattle.catalogue_export.proofs.DealtLaws.{kept-same, kept-more, marked-same, marked-more}
 use Rattle.catalogue_export.proofs.owners.deal_fields.Goals as goal
 use Rattle.catalogue_export.proofs.owners.deal_fields.Goals.{then-is_marked+in_ok-with_owner+in_ok-push, else-is_marked+in_ok-push-2}
