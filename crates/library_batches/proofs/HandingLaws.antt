@@ -5,6 +5,8 @@ use Rattle.std.proofs.lemmas.Bool.{ltb-false, ltb-true}
 use Rattle.std.proofs.lemmas.List.{take_all}
 use Rattle.std.proofs.lemmas.List.Sums.{fold-append}
 use Rattle.iso2709_frame.specs.Frames.{frames}
+use Rattle.library_stream.specs.Streaming.{frames_on, passes}
+use Rattle.library_stream.specs.declared.course.Course.TheVariants.{Ended}
 use Rattle.catalogue_editions.specs.CurrentRecords.{MapOf, after_batch, outcomes}
 use Rattle.catalogue_editions.specs.declared.batch.Batch.{Batch}
 use Rattle.catalogue_editions.specs.declared.edition.Edition.{Edition}
@@ -13,9 +15,12 @@ use Rattle.library_batches.specs.Refused.{refused}
 use Rattle.library_batches.specs.Batches.{AreBatches, AreFirstBatches}
 use Rattle.library_batches.specs.Handing.{HandsOut, IsRead}
 use Rattle.library_batches.specs.Outcomes.{found_in, after_batches}
-use Rattle.library_batches.specs.Reading.{AnswersBatch, Batching, begun, ahead, KeepsFrames}
+use Rattle.library_batches.specs.Passing.{Passes}
+use Rattle.library_batches.specs.Reading.{AnswersBatch, AnswersEach, Batching, IsLostByRounds, begun, ahead, KeepsFrames}
+use Rattle.library_batches.specs.Rounds.{HandsRound, RoundAnswers}
+use Rattle.library_batches.specs.declared.stop.Stop.{Stop}
 use Rattle.library_batches.specs.declared.stop.Stop.TheVariants.{TooLong}
-use Rattle.library_batches.proofs.PassedLaws.{to_reader, from_reader}
+use Rattle.library_batches.proofs.PassedLaws.{to_reader, from_reader, Passes-none, Answers-stopped}
 
 pub HandsOut-none : (prefer : List (List ℕ)) (library : List ℕ) (limit : ℕ) (left : Option (List ℕ)) → HandsOut prefer library limit left [] (begun prefer library limit) left
 HandsOut-none prefer library limit None = tt
@@ -84,6 +89,80 @@ HandsOut-first prefer library limit None before done a handed = tt
 HandsOut-first prefer library limit (Some bytes) None done a handed = absurd handed
 HandsOut-first prefer library limit (Some bytes) (Some x) done a handed =
     subst (AreFirstBatches prefer library (frames (take limit bytes))) (append-nil done) (handed.first [] tt)
+
+-- blocks without a batch were passed
+HandsOut-passes : (prefer : List (List ℕ)) (library : List ℕ) (limit : ℕ) (left before now : Option (List ℕ)) (done : List Batch) (a b : Batching)
+    → HandsOut prefer library limit left done a before → Passes a before b now → HandsOut prefer library limit left done b now
+HandsOut-passes prefer library limit None before now done a b handed passed = tt
+HandsOut-passes prefer library limit (Some bytes) None now done a b handed passed = absurd handed
+HandsOut-passes prefer library limit (Some bytes) (Some x) None done a b handed passed = absurd passed
+HandsOut-passes prefer library limit (Some bytes) (Some x) (Some y) done a b handed passed =
+    let of = handed.keeps in
+    record {
+      keeps = KeepsFrames-more (begun prefer library limit) a b (frames (take limit bytes)) (ahead a x) (ahead b y) handed.keeps passed.0.keeps;
+      all = λ later all. handed.all later (from_reader (λ p l. AreBatches p l (ahead a x) later) (begun prefer library limit) a of.prefer of.library
+          (passed.0.all later (to_reader (λ p l. AreBatches p l (ahead b y) later) (begun prefer library limit) a of.prefer of.library all)));
+      first = λ later first. handed.first later (from_reader (λ p l. AreFirstBatches p l (ahead a x) later) (begun prefer library limit) a of.prefer of.library
+          (passed.0.first later (to_reader (λ p l. AreFirstBatches p l (ahead b y) later) (begun prefer library limit) a of.prefer of.library first)));
+      too_long = passed.1 ∙ handed.too_long;
+    }
+
+-- the first of the batches were answered one after the other
+AnswersEach-front : (made rest : List Batch) (a b : Batching) (l k : Option (List ℕ)) → AnswersEach (made ++ rest) a l b k
+    → (m : Batching) × (t : Option (List ℕ)) × AnswersEach made a l m t
+AnswersEach-front [] rest a b l k each = (a, l, (refl, refl))
+AnswersEach-front (batch ∷ made) rest a b l k (m, t, first, more) =
+    let front = AnswersEach-front made rest m b t k more in
+    (front.0, front.1, (m, t, first, front.2))
+
+-- at the end of the source no batch is ahead
+Answers-ended : (a : Batching) (left : Option (List ℕ)) → a.stream.course ≡ Ended → AnswersBatch (Ok None) a left a left
+Answers-ended a None ended = tt
+Answers-ended a (Some bytes) ended =
+    let nothing : ahead a bytes ≡ [] = ap (λ course. frames_on course a.stream.pending a.stream.unread bytes) ended in (
+      subst (λ fs. AreBatches a.prefer a.library fs []) (sym nothing) tt,
+      subst (λ fs. KeepsFrames a fs a []) (sym nothing) (record { prefer = refl; library = refl; frames = refl; refused = refl }),
+      ap (λ course. passes course bytes) ended,
+    )
+
+module _ (prefer : List (List ℕ)) (library : List ℕ) (limit : ℕ) (left : Option (List ℕ)) where
+  -- batches were handed out, one after the other
+  HandsOut-each : (batches done : List Batch) (a b : Batching) (l k : Option (List ℕ)) → HandsOut prefer library limit left done a l → AnswersEach batches a l b k
+      → HandsOut prefer library limit left (done ++ batches) b k
+  HandsOut-each [] done a b l k handed none =
+      subst (λ s. HandsOut prefer library limit left (done ++ []) s k) (sym none.0)
+      (subst (λ s. HandsOut prefer library limit left (done ++ []) a s) (sym none.1)
+      (subst (λ d. HandsOut prefer library limit left d a l) (sym (append-nil done)) handed))
+  HandsOut-each (batch ∷ batches) done a b l k handed (m, t, first, rest) =
+      subst (λ d. HandsOut prefer library limit left d b k) (append_assoc done (batch ∷ []) batches)
+      (HandsOut-each batches (done ++ batch ∷ []) m b t k (HandsOut-batch prefer library limit left l t done batch a m handed first) rest)
+
+  -- those of a round
+  pub HandsOut-round : (batches done : List Batch) (a b : Batching) (l k : Option (List ℕ)) → HandsOut prefer library limit left done a l → HandsRound a l b k batches
+      → HandsOut prefer library limit left (done ++ batches) b k
+  HandsOut-round batches done a b l k handed hands =
+      HandsOut-passes prefer library limit left hands.told k (done ++ batches) hands.between b
+      (HandsOut-each batches done a hands.between l hands.told handed hands.each) hands.passes
+
+  -- the first ones of a round
+  pub HandsOut-part : (made rest batches done : List Batch) (a b : Batching) (l k : Option (List ℕ)) → batches ≡ made ++ rest
+      → HandsOut prefer library limit left done a l → HandsRound a l b k batches
+      → IfSome left (λ bytes. AreFirstBatches prefer library (frames (take limit bytes)) (done ++ made))
+  HandsOut-part made rest batches done a b l k same handed hands =
+      let front = AnswersEach-front made rest a hands.between l hands.told (subst (λ bs. AnswersEach bs a l hands.between hands.told) same hands.each) in
+      HandsOut-first prefer library limit left front.1 (done ++ made) front.0 (HandsOut-each made done a front.0 l front.1 handed front.2)
+
+  -- the source ended within the last round
+  pub HandsOut-ended : (done : List Batch) (a : Batching) (l : Option (List ℕ)) → HandsOut prefer library limit left done a l → a.stream.course ≡ Ended
+      → IfSome left (λ bytes. IsRead prefer library limit bytes done a)
+  HandsOut-ended done a l handed ended = HandsOut-end prefer library limit left l l done a a handed (Answers-ended a l ended)
+
+  -- the reading of a round stopped
+  pub HandsOut-stopped : (stop : Stop) (done : List Batch) (a b : Batching) (l k : Option (List ℕ)) → HandsOut prefer library limit left done a l
+      → RoundAnswers (Err stop) a l b k → stop ≡ TooLong → IfSome left (λ bytes. limit < length bytes)
+  HandsOut-stopped stop done a b l k handed stops is =
+      HandsOut-long prefer library limit left l k done a b handed
+      (subst (λ s. AnswersBatch (Err s) a l b k) is (Answers-stopped IsLostByRounds stop a a b l l k (Passes-none a l) stops))
 
 pub found_in-one_more : (all : MapOf Edition) (batches : List Batch) (batch : Batch)
     → found_in all (batches ++ batch ∷ []) ≡ found_in all batches ++ outcomes batch.library (after_batches all batches) batch.ops

@@ -3,5 +3,7 @@ pub mod ShareLaws
 pub mod BlockLaws
 pub mod PassedLaws
 pub mod StopLaws
+pub mod WorkLaws
+pub mod RoundLaws
 pub mod HandingLaws
 pub mod SameLaws

@@ -1,6 +1,6 @@
 -- What a reader that passed blocks without a batch answers next.
 use Rattle.std.proofs.Common.{◌≡◌, ℕ, ◌+◌, ◌≤◌, ◌<◌, Bool, true, false, List, [], ◌∷◌, ◌++◌, length, append_assoc, inl, inr, refl, sym, ap, subst, ◌∙◌, arith, add-zero, append-nil, length-append}
-use Rattle.std.specs.Prelude.{Option, Some, None, Ok, Err, ⊤, IsTrue, filter}
+use Rattle.std.specs.Prelude.{Option, Some, None, Ok, Err, IsTrue, filter}
 use Rattle.std.proofs.lemmas.Bool.{le-leb}
 use Rattle.std.proofs.lemmas.List.{length-map}
 use Rattle.std.proofs.lemmas.List.Sums.{length-filter, count_by-le-length}
@@ -14,6 +14,7 @@ use Rattle.library_batches.specs.Streams.{Frame, is_accepted, accepted}
 use Rattle.library_batches.specs.Refused.{refused_from}
 use Rattle.library_batches.specs.Batches.{AreBatches, AreFirstBatches, IsBatchOf, IsOpOf, block_size}
 use Rattle.library_batches.specs.Reading.{Batching, AnswersBatch, KeepsFrames, Losses, ahead}
+use Rattle.library_batches.specs.Passing.{Passes}
 use Rattle.library_batches.specs.Blocks.{IsBlock, IsChecked, IsFull, StopsBlock, BlockAnswers}
 use Rattle.library_batches.specs.declared.block.Block.{Block}
 use Rattle.library_batches.specs.declared.refused.RefusedFrame.{RefusedFrame}
@@ -30,24 +31,6 @@ to_reader P a b prefer library is = subst (λ l. P b.prefer l) (sym library) (su
 pub from_reader : (P : List (List ℕ) → List ℕ → Type 0) (a b : Batching) → b.prefer ≡ a.prefer → b.library ≡ a.library → P b.prefer b.library
     → P a.prefer a.library
 from_reader P a b prefer library is = subst (λ l. P a.prefer l) library (subst (λ p. P p b.library) prefer is)
-
--- blocks without a batch were passed: what the batches still to come are, the batches of what was coming are
-pub record PassesBlocks (before : Batching) (coming : List Frame) (now : Batching) (still : List Frame) : Type 0 where
-  pub keeps : KeepsFrames before coming now still
-  pub passed : List Frame
-  pub are : coming ≡ passed ++ still
-  pub place : now.frames ≡ before.frames + length passed
-  pub refused : now.refused ≡ before.refused ++ refused_from (before.frames + 1) passed
-  pub all : (later : List Batch) → AreBatches before.prefer before.library still later → AreBatches before.prefer before.library coming later
-  pub first : (later : List Batch) → AreFirstBatches before.prefer before.library still later
-      → AreFirstBatches before.prefer before.library coming later
-
--- the same where the source may not tell its bytes
-abbrev pub Passes : Batching → Option (List ℕ) → Batching → Option (List ℕ) → Type 0
-Passes before None now left = ⊤
-Passes before (Some bytes) now None = ⊥
-Passes before (Some bytes) now (Some rest) =
-    PassesBlocks before (ahead before bytes) now (ahead now rest) × (is_too_long now.stream rest ≡ is_too_long before.stream bytes)
 
 -- nothing is passed at first
 pub Passes-none : (a : Batching) (left : Option (List ℕ)) → Passes a left a left

@@ -8,13 +8,13 @@ use Rattle.library_stream.specs.Streaming.{frames_ahead}
 use Rattle.library_stream.specs.Answering.{Takes}
 use Rattle.library_batches.specs.Streams.{Frame}
 use Rattle.library_batches.specs.Refused.{refused_from}
-use Rattle.library_batches.specs.Batches.{block_size}
-use Rattle.library_batches.specs.Reading.{Batching, Losses, IsCutOff, IsLostBySeveral, KeepsRefused, StopsTold, StopsReading, ahead}
+use Rattle.library_batches.specs.Reading.{Batching, Losses, IsCutOff, IsLostWithin, KeepsRefused, StopsTold, StopsReading, ahead}
 use Rattle.library_batches.specs.Blocks.{StopsBlock, BlockAnswers, AnswersCut}
 use Rattle.library_batches.specs.Shares.{KeepsFront}
 use Rattle.library_batches.specs.declared.stop.Stop.{Stop}
 use Rattle.library_batches.specs.declared.stop.Stop.TheVariants.{TooLong, Failed, Memory}
-use Rattle.library_batches.proofs.PassedLaws.{Passes, PassesBlocks, refused-more}
+use Rattle.library_batches.specs.Passing.{Passes, PassesBlocks}
+use Rattle.library_batches.proofs.PassedLaws.{refused-more}
 
 -- a rest that the limit cuts off, or none
 pub cut-off : (rest : Option Cut) → IfSome rest (λ cut. cut ≡ Truncated) → IsCutOff (told rest [])
@@ -70,23 +70,23 @@ rest_within : (a b : Batching) (kept : List Frame) (front : KeepsFront (a.frames
 rest_within a b kept front = omega (arith, ap length front.all, length-append front.checked front.rest)
 
 -- the source is too long, and all frames that were kept were checked
-pub stops-long : (a b : Batching) (one two : Option (List ℕ)) (kept : List Frame) → AnswersCut (Err TooLong) a.stream one b.stream two kept
-    → b.refused ≡ a.refused ++ refused_from (a.frames + 1) kept → BlockAnswers IsLostBySeveral (Err TooLong) a one b two
-stops-long a b one two kept stops refused =
+pub stops-long : (size : ℕ) (a b : Batching) (one two : Option (List ℕ)) (kept : List Frame) → AnswersCut (Err TooLong) a.stream one b.stream two kept
+    → b.refused ≡ a.refused ++ refused_from (a.frames + 1) kept → BlockAnswers (IsLostWithin size) (Err TooLong) a one b two
+stops-long size a b one two kept stops refused =
     (record { checked = kept; lost = stops.0.0; takes = stops.0.1; lost_are = stops.0.2; refused = refused }, stops.1)
 
 -- a read failed, and the first of the frames that were kept were checked
-pub stops-failed : (a b : Batching) (one two : Option (List ℕ)) (kept : List Frame) → length kept ≤ block_size
+pub stops-failed : (size : ℕ) (a b : Batching) (one two : Option (List ℕ)) (kept : List Frame) → length kept ≤ size
     → AnswersCut (Err Failed) a.stream one b.stream two kept → KeepsFront (a.frames + 1) kept a.refused b.refused
-    → BlockAnswers IsLostBySeveral (Err Failed) a one b two
-stops-failed a b one two kept most stops front =
-    lost-behind (IsLostBySeveral Failed) a b one two kept stops.0 front stops.1
+    → BlockAnswers (IsLostWithin size) (Err Failed) a one b two
+stops-failed size a b one two kept most stops front =
+    lost-behind (IsLostWithin size Failed) a b one two kept stops.0 front stops.1
     (omega (arith, most, rest_within a b kept front, length-append front.rest stops.0, ap length stops.2))
 
--- memory ran out while the frames of a whole block were checked
-pub stops-checking : (a b : Batching) (one two : Option (List ℕ)) (kept : List Frame) → length kept ≤ block_size
-    → Takes a.stream one b.stream two kept → KeepsFront (a.frames + 1) kept a.refused b.refused → BlockAnswers IsLostBySeveral (Err Memory) a one b two
-stops-checking a b one two kept most takes front = record {
+-- memory ran out while frames were checked that were all cut
+pub stops-checking : (size : ℕ) (a b : Batching) (one two : Option (List ℕ)) (kept : List Frame) → length kept ≤ size
+    → Takes a.stream one b.stream two kept → KeepsFront (a.frames + 1) kept a.refused b.refused → BlockAnswers (IsLostWithin size) (Err Memory) a one b two
+stops-checking size a b one two kept most takes front = record {
   checked = front.checked;
   lost = front.rest;
   takes = subst (Takes a.stream one b.stream two) front.all takes;
@@ -98,16 +98,16 @@ cut_off-short : (lost : List Frame) → IsCutOff lost → length lost ≤ 1
 cut_off-short lost (inl none) = omega (arith, ap length none)
 cut_off-short lost (inr one) = omega (arith, ap length one)
 
--- memory ran out while the frames of a block were checked whose cutting had stopped
-pub stops-both : (stop : Stop) (a b : Batching) (one two : Option (List ℕ)) (kept : List Frame) → length kept ≤ block_size
+-- memory ran out while frames were checked whose cutting had stopped
+pub stops-both : (size : ℕ) (stop : Stop) (a b : Batching) (one two : Option (List ℕ)) (kept : List Frame) → length kept ≤ size
     → AnswersCut (Err stop) a.stream one b.stream two kept → KeepsFront (a.frames + 1) kept a.refused b.refused
-    → BlockAnswers IsLostBySeveral (Err Memory) a one b two
-stops-both TooLong a b one two kept most stops front =
-    lost-behind (IsLostBySeveral Memory) a b one two kept stops.0.0 front stops.0.1
+    → BlockAnswers (IsLostWithin size) (Err Memory) a one b two
+stops-both size TooLong a b one two kept most stops front =
+    lost-behind (IsLostWithin size Memory) a b one two kept stops.0.0 front stops.0.1
     (omega (arith, most, rest_within a b kept front, length-append front.rest stops.0.0, cut_off-short stops.0.0 stops.0.2))
-stops-both Failed a b one two kept most stops front =
-    lost-behind (IsLostBySeveral Memory) a b one two kept stops.0 front stops.1
+stops-both size Failed a b one two kept most stops front =
+    lost-behind (IsLostWithin size Memory) a b one two kept stops.0 front stops.1
     (omega (arith, most, rest_within a b kept front, length-append front.rest stops.0, ap length stops.2))
-stops-both Memory a b one two kept most stops front =
-    lost-behind (IsLostBySeveral Memory) a b one two kept stops.0 front stops.1
+stops-both size Memory a b one two kept most stops front =
+    lost-behind (IsLostWithin size Memory) a b one two kept stops.0 front stops.1
     (omega (arith, most, rest_within a b kept front, length-append front.rest stops.0, stops.2))

@@ -17,6 +17,10 @@ IsOpOf prefer library frame done = (r : Record) × Spells frame r × (op prefer 
 abbrev pub block_size : ℕ
 block_size = 256
 
+-- how many frames a round of several workers has: 16 blocks
+abbrev pub round_size : ℕ
+round_size = 4096
+
 -- the frames in blocks of 256, the last of which may be shorter; at most this many blocks
 abbrev pub blocks_within : ℕ → List Frame → List (List Frame)
 blocks_within zero frames = []

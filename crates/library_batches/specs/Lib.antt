@@ -2,8 +2,11 @@ pub mod Streams
 pub mod Refused
 pub mod Batches
 pub mod Reading
+pub mod Passing
 pub mod Blocks
 pub mod Shares
+pub mod Works
+pub mod Rounds
 pub mod Within
 pub mod Handing
 pub mod Outcomes

@@ -5,7 +5,7 @@ use Rattle.library_stream.specs.Streaming.{Streaming, opened, frames_ahead, is_t
 use Rattle.catalogue_editions.specs.declared.batch.Batch.{Batch}
 use Rattle.library_batches.specs.Streams.{Frame}
 use Rattle.library_batches.specs.Refused.{refused_from}
-use Rattle.library_batches.specs.Batches.{AreBatches, AreFirstBatches, block_size}
+use Rattle.library_batches.specs.Batches.{AreBatches, AreFirstBatches, block_size, round_size}
 use Rattle.library_batches.specs.declared.refused.RefusedFrame.{RefusedFrame}
 use Rattle.library_batches.specs.declared.stop.Stop.{Stop}
 use Rattle.library_batches.specs.declared.stop.Stop.TheVariants.{TooLong, Failed, Memory}
@@ -62,6 +62,12 @@ AnswersBatch answer before None now left = ⊤
 AnswersBatch answer before (Some bytes) now None = ⊥
 AnswersBatch answer before (Some bytes) now (Some rest) = AnswersTold answer before bytes now rest
 
+-- batches were answered, one after the other
+abbrev pub AnswersEach : List Batch → Batching → Option (List ℕ) → Batching → Option (List ℕ) → Type 0
+AnswersEach [] before left now left' = (now ≡ before) × (left' ≡ left)
+AnswersEach (batch ∷ batches) before left now left' =
+    (between : Batching) × (told : Option (List ℕ)) × AnswersBatch (Ok (Some batch)) before left between told × AnswersEach batches between told now left'
+
 -- frames that were cut and not checked, by why the reading stopped
 abbrev pub Losses : Type 1
 Losses = Stop → List Frame → Type 0
@@ -77,12 +83,20 @@ IsLost TooLong lost = IsCutOff lost
 IsLost Failed lost = lost ≡ []
 IsLost Memory lost = length lost ≡ 1
 
--- what several lose, who check a block's frames when all are cut: the same of a source that is too long, and else some of the last frames, at
--- most a block and one more, and only where memory ran out
+-- what several lose, who check the frames when all of them are cut: the same of a source that is too long, and else some of the last
+-- frames, at most so many and one more, and only where memory ran out
+abbrev pub IsLostWithin : ℕ → Losses
+IsLostWithin size TooLong lost = IsCutOff lost
+IsLostWithin size Failed lost = length lost ≤ size
+IsLostWithin size Memory lost = length lost ≤ size + 1
+
+-- of a block
 abbrev pub IsLostBySeveral : Losses
-IsLostBySeveral TooLong lost = IsCutOff lost
-IsLostBySeveral Failed lost = length lost ≤ block_size
-IsLostBySeveral Memory lost = length lost ≤ block_size + 1
+IsLostBySeveral = IsLostWithin block_size
+
+-- of a round
+abbrev pub IsLostByRounds : Losses
+IsLostByRounds = IsLostWithin round_size
 
 -- the frames that were coming: those that were checked, and the refused ones among them are kept; those that were lost; those still to come
 pub record KeepsRefused (IsLostThen : List Frame → Type 0) (before : Batching) (coming : List Frame) (now : Batching) (still : List Frame) : Type 0 where

@@ -52,7 +52,7 @@ pub fn check_by_workers<R: Threads + Sync>(
 }
 
 /// Checks the frames, of which the first one comes `start` frames after `origin`. Returns `Memory` if allocation fails.
-fn check_share(
+pub fn check_share(
     alloc: Global,
     origin: &Origin<'_>,
     start: usize,

@@ -1,8 +1,9 @@
 -- How the turns of a session go on, and how they end.
-use Rattle.std.proofs.Common.{◌≡◌, ◌≢◌, ◌<◌, ℕ, List, length, take, ap, ◌∙◌}
+use Rattle.std.proofs.Common.{◌≡◌, ◌≢◌, ◌<◌, ℕ, List, ◌++◌, length, take, ap, ◌∙◌}
 use Rattle.std.specs.Prelude.{Option, Result, Err, IfSome}
 use Rattle.iso2709_frame.specs.Frames.{frames}
 use Rattle.union_io.specs.Causes.{Rose}
+use Rattle.catalogue_editions.specs.declared.batch.Batch.{Batch}
 use Rattle.catalogue_lock.specs.Tokens.{view}
 use Rattle.atomic_table.specs.Seated.{TableId}
 use Rattle.library_batches.specs.Batches.{AreFirstBatches}
@@ -11,7 +12,7 @@ use Rattle.library_batches.specs.declared.outcome_counts.OutcomeCounts.{OutcomeC
 use Rattle.library_batches.specs.declared.stop.Stop.{Stop}
 use Rattle.library_batches.specs.declared.stop.Stop.TheVariants.{TooLong, Failed}
 use Rattle.load_sessions.specs.Sessions.{IsSameSession}
-use Rattle.load_sessions.specs.Turning.{Turns}
+use Rattle.load_sessions.specs.Turning.{Turns, TurnsEach}
 use Rattle.load_sessions.specs.declared.session.Session.{Session}
 
 module _ {S : Type 0} (name : S → List ℕ) (desk : TableId) where
@@ -43,3 +44,8 @@ module _ {S : Type 0} (name : S → List ℕ) (left : S → Option (List ℕ)) (
     fault = λ e. fault (cc (is, e));
     calm = λ other. calm (λ e. other (is ∙ ap Err e));
   }
+
+-- turns were made of the first of the batches, when one stopped
+pub TurnsEach-first : {E : Type 0} (before batches now made rest : List Batch) (result : Result (Unit {0}) E) (stop : E) → result ≡ Err stop
+    → batches ≡ made ++ rest → now ≡ before ++ made → TurnsEach before batches now result
+TurnsEach-first before batches now made rest result stop is all turned = rw is (made, rest, all, turned)

@@ -1,5 +1,5 @@
 -- What the turns of a session come to.
-use Rattle.std.specs.Prelude.{◌≡◌, ◌≢◌, ℕ, ◌<◌, List, length, take, Option, Result, Ok, Err, IfSome, OnOk}
+use Rattle.std.specs.Prelude.{◌≡◌, ◌≢◌, ◌++◌, ℕ, ◌<◌, List, length, take, Option, Result, Ok, Err, IfSome, OnOk}
 use Rattle.iso2709_frame.specs.Frames.{frames}
 use Rattle.union_io.specs.Causes.{Rose}
 use Rattle.catalogue_editions.specs.declared.batch.Batch.{Batch}
@@ -32,6 +32,11 @@ module _ {S : Type 0} (name : S → List ℕ) (left : S → Option (List ℕ)) (
     pub long : result ≡ Err TooLong → IfSome (left before.source) (λ bytes. before.limit < length bytes)
     pub fault : result ≡ Err Failed → Rose (faults before.source) (faults now.source)
     pub calm : result ≢ Err Failed → faults now.source ≡ faults before.source
+
+-- turns were made of all of the batches, or of the first of them
+abbrev pub TurnsEach : {E : Type 0} → List Batch → List Batch → List Batch → Result (Unit {0}) E → Type 0
+TurnsEach before batches now (Ok done) = now ≡ before ++ batches
+TurnsEach before batches now (Err stop) = (made : List Batch) × (rest : List Batch) × (batches ≡ made ++ rest) × (now ≡ before ++ made)
 
 -- the end that turns have which came to that
 abbrev pub Ends : Result (Unit {0}) Stop → End → Type 0

@@ -1,16 +1,19 @@
 //! The running of sessions.
-ghost use Rattle.std.specs.Prelude.{◌≡◌, ◌<◌, ◌≤◌, All};
-ghost use Rattle.library_batches.specs.Reading.{begun};
+ghost use Rattle.std.specs.Prelude.{◌≡◌, ◌<◌, ◌≤◌, [], All};
+ghost use Rattle.catalogue_lock.specs.Tokens.{view, IsPassOf};
+ghost use Rattle.library_batches.specs.Outcomes.{AreCounted, counted};
+ghost use Rattle.library_batches.specs.Reading.{begun, most_bytes};
 ghost use Rattle.load_sessions.specs.Askers.{Asks, IsAsker};
 ghost use Rattle.load_sessions.specs.Sessions.{IsReady, Runs, RunsEach};
 ghost use Rattle.library_batches.specs.Reports.{counts_of};
-ghost use Rattle.load_sessions.specs.Turning.{Ends};
+ghost use Rattle.load_sessions.specs.Turning.{Ends, Turns};
 
 use crate::asker::Asker;
 use crate::asking::ask_all;
 use crate::crew::Crew;
 use crate::due::Turning;
 use crate::end::End;
+use crate::rounds::turn_rounds;
 use crate::served::Served;
 use crate::session::Session;
 use crate::turning::turn_batches;
@@ -55,6 +58,31 @@ fn report_of(reader: BatchReader, counts: OutcomeCounts) -> Report
     }
 }
 
+/// Makes a turn for each batch of the session's source, and counts what came of them. A crew of several workers that prepares no batch reads
+/// rounds of them.
+fn turn_source<R: Threads + Wait + Sync, S: Source + Send, G: Gate>(
+    turning: &Turning<'_, R, G>,
+    reader: &mut BatchReader,
+    counts: &mut OutcomeCounts,
+    session: &mut Session<S>,
+    crew: Crew,
+) -> Result<(), Stop>
+    requires some { 1 ≤ crew.workers }
+    requires most { crew.workers ≤ 64 }
+    requires desk { IsPassOf session.old.pass turning.now.desk.now }
+    requires own { (view session.old.pass).own ≡ [] }
+    requires limit { session.old.limit ≤ most_bytes }
+    requires reader { reader.old ≡ begun session.old.prefer session.old.library session.old.limit }
+    requires counts { AreCounted [] counts.old × (counted counts.old ≡ 0) }
+    ensures { Turns S.name S.left S.faults turning.now.desk.now.board.shared.table_id session.old
+        session.new reader.new counts.new result }
+{
+    if crew.prepares || crew.workers == 1 {
+        return turn_batches(turning, reader, counts, session, crew);
+    }
+    turn_rounds(turning, reader, counts, session, crew.workers)
+}
+
 /// Runs a session with a reader that was made for it.
 fn run_reader<R: Threads + Wait + Sync, S: Source + Send, G: Gate>(
     turning: &Turning<'_, R, G>,
@@ -70,7 +98,7 @@ fn run_reader<R: Threads + Wait + Sync, S: Source + Send, G: Gate>(
         session.new }
 {
     let mut counts = OutcomeCounts::new();
-    let turned = turn_batches(turning, &mut reader, &mut counts, session, crew);
+    let turned = turn_source(turning, &mut reader, &mut counts, session, crew);
     session.report = report_of(reader, counts);
     session.end = end_of(turned);
 }
@@ -141,7 +169,8 @@ fn run_each<R: Threads + Wait + Sync, S: Source + Send, G: Gate>(
 /// Each session reads its source, cuts and checks its frames, and makes a turn with its pass for each batch of accepted
 /// operations; `gate` is told before and after each turn. With one worker the sessions run in their order and the asker runs
 /// last. With more they run on as many threads, each of which has neighbouring sessions, and the asker runs beside them, or last where
-/// it has no question. Where there are twice as many workers as sessions, each session reads its next batch while it makes a turn.
+/// it has no question. Where there are twice as many workers as sessions, each session has several: they read a round of batches at a
+/// time, or, where batches are prepared, its next batch while it makes a turn.
 ///
 /// A session ends with `ReadFault` only where a read of its source failed, with `TooLong` where its source gave `limit` bytes
 /// and at least one more, with `Memory` where allocation failed, and else with `Done`. The batches that a session turned are the

@@ -1,5 +1,5 @@
 //! Sources of few and of many records in pieces of several sizes, refused frames among them, limits, and a read that fails; by one
-//! reader, and with several workers. `batches_of` is the loop of a caller that keeps each batch.
+//! reader, with several workers, and in rounds. `batches_of` is the loop of a caller that keeps each batch.
 ghost use Rattle.std.specs.Prelude.{◌≤◌};
 
 use catalogue_core::batch::Batch;
@@ -9,6 +9,7 @@ use field_merge::preference::Preference;
 use library_batches::batch_reader::BatchReader;
 use library_batches::outcome_counts::OutcomeCounts;
 use library_batches::refused::RefusedFrame;
+use library_batches::several::Round;
 use library_batches::stop::Stop;
 use library_stream::frame_reader::LARGEST_SOURCE;
 use marc_fields::rules::Rule;
@@ -65,6 +66,30 @@ fn batches_by<R: Threads + Sync, S: Source>(
         match reader.next_by(rt, alloc, source, workers)? {
             Some(batch) => keep(&mut batches, batch)?,
             None => return Ok((batches, reader)),
+        }
+    }
+}
+
+/// The same, round by round.
+fn batches_in_rounds<R: Threads + Sync, S: Source>(
+    rt: &R,
+    alloc: Global,
+    library: &LibraryCode,
+    source: &mut S,
+    workers: u32,
+) -> Result<(Vec<Batch>, BatchReader), Stop>
+    requires { 1 ≤ workers }
+{
+    let mut reader = BatchReader::open(alloc, &Preference::none(), library, LARGEST_SOURCE)?;
+    let mut batches = Vec::new(alloc);
+    loop {
+        let Round {
+            batches: mut more,
+            ended,
+        } = reader.next_round(rt, alloc, source, workers)?;
+        batches.append(&mut more)?;
+        if ended {
+            return Ok((batches, reader));
         }
     }
 }
@@ -201,6 +226,50 @@ fn several_workers_hand_out_the_same(rt: HostRuntime) -> Result<(), Fail> {
     assert!(rt; same, "two workers");
     let same = are_handed_out(&rt, alloc, &library, 3, text.as_slice(), alone.refused())?;
     assert!(rt; same, "three workers");
+    Ok(())
+}
+
+/// Whether rounds by so many workers have batches with this text, of all 321 frames, and refuse these.
+fn are_in_rounds<R: Threads + Sync>(
+    rt: &R,
+    alloc: Global,
+    library: &LibraryCode,
+    workers: u32,
+    text: &[u8],
+    refused: &[RefusedFrame],
+) -> Result<bool, Stop>
+    requires { 1 ≤ workers }
+{
+    let mut source = SureSource::of(mixed(alloc)?, 4096);
+    let (batches, reader) = batches_in_rounds(rt, alloc, library, &mut source, workers)?;
+    let found = shown(alloc, batches.as_slice())?;
+    Ok(found.as_slice() == text && reader.frames() == 321 && reader.refused() == refused)
+}
+
+#[test]
+fn rounds_have_the_same_batches(rt: HostRuntime) -> Result<(), Fail> {
+    let alloc = rt.alloc();
+    let library = LibraryCode::read(b"LIBA").ok_or("a library code")?;
+    let mut source = SureSource::of(mixed(alloc)?, 4096);
+    let (batches, alone) = batches_of(alloc, &library, LARGEST_SOURCE, &mut source)?;
+    let text = shown(alloc, batches.as_slice())?;
+    let same = are_in_rounds(&rt, alloc, &library, 1, text.as_slice(), alone.refused())?;
+    assert!(rt; same, "one worker");
+    let same = are_in_rounds(&rt, alloc, &library, 3, text.as_slice(), alone.refused())?;
+    assert!(rt; same, "three workers");
+    Ok(())
+}
+
+#[test]
+fn a_round_stops_where_a_read_fails(rt: HostRuntime) -> Result<(), Fail> {
+    let alloc = rt.alloc();
+    let library = LibraryCode::read(b"LIBA").ok_or("a library code")?;
+    let mut failing = MemSource::of(mixed(alloc)?, [2].to_vec(alloc)?, 4096);
+    let none = Preference::none();
+    let mut reader = BatchReader::open(alloc, &none, &library, LARGEST_SOURCE)?;
+    let answer = reader.next_round(&rt, alloc, &mut failing, 2);
+    assert!(rt; matches!(&answer, Err(Stop::Failed)));
+    assert_eq!(rt; (reader.frames(), reader.refused().len()), (40, 5));
     Ok(())
 }
 

@@ -1,5 +1,5 @@
-//! Two libraries at one desk, on one worker and on two, beside an asker; one library by one worker and by more, which read ahead; and the
-//! limit of a source.
+//! Two libraries at one desk, on one worker and on two, beside an asker; one library by one worker and by more, which read ahead or in
+//! rounds; and the limit of a source.
 ghost use Rattle.std.specs.Prelude.{◌≡◌, ◌≤◌, ◌+◌, IfOk};
 ghost use Rattle.catalogue_lock.specs.Tokens.{IsRootOf, root_of};
 ghost use Rattle.load_sessions.specs.Askers.{IsAsker};
@@ -59,7 +59,7 @@ fn session_at(
     Ok(Session::new(alloc, library, source, limit, &prefer, pass))
 }
 
-/// As many workers.
+/// As many workers, who prepare the batches.
 fn crew_of(workers: u32) -> Crew
     ensures { result.workers ≡ workers }
 {
@@ -67,6 +67,17 @@ fn crew_of(workers: u32) -> Crew
         workers,
         hashing: Hashing::fixed(),
         prepares: true,
+    }
+}
+
+/// As many workers, who read rounds of batches and prepare none.
+fn crew_in_rounds(workers: u32) -> Crew
+    ensures { result.workers ≡ workers }
+{
+    Crew {
+        workers,
+        hashing: Hashing::fixed(),
+        prepares: false,
     }
 }
 
@@ -128,74 +139,74 @@ fn two_libraries_are_loaded(rt: HostRuntime) -> Result<(), Fail> {
     Ok(())
 }
 
-/// The session of a library on this stream, of which `limit` bytes are read, run alone by so many workers.
+/// The session of a library on this stream, of which `limit` bytes are read, run alone by the crew.
 fn run_alone<R: Threads + Wait + Sync>(
     rt: &R,
     alloc: Global,
     library: LibraryCode,
     content: &[u8],
     limit: u64,
-    workers: u32,
+    crew: Crew,
 ) -> Result<Session<SureSource>, Memory>
     requires least { 1 ≤ limit }
     requires most { limit ≤ 100000 }
-    requires some { 1 ≤ workers }
-    requires few { workers ≤ 64 }
+    requires some { 1 ≤ crew.workers }
+    requires few { crew.workers ≤ 64 }
 {
     let names = NameTable::empty(alloc, Hashing::fixed());
     let (desk, mut root) = Desk::open(alloc, Served::keeping_works(alloc, names)?)?;
     let session = session_at(alloc, &desk, &mut root, library, content, limit)?;
     let mut asker = silent_asker(alloc, &desk, &mut root);
     let mut sessions = [session];
-    run_sessions(
-        rt,
-        alloc,
-        &desk,
-        &mut sessions,
-        &mut asker,
-        crew_of(workers),
-        &OpenGate,
-    );
+    run_sessions(rt, alloc, &desk, &mut sessions, &mut asker, crew, &OpenGate);
     let [session] = sessions;
     Ok(session)
 }
 
-/// The session of a library on `copies` copies of the record, of which 228 bytes are read, run alone by four workers.
+/// The session of a library on `copies` copies of the record, of which 228 bytes are read, run alone by the crew.
 fn limited<R: Threads + Wait + Sync>(
     rt: &R,
     alloc: Global,
     library: LibraryCode,
     copies: u32,
-) -> Result<Session<SureSource>, Memory> {
+    crew: Crew,
+) -> Result<Session<SureSource>, Memory>
+    requires some { 1 ≤ crew.workers }
+    requires few { crew.workers ≤ 64 }
+{
     let mut content = Vec::new(alloc);
     for _ in 0..copies {
         content.extend_from_slice(ONE)?;
     }
-    run_alone(rt, alloc, library, content.as_slice(), 228, 4)
+    run_alone(rt, alloc, library, content.as_slice(), 228, crew)
 }
 
-/// Whether so many workers load 513 copies of the record, which are more than two batches, and the stream after them.
+/// Whether the crew loads 4,096 refused frames, which are a round, 513 copies of the record, which are more than two batches, and the
+/// stream after them.
 fn are_all_loaded<R: Threads + Wait + Sync>(
     rt: &R,
     alloc: Global,
     library: LibraryCode,
-    workers: u32,
+    crew: Crew,
 ) -> Result<bool, Memory>
-    requires some { 1 ≤ workers }
-    requires few { workers ≤ 64 }
+    requires some { 1 ≤ crew.workers }
+    requires few { crew.workers ≤ 64 }
 {
     let mut content = Vec::new(alloc);
+    for _ in 0..4096 {
+        content.push(b'\x1D')?;
+    }
     for _ in 0..513 {
         content.extend_from_slice(ONE)?;
     }
     content.extend_from_slice(STREAM)?;
-    let session = run_alone(rt, alloc, library, content.as_slice(), 100_000, workers)?;
+    let session = run_alone(rt, alloc, library, content.as_slice(), 100_000, crew)?;
     let report = &session.report;
     let counts = (report.added, report.replaced, report.removed, report.absent);
     Ok(
         session.end == End::Done
-            && report.frames == 516
-            && report.refused.len() == 1
+            && report.frames == 4612
+            && report.refused.len() == 4097
             && counts == (1, 513, 0, 1),
     )
 }
@@ -204,12 +215,12 @@ fn are_all_loaded<R: Threads + Wait + Sync>(
 fn more_workers_load_one_library_as_one_does(rt: HostRuntime) -> Result<(), Fail> {
     let alloc = rt.alloc();
     let library = LibraryCode::read(b"LIBA").ok_or("a library code")?;
-    let loaded = are_all_loaded(&rt, alloc, library, 1)?;
+    let loaded = are_all_loaded(&rt, alloc, library, crew_of(1))?;
     assert!(rt; loaded, "one worker");
-    let loaded = are_all_loaded(&rt, alloc, library, 2)?;
+    let loaded = are_all_loaded(&rt, alloc, library, crew_of(2))?;
     assert!(rt; loaded, "two workers");
-    let loaded = are_all_loaded(&rt, alloc, library, 3)?;
-    assert!(rt; loaded, "three workers");
+    let loaded = are_all_loaded(&rt, alloc, library, crew_in_rounds(3))?;
+    assert!(rt; loaded, "three workers in rounds");
     Ok(())
 }
 
@@ -217,12 +228,14 @@ fn more_workers_load_one_library_as_one_does(rt: HostRuntime) -> Result<(), Fail
 fn source_is_read_to_the_limit(rt: HostRuntime) -> Result<(), Fail> {
     let alloc = rt.alloc();
     let library = LibraryCode::read(b"LIBA").ok_or("a library code")?;
-    let twice = limited(&rt, alloc, library, 2)?;
+    let twice = limited(&rt, alloc, library, 2, crew_of(4))?;
     let report = &twice.report;
     assert!(rt; twice.end == End::Done && report.frames == 2);
     assert!(rt; report.added == 1 && report.replaced == 1);
-    let thrice = limited(&rt, alloc, library, 3)?;
+    let thrice = limited(&rt, alloc, library, 3, crew_of(4))?;
     assert!(rt; thrice.end == End::TooLong);
+    let rounds = limited(&rt, alloc, library, 3, crew_in_rounds(4))?;
+    assert!(rt; rounds.end == End::TooLong);
     Ok(())
 }
 

@@ -2,8 +2,8 @@
 //!
 //! Nothing of the catalogue changes while a turn is planned, so where memory runs out it is as before. There are two ways to plan:
 //! [`one_by_one`] serves `apply` and `apply_told` of catalogue_core, and so the commands `script` and `follow`; [`prepared`] serves
-//! `apply_prepared`, and so `export`, `works`, `watch` and `trial`. Both take the [`steps`], and catalogue_core installs both plans
-//! alike. What holds of a plan is in specs/Plans.antt.
+//! `apply_prepared`, and so `watch` and `trial`; `export` and `works` plan no turn, since they resolve once at the end. Both take the
+//! [`steps`], and catalogue_core installs both plans alike. What holds of a plan is in specs/Plans.antt.
 //!
 //! Guarantee: by a plan the records of the history and of the batch are current, each is found where it was loaded, and the view of
 //! the changed blocks is what they resolve to.

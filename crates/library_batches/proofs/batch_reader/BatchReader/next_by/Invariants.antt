@@ -1,6 +1,6 @@
 use Rattle.std.proofs.Common.{◌≡◌, ◌≤◌}
 use Rattle.library_stream.specs.Streaming.{most_ahead}
-use Rattle.library_batches.proofs.PassedLaws.{Passes}
+use Rattle.library_batches.specs.Passing.{Passes}
 use Rattle.library_batches.proofs.batch_reader.BatchReader.next_by.Given as goal
 
 -- blocks without a batch were passed, and nothing failed

@@ -1,6 +1,7 @@
 use Rattle.std.proofs.Common.{◌+◌, subst, arith}
 use Rattle.std.proofs.lemmas.Result.{err_from_is_err_and}
 use Rattle.std.specs.Prelude.{Err}
+use Rattle.library_batches.specs.Batches.{block_size}
 use Rattle.library_batches.specs.Blocks.{IsBlock, IsChecked, StopsBlock, BlockAnswers, AnswersCut}
 use Rattle.library_batches.specs.Reading.{Batching, IsLostBySeveral}
 use Rattle.library_batches.specs.Shares.{KeepsFront}
@@ -43,7 +44,7 @@ returns-in_err-checked-in-Ok-clause-answers g c =
     let p = err_from_is_err_and c.from_residual.result c.from_residual.ensures.1 in
     rw (p.1, p.2)
     (subst (λ (a : Batching). StopsBlock (IsLostBySeveral Memory) a left now still) c.self.view_is
-    (stops-checking before now left still frames c.cut_block-cut.ensures.most c.in-Ok.ensures.answers.0 front))
+    (stops-checking block_size before now left still frames c.cut_block-cut.ensures.most c.in-Ok.ensures.answers.0 front))
 
 pub returns-in_err-checked-in-TooLong-clause-answers : goal.returns-in_err-checked-in-TooLong-clause-answers
 returns-in_err-checked-in-TooLong-clause-answers g c =
@@ -59,7 +60,7 @@ returns-in_err-checked-in-TooLong-clause-answers g c =
     let p = err_from_is_err_and c.from_residual-in_err-checked-in-TooLong.result c.from_residual-in_err-checked-in-TooLong.ensures.1 in
     rw (p.1, p.2)
     (subst (λ (a : Batching). StopsBlock (IsLostBySeveral Memory) a left now still) c.self.view_is
-    (stops-both TooLong before now left still frames c.cut_block-cut.ensures.most cut front))
+    (stops-both block_size TooLong before now left still frames c.cut_block-cut.ensures.most cut front))
 
 pub returns-in-TooLong-clause-answers : goal.returns-in-TooLong-clause-answers
 returns-in-TooLong-clause-answers g c =
@@ -73,7 +74,7 @@ returns-in-TooLong-clause-answers g c =
     let refused = subst (λ fs. IsChecked own.prefer own.library (own.frames + 1) fs c.in_ok-checked-in-TooLong.field-0.items own.refused.items c.check_by_workers-checked.new.refused.items)
     c.as_slice.ensures.value c.in_ok-checked-in-TooLong.ensures.checked in
     subst (λ (a : Batching). BlockAnswers IsLostBySeveral (Err TooLong) a left now still) c.self.view_is
-    (stops-long before now left still frames cut refused.refused)
+    (stops-long block_size before now left still frames cut refused.refused)
 
 pub returns-in-Failed-clause-answers : goal.returns-in-Failed-clause-answers
 returns-in-Failed-clause-answers g c =
@@ -87,7 +88,7 @@ returns-in-Failed-clause-answers g c =
     let front = subst (λ fs. KeepsFront (own.frames + 1) fs own.refused.items c.check_by_workers-checked.new.refused.items) c.as_slice.ensures.value
     c.check_by_workers-checked.ensures.kept in
     subst (λ (a : Batching). StopsBlock (IsLostBySeveral Failed) a left now still) c.self.view_is
-    (stops-failed before now left still frames c.cut_block-cut.ensures.most cut front)
+    (stops-failed block_size before now left still frames c.cut_block-cut.ensures.most cut front)
 
 pub returns-clause-answers : goal.returns-clause-answers
 returns-clause-answers g c =
@@ -101,4 +102,4 @@ returns-clause-answers g c =
     let front = subst (λ fs. KeepsFront (own.frames + 1) fs own.refused.items c.check_by_workers-checked.new.refused.items) c.as_slice.ensures.value
     c.check_by_workers-checked.ensures.kept in
     subst (λ (a : Batching). StopsBlock (IsLostBySeveral Memory) a left now still) c.self.view_is
-    (stops-both Memory before now left still frames c.cut_block-cut.ensures.most cut front)
+    (stops-both block_size Memory before now left still frames c.cut_block-cut.ensures.most cut front)
