@@ -74,3 +74,7 @@ IsSo one = IsJudged one.frame one.fault one.taken
 -- the table has these records more
 abbrev pub HasTaken : Table → List Authority → Table → Type 0
 HasTaken before taken now = (records : List Authority) → IsTableOf before records → IsTableOf now (records ++ taken)
+
+-- it is judged so whether there is a fault, and the table takes what is taken then
+abbrev pub TakesAs : (Option NameFault → List Authority → Type 0) → Table → Table → Option NameFault → Type 0
+TakesAs IsSo before now fault = (taken : List Authority) × IsSo fault taken × HasTaken before taken now

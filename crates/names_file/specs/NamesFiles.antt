@@ -3,12 +3,15 @@ use Rattle.std.specs.Prelude.{◌≡◌, ℕ, suc, Bool, List, [], ◌∷◌, �
 use Rattle.std.specs.List.{flat_map}
 use Rattle.authority_names.specs.Leads.{Table, IsTableOf}
 use Rattle.authority_names.specs.Names.{Authority, IsSize, name_at}
+use Rattle.iso2709_frame.specs.Frames.{frames}
 use Rattle.library_batches.specs.Streams.{Frame}
 use Rattle.library_batches.specs.Reports.{counted}
 use Rattle.names_file.specs.Judging.{Judged, IsSo, fault_name, fault_place}
 use Rattle.names_file.specs.declared.fault.NameFault.{NameFault}
 use Rattle.names_file.specs.declared.names_read.NamesRead.{NamesRead}
+use Rattle.names_file.specs.declared.reading.Reading.{Reading}
 use Rattle.names_file.specs.declared.tally.Tally.{Tally}
+use Rattle.union_words.specs.Flows.{Inflow}
 
 -- the frame is refused
 abbrev pub is_refused : Judged → Bool
@@ -49,6 +52,10 @@ pub record IsTally (all : List Judged) (tally : Tally) : Type 0 where
   pub refused : tally.refused ≡ count_by is_refused all
   pub lines : tally.lines.items ≡ lines_from 1 all
 
+-- the next frame was counted, whichever were counted before it
+abbrev pub Counts : Tally → Tally → Judged → Type 0
+Counts old new one = (all : List Judged) → IsTally all old → IsTally (all ++ one ∷ []) new
+
 -- these frames were judged, taken and counted
 pub record IsReading (all : List Judged) (table : Table) (tally : Tally) : Type 0 where
   pub judged : All IsSo all
@@ -65,13 +72,34 @@ pub record IsNamesRead (all : List Judged) (found : NamesRead) : Type 0 where
   pub refused : found.refused ≡ nat_lt 0 (count_by is_refused all)
 
 -- a file of names of these frames was read so
-pub record IsNamesFile (frames : List Frame) (found : NamesRead) : Type 0 where
+pub record IsNamesFile (cut : List Frame) (found : NamesRead) : Type 0 where
   pub all : List Judged
-  pub frames_are : map (λ one. one.frame) all ≡ frames
+  pub frames_are : map (λ one. one.frame) all ≡ cut
   pub read : IsNamesRead all found
 
 -- these frames were read into the table, and counted
-pub record AreRead (frames : List Frame) (table : Table) (tally : Tally) : Type 0 where
+pub record AreRead (cut : List Frame) (table : Table) (tally : Tally) : Type 0 where
   pub all : List Judged
-  pub frames_are : map (λ one. one.frame) all ≡ frames
+  pub frames_are : map (λ one. one.frame) all ≡ cut
   pub read : IsReading all table tally
+
+-- these frames were read so far
+abbrev pub HasRead : List Judged → Reading → Type 0
+HasRead all reading = IsReading all reading.table reading.tally
+
+-- the next frame was judged, taken and counted, whichever were read before it
+abbrev pub Takes : Frame → Reading → Reading → Type 0
+Takes frame old new = (all : List Judged) → HasRead all old
+    → (one : Judged) × (one.frame ≡ frame) × HasRead (all ++ one ∷ []) new
+
+-- the frames of the file were read
+abbrev pub HasReadAll : Reading → List ℕ → Type 0
+HasReadAll reading bytes = AreRead (frames bytes) reading.table reading.tally
+
+-- it is what the file is read into
+abbrev pub AreNamesOf : NamesRead → List ℕ → Type 0
+AreNamesOf found bytes = IsNamesFile (frames bytes) found
+
+-- by what is told of a source
+abbrev pub inflow : {S : Type 0} → (S → Option (List ℕ)) → (S → ℕ) → S → S → Inflow
+inflow left faults old new = record { told = left old; before = faults old; after = faults new }

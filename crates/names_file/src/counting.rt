@@ -1,7 +1,7 @@
 //! The counting of a file's frames.
 ghost use Rattle.std.specs.Prelude.{◌≡◌, ◌<◌, ◌+◌, ◌++◌, ◌∷◌, [], List, Some, None, OnOk};
 ghost use Rattle.names_file.specs.Judging.{Judged};
-ghost use Rattle.names_file.specs.NamesFiles.{IsTally, counts_line, refused_line};
+ghost use Rattle.names_file.specs.NamesFiles.{Counts, IsTally, counts_line, refused_line};
 
 use crate::fault::NameFault;
 use crate::tally::Tally;
@@ -24,9 +24,7 @@ impl Tally {
     /// Counts a frame that is read. Takes no memory.
     pub(crate) fn accept(&mut self)
         requires { self.old.frames < u64.MAX }
-        ensures counted { (all : List Judged) (one : Judged) → IsTally all self.old
-            → one.fault ≡ None
-            → IsTally (all ++ one ∷ []) self.new }
+        ensures counted { (one : Judged) → one.fault ≡ None → Counts self.old self.new one }
         ensures frames { self.new.frames ≡ self.old.frames + 1 }
     {
         self.frames += 1;
@@ -35,9 +33,8 @@ impl Tally {
     /// Counts a frame that is refused, and adds `names refused FRAME NAME PLACE`.
     pub(crate) fn refuse(&mut self, fault: NameFault) -> Result<(), AllocError>
         requires { self.old.frames < u64.MAX }
-        ensures counted { OnOk result ((all : List Judged) (one : Judged) → IsTally all self.old
-            → one.fault ≡ Some fault
-            → IsTally (all ++ one ∷ []) self.new) }
+        ensures counted { OnOk result ((one : Judged) → one.fault ≡ Some fault
+            → Counts self.old self.new one) }
         ensures frames { OnOk result (self.new.frames ≡ self.old.frames + 1) }
     {
         add_refused(&mut self.lines, self.frames + 1, fault)?;

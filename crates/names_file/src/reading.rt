@@ -1,10 +1,10 @@
 //! The reading of a file of names.
-ghost use Rattle.std.specs.Prelude.{◌≡◌, ◌≢◌, ◌<◌, ◌+◌, ◌++◌, ◌∷◌, [], List, IfOk, OnOk};
-ghost use Rattle.iso2709_frame.specs.Frames.{frames, IsWhole};
+ghost use Rattle.std.specs.Prelude.{◌≡◌, ◌≢◌, ◌<◌, ◌+◌, [], List, IfOk, OnOk};
+ghost use Rattle.iso2709_frame.specs.Frames.{IsWhole};
 ghost use Rattle.library_batches.specs.Reading.{most_bytes};
 ghost use Rattle.union_files.specs.Readings.{Reads};
 ghost use Rattle.names_file.specs.Judging.{Judged};
-ghost use Rattle.names_file.specs.NamesFiles.{IsReading, IsNamesRead, IsNamesFile, AreRead};
+ghost use Rattle.names_file.specs.NamesFiles.{AreNamesOf, HasRead, HasReadAll, IsNamesRead, Takes, inflow};
 
 use crate::counting::add_counts;
 use crate::names_read::NamesRead;
@@ -30,7 +30,7 @@ struct Reading {
 impl Reading {
     /// Nothing was read yet.
     fn new(alloc: Global, hashing: Hashing) -> Reading
-        ensures read { IsReading [] result.table result.tally }
+        ensures read { HasRead [] result }
         ensures frames { result.tally.frames ≡ 0 }
     {
         Reading {
@@ -43,10 +43,7 @@ impl Reading {
     fn take(&mut self, alloc: Global, cut: Cut, frame: &[u8]) -> Result<(), Memory>
         requires whole { cut ≡ Cut.Whole → IsWhole frame.now }
         requires room { self.old.tally.frames < u64.MAX }
-        ensures read { OnOk result ((all : List Judged)
-            → IsReading all self.old.table self.old.tally
-            → (one : Judged) × (one.frame ≡ (cut, frame.now))
-            × IsReading (all ++ one ∷ []) self.new.table self.new.tally) }
+        ensures read { OnOk result (Takes (cut, frame.now) self.old self.new) }
         ensures frames { OnOk result (self.new.tally.frames ≡ self.old.tally.frames + 1) }
     {
         match take_frame(alloc, &mut self.table, cut, frame)? {
@@ -58,7 +55,7 @@ impl Reading {
 
     /// The table, and the report on all frames.
     fn finish(self) -> Result<NamesRead, AllocError>
-        ensures { IfOk result (λ found. (all : List Judged) → IsReading all self.table self.tally
+        ensures { IfOk result (λ found. (all : List Judged) → HasRead all self
             → IsNamesRead all found) }
     {
         let Reading { table, tally } = self;
@@ -89,14 +86,8 @@ pub fn read_names<S: Source>(
     source: &mut S,
 ) -> Result<NamesRead, Stop>
     ensures name { S.name source.new ≡ S.name source.old }
-    ensures reads { Reads most_bytes result
-        (record {
-          told = S.left source.old;
-          before = S.faults source.old;
-          after = S.faults
-              source.new;
-        })
-        (λ found bytes. IsNamesFile (frames bytes) found) }
+    ensures reads { Reads most_bytes result (inflow S.left S.faults source.old source.new)
+        AreNamesOf }
 {
     match read_frames(alloc, hashing, source) {
         Ok(reading) => match reading.finish() {
@@ -110,14 +101,8 @@ pub fn read_names<S: Source>(
 /// Reads the frames of a source to its end.
 fn read_frames<S: Source>(alloc: Global, hashing: Hashing, source: &mut S) -> Result<Reading, Stop>
     ensures name { S.name source.new ≡ S.name source.old }
-    ensures reads { Reads most_bytes result
-        (record {
-          told = S.left source.old;
-          before = S.faults source.old;
-          after = S.faults
-              source.new;
-        })
-        (λ reading bytes. AreRead (frames bytes) reading.table reading.tally) }
+    ensures reads { Reads most_bytes result (inflow S.left S.faults source.old source.new)
+        HasReadAll }
 {
     let mut reader = FrameReader::open(alloc, LARGEST_SOURCE)?;
     let mut reading = Reading::new(alloc, hashing);

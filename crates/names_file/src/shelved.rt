@@ -1,13 +1,12 @@
 //! The file of names of a run, as a shelf has it.
 ghost use Rattle.std.specs.Prelude.{◌≡◌, ◌∷◌, ◌++◌, IfOk, IfErr, List};
 ghost use Rattle.std.specs.Option.{option_copied};
-ghost use Rattle.iso2709_frame.specs.Frames.{frames};
 ghost use Rattle.union_io.specs.Names.{AddsName};
-ghost use Rattle.union_words.specs.Flows.{InputFile};
+ghost use Rattle.union_words.specs.Flows.{InputFile, shelf_flow};
 ghost use Rattle.union_files.specs.Openings.{OpensEach, OpensInTurn};
 ghost use Rattle.union_files.specs.Readings.{ReadsFile};
 ghost use Rattle.names_file.specs.Named.{ReadsNames, names_file, names_inputs};
-ghost use Rattle.names_file.specs.NamesFiles.{IsNamesFile};
+ghost use Rattle.names_file.specs.NamesFiles.{AreNamesOf};
 
 use crate::names_read::NamesRead;
 use crate::reading::read_names;
@@ -33,12 +32,8 @@ fn read_names_file<F: Shelf>(
 ) -> Result<NamesRead, Status>
     ensures files { F.files shelf.new ≡ F.files shelf.old }
     ensures reads { ReadsFile result (names_file path.now)
-        (record {
-          files = F.files shelf.old;
-          before = F.faults shelf.old;
-          after = F.faults shelf.new;
-        })
-        (λ found bytes. IsNamesFile (frames bytes) found) }
+        (shelf_flow F.files F.faults shelf.old shelf.new)
+        AreNamesOf }
     ensures opened { IfOk result (λ _. AddsName (F.opened shelf.old) (F.opened shelf.new) path.now) }
     ensures in_turn { IfErr result (λ status. (rest : List InputFile)
         → OpensInTurn (F.files shelf.old) status (names_file path.now ∷ rest) (F.opened shelf.old)
@@ -72,11 +67,7 @@ pub fn names_of<F: Shelf>(
 ) -> Result<NamesRead, Status>
     ensures files { F.files shelf.new ≡ F.files shelf.old }
     ensures reads { ReadsNames (option_copied path.entry) result
-        (record {
-          files = F.files shelf.old;
-          before = F.faults shelf.old;
-          after = F.faults shelf.new;
-        }) }
+        (shelf_flow F.files F.faults shelf.old shelf.new) }
     ensures opened { IfOk result (λ _. OpensEach (names_inputs (option_copied path.entry))
         (F.opened shelf.old) (F.opened shelf.new)) }
     ensures in_turn { IfErr result (λ status. (rest : List InputFile)

@@ -1,10 +1,9 @@
 //! What a table of names takes of a frame.
-ghost use Rattle.std.specs.Prelude.{◌≡◌, ◌++◌, List, IfOk};
-ghost use Rattle.authority_names.specs.Names.{Authority};
+ghost use Rattle.std.specs.Prelude.{◌≡◌, IfOk};
 ghost use Rattle.authority_names.specs.Records.{refusal_of};
 ghost use Rattle.iso2709_frame.specs.Frames.{IsWhole};
 ghost use Rattle.marc_fields.specs.Rules.{IsFrame, first_failure};
-ghost use Rattle.names_file.specs.Judging.{IsJudged, IsReadJudged, IsRecordJudged, HasTaken};
+ghost use Rattle.names_file.specs.Judging.{IsJudged, IsReadJudged, IsRecordJudged, TakesAs};
 
 use crate::fault::NameFault;
 use authority_names::name_table::NameTable;
@@ -22,9 +21,8 @@ fn take_record(
     table: &mut NameTable,
     rec: &Record,
 ) -> Result<Option<NameFault>, Memory>
-    ensures { IfOk result (λ fault. (taken : List Authority)
-        × IsRecordJudged (refusal_of rec.now) rec.now fault taken
-        × HasTaken table.old taken table.new) }
+    ensures { IfOk result
+        (TakesAs (IsRecordJudged (refusal_of rec.now) rec.now) table.old table.new) }
 {
     match table.add(alloc, rec) {
         Ok(()) => Ok(None),
@@ -43,9 +41,8 @@ fn take_whole(
     frame: &[u8],
 ) -> Result<Option<NameFault>, Memory>
     requires { IsFrame frame.now }
-    ensures { IfOk result (λ fault. (taken : List Authority)
-        × IsReadJudged (first_failure frame.now) frame.now fault taken
-        × HasTaken table.old taken table.new) }
+    ensures { IfOk result
+        (TakesAs (IsReadJudged (first_failure frame.now) frame.now) table.old table.new) }
 {
     match decode(alloc, frame) {
         Ok(rec) => take_record(alloc, table, &rec),
@@ -63,8 +60,7 @@ pub(crate) fn take_frame(
     frame: &[u8],
 ) -> Result<Option<NameFault>, Memory>
     requires { cut ≡ Cut.Whole → IsWhole frame.now }
-    ensures { IfOk result (λ fault. (taken : List Authority) × IsJudged (cut, frame.now) fault taken
-        × HasTaken table.old taken table.new) }
+    ensures { IfOk result (TakesAs (IsJudged (cut, frame.now)) table.old table.new) }
 {
     match cut {
         Cut::Truncated => Ok(Some(NameFault::Rule {

@@ -1,6 +1,6 @@
 -- Where the frames of a stream stand. A frame reaches up to and with its record terminator (ISO 2709), or to the end of the
 -- stream; CR and LF before it are no part of it (this project's own). Offsets are counted from 0.
-use Rattle.std.specs.Prelude.{ℕ, ◌+◌, ◌-◌, Bool, nat_lt, if◌then◌else◌, List, [], ◌∷◌, ◌++◌, length, take, Option}
+use Rattle.std.specs.Prelude.{◌≡◌, ℕ, ◌+◌, ◌-◌, Bool, nat_lt, if◌then◌else◌, List, [], ◌∷◌, ◌++◌, length, take, Option}
 use Rattle.std.specs.List.{list_any}
 use Rattle.std.specs.Option.{option_map}
 use Rattle.iso2709_frame.specs.Frames.{is_terminator, first_piece, skip_breaks}
@@ -21,6 +21,10 @@ frame_at at piece = record {
   ended = list_any is_terminator piece;
   bytes = take 99999 (skip_breaks piece);
 }
+
+-- the byte was added to the piece that the frame stands in
+abbrev pub AddsByte : Located → Located → ℕ → Type 0
+AddsByte old new byte = (at : ℕ) (front : List ℕ) → old ≡ frame_at at front → new ≡ frame_at at (front ++ byte ∷ [])
 
 -- none where the piece is CR and LF alone
 abbrev pub located_piece : ℕ → List ℕ → List Located

@@ -1,5 +1,5 @@
 -- The lines of a report that tell of refused records.
-use Rattle.std.specs.Prelude.{ℕ, ◌-◌, ◌^◌, ◌<◌, ◌&&◌, ◌==◌, nat_lt, Bool, List, [], ◌∷◌, Option, Some, None, if◌then◌else◌, codes}
+use Rattle.std.specs.Prelude.{ℕ, ◌-◌, ◌^◌, ◌<◌, ◌&&◌, nat_lt, Bool, List, [], ◌∷◌, Option, Some, None, if◌then◌else◌, codes}
 use Rattle.union_base.specs.Blanks.{first_word, rest_of}
 use Rattle.marc_fields.specs.declared.rules.Rule.{Rule}
 use Rattle.union_words.specs.Numbers.{number_within}

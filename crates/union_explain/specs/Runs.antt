@@ -1,5 +1,5 @@
 -- The table of a report.
-use Rattle.std.specs.Prelude.{ℕ, ◌+◌, ◌-◌, Bool, List, [], ◌∷◌, ◌++◌, decimal, codes}
+use Rattle.std.specs.Prelude.{ℕ, ◌+◌, ◌-◌, ◌^◌, min, Bool, List, [], ◌∷◌, ◌++◌, decimal, codes}
 use Rattle.std.specs.List.{flat_map, filter_map, list_any}
 use Rattle.union_words.specs.Lines.{lines_of}
 use Rattle.union_words.specs.Words.{LibraryFile}
@@ -47,6 +47,10 @@ abbrev pub told_lines : List (List ℕ) → ℕ
 told_lines [] = 0
 told_lines ([] ∷ rest) = told_lines rest
 told_lines ((b ∷ line) ∷ rest) = 1 + told_lines rest
+
+-- how many lines of a report are not empty, as far as a run counts
+abbrev pub told_count : List ℕ → ℕ
+told_count report = min (told_lines (lines_of report)) (2 ^ 64 - 1)
 
 -- `lines L explained E passed P`
 unfoldable pub counts_text : ℕ → ℕ → List ℕ

@@ -4,7 +4,7 @@ ghost use Rattle.std.specs.declared.option.Option.{Option};
 ghost use Rattle.std.specs.Option.{option_to_list};
 ghost use Rattle.library_batches.specs.Reading.{most_bytes};
 ghost use Rattle.union_io.specs.Causes.{HasCause};
-ghost use Rattle.union_explain.specs.Readings.{Gives, GoesOn, IsLong, ahead, CountsStop, Fills};
+ghost use Rattle.union_explain.specs.Readings.{CountsFaults, FillsReader, GivesByte, IsLong, ReaderGoesOn, bytes_ahead};
 
 use crate::stop::Stop;
 use library_stream::frame_reader::LARGEST_SOURCE;
@@ -65,8 +65,8 @@ impl ByteReader {
         ensures name { S.name source.new ≡ S.name source.old }
         ensures at { self.new.at ≡ self.old.at }
         ensures within { self.new.at ≤ most_bytes }
-        ensures fills { IfOk result (λ some. Fills (ahead self.old.unread (S.left source.old))
-            (ahead self.new.unread (S.left source.new)) some) }
+        ensures fills { IfOk result
+            (FillsReader self.old (S.left source.old) self.new (S.left source.new)) }
         ensures some { IfOk result (λ some. IsTrue some → 0 < length self.new.unread) }
         ensures cause { HasCause (S.faults source.old) (S.faults source.new) result }
     {
@@ -84,19 +84,16 @@ impl ByteReader {
     /// only where the source gave `LARGEST_SOURCE` bytes and one more. Takes no memory.
     pub fn next<S: Source>(&mut self, source: &mut S) -> Result<Option<u8>, Stop>
         ensures name { S.name source.new ≡ S.name source.old }
-        ensures gives { IfOk result (λ byte.
-            Gives (ahead self.old.unread (S.left source.old))
-            (ahead self.new.unread (S.left source.new)) byte) }
+        ensures gives { IfOk result
+            (GivesByte self.old (S.left source.old) self.new (S.left source.new)) }
         ensures at { IfOk result (λ byte. self.new.at
             ≡ self.old.at + length (option_to_list byte)) }
         ensures within { IfOk result (λ _. self.new.at ≤ most_bytes) }
         ensures goes { IfOk result (λ _.
-            GoesOn self.old.at (ahead self.old.unread (S.left source.old))
-            self.new.at (ahead self.new.unread (S.left source.new))) }
+            ReaderGoesOn self.old (S.left source.old) self.new (S.left source.new)) }
         ensures long { result ≡ Err Stop.TooLong
-            → IsLong self.old.at (ahead self.old.unread (S.left source.old)) }
-        ensures faults { MatchResult result (λ _. S.faults source.new ≡ S.faults source.old)
-            (λ stop. CountsStop stop (S.faults source.old) (S.faults source.new)) }
+            → IsLong self.old.at (bytes_ahead self.old (S.left source.old)) }
+        ensures faults { CountsFaults (S.faults source.old) (S.faults source.new) result }
     {
         if !self.fill(source)? {
             return Ok(None);

@@ -2,7 +2,7 @@
 ghost use Rattle.std.specs.Prelude.{◌≡◌, ◌+◌, ◌++◌, ◌||◌, ℕ, List, Some, Err, IfOk, MatchResult};
 ghost use Rattle.std.specs.declared.option.Option.{Option};
 ghost use Rattle.union_explain.specs.Located.{located};
-ghost use Rattle.union_explain.specs.Readings.{CountsStop, IsLong};
+ghost use Rattle.union_explain.specs.Readings.{CountsFaults, IsLong};
 ghost use Rattle.union_explain.specs.Reports.{IsRising};
 ghost use Rattle.union_explain.specs.Rows.{rows_of, row_count, any_astray};
 
@@ -34,8 +34,7 @@ pub fn add_rows<S: Source>(
     ensures astray { IfOk result (λ _. (bytes : List ℕ) → S.left source.old ≡ Some bytes
         → table.new.astray ≡ (table.old.astray || any_astray (located bytes) refused.now)) }
     ensures long { result ≡ Err Stop.TooLong → IsLong 0 (S.left source.old) }
-    ensures faults { MatchResult result (λ _. S.faults source.new ≡ S.faults source.old)
-        (λ stop. CountsStop stop (S.faults source.old) (S.faults source.new)) }
+    ensures faults { CountsFaults (S.faults source.old) (S.faults source.new) result }
 {
     let mut locator = Locator::open(alloc)?;
     let mut passed = 0;

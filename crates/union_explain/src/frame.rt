@@ -2,7 +2,7 @@
 ghost use Rattle.std.specs.Prelude.{◌≡◌, ◌+◌, ◌<◌, ◌≤◌, ◌∷◌, ◌++◌, [], ℕ, List, OnOk, IsTrue, ◌||◌, ◌==◌};
 ghost use Rattle.iso2709_frame.specs.Frames.{is_break, is_terminator};
 ghost use Rattle.library_batches.specs.Reading.{most_bytes};
-ghost use Rattle.union_explain.specs.Located.{frame_at};
+ghost use Rattle.union_explain.specs.Located.{AddsByte, frame_at};
 
 use iso2709_frame::cut::{CARRIAGE_RETURN, LARGEST_FRAME, LINE_FEED, RECORD_TERMINATOR};
 use std::alloc::Global;
@@ -94,8 +94,7 @@ impl Frame {
     /// Adds the next byte of the piece.
     pub fn add(&mut self, byte: u8) -> Result<(), Memory>
         requires { self.old.first + self.old.size ≤ most_bytes }
-        ensures { OnOk result ((at : ℕ) (front : List ℕ) → self.old ≡ frame_at at front
-            → self.new ≡ frame_at at (front ++ byte ∷ [])) }
+        ensures { OnOk result (AddsByte self.old self.new byte) }
     {
         let ended = is_ended_by(self.ended, byte);
         self.ended = ended;

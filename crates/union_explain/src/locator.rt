@@ -1,8 +1,8 @@
 //! The frames of a source, one after the other, each with its place.
 ghost use Rattle.std.specs.Prelude.{◌≡◌, ◌≤◌, ◌<◌, ◌^◌, ℕ, [], Err, IfOk, MatchResult, Some, None, if◌then◌else◌};
 ghost use Rattle.std.specs.declared.option.Option.{Option};
-ghost use Rattle.union_explain.specs.Readings.{Gives, Finds, GoesOn, IsLong, ahead, CountsStop};
-ghost use Rattle.union_explain.specs.Located.{located_ahead};
+ghost use Rattle.union_explain.specs.Locating.{HandsAfter, HandsNext, LocatorGoesOn};
+ghost use Rattle.union_explain.specs.Readings.{CountsFaults, IsLong, ahead};
 
 use crate::byte_reader::ByteReader;
 use crate::frame::Frame;
@@ -51,17 +51,13 @@ impl Locator {
     /// Whether there is a next frame, which is handed out then.
     pub fn next<S: Source>(&mut self, source: &mut S) -> Result<bool, Stop>
         ensures name { S.name source.new ≡ S.name source.old }
-        ensures gives { IfOk result (λ some. Gives
-            (located_ahead self.old.at (ahead self.old.unread (S.left source.old)))
-            (located_ahead self.new.at (ahead self.new.unread (S.left source.new)))
-            (if some then Some self.new.frame else None)) }
+        ensures gives { IfOk result
+            (HandsNext self.old (S.left source.old) self.new (S.left source.new)) }
         ensures goes { IfOk result (λ _.
-            GoesOn self.old.at (ahead self.old.unread (S.left source.old))
-            self.new.at (ahead self.new.unread (S.left source.new))) }
+            LocatorGoesOn self.old (S.left source.old) self.new (S.left source.new)) }
         ensures long { result ≡ Err Stop.TooLong
             → IsLong self.old.at (ahead self.old.unread (S.left source.old)) }
-        ensures faults { MatchResult result (λ _. S.faults source.new ≡ S.faults source.old)
-            (λ stop. CountsStop stop (S.faults source.old) (S.faults source.new)) }
+        ensures faults { CountsFaults (S.faults source.old) (S.faults source.new) result }
     {
         self.frame.begin(self.reader.at());
         loop {
@@ -80,17 +76,13 @@ impl Locator {
     /// Whether there is a frame after `count` others, which is handed out then.
     pub fn nth<S: Source>(&mut self, count: u64, source: &mut S) -> Result<bool, Stop>
         ensures name { S.name source.new ≡ S.name source.old }
-        ensures finds { IfOk result (λ some. Finds count
-            (located_ahead self.old.at (ahead self.old.unread (S.left source.old)))
-            (located_ahead self.new.at (ahead self.new.unread (S.left source.new)))
-            (if some then Some self.new.frame else None)) }
+        ensures finds { IfOk result
+            (HandsAfter count self.old (S.left source.old) self.new (S.left source.new)) }
         ensures goes { IfOk result (λ _.
-            GoesOn self.old.at (ahead self.old.unread (S.left source.old))
-            self.new.at (ahead self.new.unread (S.left source.new))) }
+            LocatorGoesOn self.old (S.left source.old) self.new (S.left source.new)) }
         ensures long { result ≡ Err Stop.TooLong
             → IsLong self.old.at (ahead self.old.unread (S.left source.old)) }
-        ensures faults { MatchResult result (λ _. S.faults source.new ≡ S.faults source.old)
-            (λ stop. CountsStop stop (S.faults source.old) (S.faults source.new)) }
+        ensures faults { CountsFaults (S.faults source.old) (S.faults source.new) result }
     {
         let mut left = count;
         while left > 0 {

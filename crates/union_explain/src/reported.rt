@@ -3,6 +3,7 @@ ghost use Rattle.std.specs.Prelude.{◌≡◌, ◌<◌, ◌≤◌, ◌^◌, IfOk
 ghost use Rattle.std.specs.List.{filter_map};
 ghost use Rattle.union_words.specs.Lines.{lines_of};
 ghost use Rattle.union_explain.specs.Reports.{all_told, told_by, is_refused_line, refused_by, rising, IsRising};
+ghost use Rattle.union_explain.specs.Runs.{refused_in};
 ghost use Rattle.union_base.specs.Blanks.{first_word, rest_of};
 
 use crate::rules::rule_named;
@@ -83,8 +84,7 @@ pub fn refused_by(library: &[u8], line: &[u8]) -> Option<Reported>
 /// The refused records of the library that the report tells of, in its order. One whose number is not greater than that of
 /// the one before it is passed over: `check` and `export` write none.
 pub fn refused_of(alloc: Global, library: &[u8], report: &[u8]) -> Result<Vec<Reported>, Memory>
-    ensures value { IfOk result (λ found. found.items
-        ≡ rising 0 (filter_map (refused_by library.now) (lines_of report.now))) }
+    ensures value { IfOk result (λ found. found.items ≡ refused_in report.now library.now) }
     ensures rising { IfOk result (λ found. IsRising 0 found.items) }
 {
     let mut found = Vec::new(alloc);

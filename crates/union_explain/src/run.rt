@@ -1,17 +1,17 @@
 //! The table of a report: the rows of each library that the command names.
 ghost use Rattle.std.specs.Prelude.{◌≡◌, ◌≤◌, ◌+◌, ◌-◌, ◌^◌, ◌++◌, ◌||◌, decimal, min, ℕ, List, Some, Err, IfOk, IfErr, MatchResult, OnOk, vec_len};
 ghost use Rattle.std.specs.declared.option.Option.{Option};
+ghost use Rattle.std.specs.Option.{ForSome};
 ghost use Rattle.library_batches.specs.Reading.{most_bytes};
 ghost use Rattle.union_io.specs.Counts.{SameCounts};
 ghost use Rattle.union_words.specs.Flows.{shelf_flow};
 ghost use Rattle.union_words.specs.Meanings.{file_meaning, libraries_meaning};
 ghost use Rattle.union_words.specs.Stops.{StopsAt, StopsAmong, input_of, inputs_of};
-ghost use Rattle.union_words.specs.Lines.{lines_of};
 ghost use Rattle.union_explain.specs.Located.{located};
-ghost use Rattle.union_explain.specs.Readings.{CountsStop, IsLong};
+ghost use Rattle.union_explain.specs.Readings.{CountsFaults, IsLong};
 ghost use Rattle.union_explain.specs.Reports.{IsRising};
 ghost use Rattle.union_explain.specs.Rows.{rows_of, row_count, any_astray};
-ghost use Rattle.union_explain.specs.Runs.{table_text, table_rows, are_astray, told_lines, counts_text, stopped_with};
+ghost use Rattle.union_explain.specs.Runs.{table_text, table_rows, are_astray, told_count, counts_text, stopped_with};
 
 use crate::byte_reader::ByteReader;
 use crate::explain::add_rows;
@@ -37,12 +37,10 @@ use union_words::status::Status;
 /// `Memory` if allocation fails.
 pub fn read_all<S: Source>(alloc: Global, source: &mut S) -> Result<Vec<u8>, Stop>
     ensures name { S.name source.new ≡ S.name source.old }
-    ensures text { IfOk result (λ text. (bytes : List ℕ) → S.left source.old ≡ Some bytes
-        → text.items ≡ bytes) }
+    ensures text { IfOk result (λ text. ForSome (S.left source.old) (λ bytes. text.items ≡ bytes)) }
     ensures within { IfOk result (λ text. vec_len text ≤ most_bytes) }
     ensures long { result ≡ Err Stop.TooLong → IsLong 0 (S.left source.old) }
-    ensures faults { MatchResult result (λ _. S.faults source.new ≡ S.faults source.old)
-        (λ stop. CountsStop stop (S.faults source.old) (S.faults source.new)) }
+    ensures faults { CountsFaults (S.faults source.old) (S.faults source.new) result }
 {
     let mut reader = ByteReader::open(alloc)?;
     let mut text = Vec::new(alloc);
@@ -156,7 +154,7 @@ pub fn table_of<F: Shelf>(
 
 /// How many lines of the text are not empty, up to 2^64 - 1. Takes no memory.
 fn told_lines(text: &[u8]) -> u64
-    ensures { result ≡ min (told_lines (lines_of text.now)) (2 ^ 64 - 1) }
+    ensures { result ≡ told_count text.now }
 {
     let mut count = 0u64;
     let mut lines = Lines::of(text);
@@ -181,8 +179,7 @@ fn add_count(text: &mut Vec<u8>, word: &[u8], number: u64) -> Result<(), AllocEr
 /// The line of the report's counts, `lines L explained E passed P`: the lines that are not empty, those that have a row, and all
 /// others.
 pub fn counts_text(alloc: Global, report: &[u8], rows: u64) -> Result<Vec<u8>, AllocError>
-    ensures { IfOk result (λ text. text.items
-        ≡ counts_text (min (told_lines (lines_of report.now)) (2 ^ 64 - 1)) rows) }
+    ensures { IfOk result (λ text. text.items ≡ counts_text (told_count report.now) rows) }
 {
     let lines = told_lines(report);
     let mut text = Vec::new(alloc);

@@ -14,13 +14,8 @@ use Rattle.union_io.specs.Counts.{SameCounts, SameElsewhere}
 use Rattle.union_io.specs.Names.{is_among}
 use Rattle.union_files.specs.declared.reports.Reports.{Reports}
 use Rattle.union_words.specs.Words.{LibraryFile}
-use Rattle.union_follow.specs.Turning.{AreCalm, AreListed, AreTurnedFrom, AreUnread, FailsOnly, HaltsAt, HaltsIn, StopsIn}
+use Rattle.union_follow.specs.Turning.{AreCalm, AreListed, AreTurnedFrom, AreUnread, HaltsAt, HaltsIn, RaisesAt, StopsIn}
 use Rattle.union_follow.specs.declared.libraries.Halt.{Halt}
-
--- a read of the file at a place failed, and the count of its name rose
-abbrev pub RaisesAt : List OpenedState → Counts → Counts → Type 0
-RaisesAt states before after = (place : ℕ) (state : OpenedState) → FailsOnly place states → slice_get states place ≡ Some state
-    → Rose (before state.name) (after state.name) × SameElsewhere before after state.name
 
 -- files that were opened and not read
 pub fresh_unread : (files : Option Contents) (names : List (List ℕ)) (states : List OpenedState) → AreFresh files names states → AreUnread files states

@@ -1,8 +1,13 @@
 -- What libraries come to that are loaded one after the other.
-use Rattle.std.specs.Prelude.{◌≤◌, List, [], ◌∷◌, ⊤}
+use Rattle.std.specs.Prelude.{◌≤◌, ℕ, List, [], ◌∷◌, ⊤, length}
 use Rattle.std.specs.FinMap.{empty}
 use Rattle.std.specs.List.{AllByRecursion}
+use Rattle.catalogue_core.specs.Entries.{entries_of}
 use Rattle.catalogue_editions.specs.declared.history_entry.HistoryEntry.{HistoryEntry}
+use Rattle.catalogue_query.specs.Replies.{AreReplies, Replied}
+use Rattle.catalogue_query.specs.declared.answer.Answer.{Answer}
+use Rattle.catalogue_query.specs.declared.query.Query.{Query}
+use Rattle.load_sessions.specs.declared.watched.Watched.{Watched}
 use Rattle.union_files.specs.Deliveries.{Delivery}
 use Rattle.union_files.specs.Unions.{HasUnited}
 use Rattle.union_files.specs.declared.loaded.Loaded.{Loaded}
@@ -17,3 +22,16 @@ IsInOrder (entry ∷ later) = AllByRecursion (λ other. entry.pass ≤ other.pas
 pub record HasFollowed (all : List Delivery) (loaded : Loaded) : Type 0 where
   pub united : HasUnited empty all loaded
   pub order : IsInOrder loaded.catalogue.history
+
+-- replies to questions over what was seen
+abbrev pub RepliedOver : List HistoryEntry → ℕ → List Query → List (ℕ × Answer) → Type 0
+RepliedOver seen known questions replies = Replied empty (entries_of seen) known questions replies
+
+-- the replies to the questions that were asked beside the load
+abbrev pub AnswersBeside : List Query → Watched → Type 0
+AnswersBeside questions watched = AreReplies empty watched.loaded.catalogue.history 0 questions watched.beside.items
+
+-- those to the late questions, which are over the whole history
+abbrev pub AnswersLate : List Query → Watched → Type 0
+AnswersLate questions watched =
+    AreReplies empty watched.loaded.catalogue.history (length watched.loaded.catalogue.history) questions watched.late.items

@@ -1,9 +1,11 @@
 -- The turns of one library, and a catalogue that is published.
-use Rattle.std.specs.Prelude.{◌≡◌, ◌||◌, ◌+◌, ◌<◌, ℕ, zero, suc, Option, IsTrue, List, [], ◌∷◌, ◌++◌, length, map, Some, Ok, Err, IfSome, OnOk, slice_get}
+use Rattle.std.specs.Prelude.{◌≡◌, ◌||◌, ◌+◌, ◌<◌, ℕ, zero, suc, Option, IsTrue, List, [], ◌∷◌, ◌++◌, length, map, Some, Ok, Err, IfSome, OnOk, slice_get, ◌≢◌}
 use Rattle.std.specs.List.{AllByRecursion}
 use Rattle.std.specs.declared.result.Result.{Result}
+use Rattle.catalogue_core.specs.Histories.{current, outcomes}
 use Rattle.catalogue_editions.specs.declared.batch.Batch.{Batch}
 use Rattle.catalogue_editions.specs.declared.history_entry.HistoryEntry.{HistoryEntry}
+use Rattle.catalogue_editions.specs.declared.outcome.Outcome.{Outcome}
 use Rattle.iso2709_frame.specs.Frames.{frames}
 use Rattle.library_batches.specs.Batches.{AreBatches}
 use Rattle.library_batches.specs.Outcomes.{AreCounted}
@@ -17,7 +19,7 @@ use Rattle.catalogue_core.specs.Entries.{entries_of}
 use Rattle.library_batches.specs.Tallies.{found}
 use Rattle.snapshot_desk.specs.States.{Publishing}
 use Rattle.union_files.specs.Deliveries.{delivery, has_refused}
-use Rattle.union_files.specs.Inputs.{OpenedState, input_of, inputs_of, files_of, states_of}
+use Rattle.union_files.specs.Inputs.{OpenedState, StopsAtLibraries, input_of, inputs_of, files_of, states_of}
 use Rattle.union_files.specs.Limits.{AreWithin, first_overfull}
 use Rattle.union_files.specs.declared.opened_file.OpenedFile.{OpenedFile}
 use Rattle.union_io.specs.Causes.{Rose}
@@ -28,6 +30,7 @@ use Rattle.library_batches.specs.Reports.{report_text}
 use Rattle.union_files.specs.declared.reports.Reports.{Reports}
 use Rattle.union_words.specs.Flows.{ShelfFlow, IsCalm}
 use Rattle.union_words.specs.Words.{LibraryFile}
+use Rattle.union_words.specs.declared.status.Status.{Status}
 use Rattle.union_follow.specs.declared.libraries.Halt.{Halt}
 
 -- the published list is the history, and nothing is pending
@@ -38,6 +41,14 @@ pub record IsShown (history : List HistoryEntry) (publisher : Publishing) : Type
 -- the turns of batches, under that number
 abbrev pub turns_as : ℕ → List Batch → List HistoryEntry
 turns_as pass batches = map (λ batch. record { pass = pass; batch = batch }) batches
+
+-- the history with one turn more, by which the batch is applied under that number
+abbrev pub with_turn : List HistoryEntry → ℕ → Batch → List HistoryEntry
+with_turn history pass batch = history ++ record { pass = pass; batch = batch } ∷ []
+
+-- what comes of a batch's operations over a history
+abbrev pub outcomes_over : List HistoryEntry → Batch → List Outcome
+outcomes_over history batch = outcomes batch.library (current history) batch.ops
 
 -- turns under that number were added
 abbrev pub HasTurned : ℕ → List HistoryEntry → List HistoryEntry → Type 0
@@ -86,6 +97,11 @@ FailsOnly place [] = ⊥
 FailsOnly zero (state ∷ states) = (0 < state.faults) × AreCalm states
 FailsOnly (suc place) (state ∷ states) = (state.faults ≡ 0) × FailsOnly place states
 
+-- a read of the file at a place failed, and the count of its name rose
+abbrev pub RaisesAt : List OpenedState → (List ℕ → ℕ) → (List ℕ → ℕ) → Type 0
+RaisesAt states before after = (place : ℕ) (state : OpenedState) → FailsOnly place states → slice_get states place ≡ Some state
+    → Rose (before state.name) (after state.name) × SameElsewhere before after state.name
+
 -- why the file at that place was not read to its end
 abbrev pub StopsIn : Stop → ℕ → LibraryFile → Option (List ℕ → List ℕ) → List LibraryFile → List OpenedState → Type 0
 StopsIn Failed place file told files now = FailsOnly place now
@@ -105,11 +121,26 @@ HaltsIn (Err halt) first told before now IsOf =
     (place : ℕ) × (file : LibraryFile) × (halt.place ≡ first + place) × (slice_get (files_of before) place ≡ Some file)
     × StopsIn halt.stop place file told (files_of before) now
 
+-- the code is that of the first library whose file has the name of the file at that place
+abbrev pub IsFirstOf : List LibraryFile → ℕ → List ℕ → Type 0
+IsFirstOf libraries place code = (first : ℕ) × (file other : LibraryFile) × (slice_get libraries place ≡ Some other)
+    × (slice_get libraries first ≡ Some file) × (file.library ≡ code) × (file.path ≡ other.path)
+    × ((earlier : ℕ) (before : LibraryFile) → earlier < first → slice_get libraries earlier ≡ Some before → before.path ≢ other.path)
+
+-- the status says at a shelf why the load stopped there
+abbrev pub TellsHalt : List LibraryFile → Halt → Status → Type 0
+TellsHalt libraries halt status = (file : LibraryFile) (shelf : ShelfFlow) → slice_get libraries halt.place ≡ Some file
+    → HaltsAt halt.stop file libraries shelf → StopsAtLibraries status libraries shelf
+
 -- each turn has a lower number
 abbrev pub IsBelow : ℕ → List HistoryEntry → Type 0
 IsBelow pass history = AllByRecursion (λ entry. entry.pass < pass) history
 
 module _ {S : Type 0} (name : S → List ℕ) (left : S → Option (List ℕ)) (faults : S → ℕ) where
+  -- opened files of the same libraries
+  abbrev pub SameFiles : List (OpenedFile S) → List (OpenedFile S) → Type 0
+  SameFiles before now = files_of (states_of name left faults now) ≡ files_of (states_of name left faults before)
+
   -- what the load of opened files did, from no turn on: the same files, the same publisher, and what came of them
   pub record Runs (before now : List (OpenedFile S)) (history after : List HistoryEntry) (old new : Publishing) (told texts : Reports)
       (result : Result (Unit {0}) Halt) : Type 0 where

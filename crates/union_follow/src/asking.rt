@@ -1,9 +1,7 @@
 //! The asking of questions through a viewer.
 ghost use Rattle.std.specs.Prelude.{◌≡◌, [], length, OnOk};
-ghost use Rattle.std.specs.FinMap.{empty};
 ghost use mathlib.Core.List.{IsPrefix};
-ghost use Rattle.catalogue_query.specs.Replies.{Replied};
-ghost use Rattle.catalogue_core.specs.Entries.{entries_of};
+ghost use Rattle.union_follow.specs.Following.{RepliedOver};
 
 use catalogue_query::answer::Answer;
 use catalogue_query::query::Query;
@@ -23,8 +21,8 @@ pub fn view_all(
     requires none { replies.old.items ≡ [] }
     ensures book { viewer.new.book ≡ viewer.old.book }
     ensures seen { IsPrefix viewer.old.seen viewer.new.seen }
-    ensures replied { Replied empty (entries_of viewer.new.seen) (length viewer.old.learnt)
-        questions.now replies.new.items }
+    ensures replied { RepliedOver viewer.new.seen (length viewer.old.learnt) questions.now
+        replies.new.items }
     ensures all { OnOk result (length replies.new.items ≡ length questions.now) }
 {
     for question in questions {

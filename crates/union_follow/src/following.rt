@@ -3,15 +3,13 @@
 //! The files are opened in the order of the command, before any of them is read. Then one thread loads them, and publishes each turn,
 //! while another asks. The publisher and its viewer are closed on every way out.
 ghost use Rattle.std.specs.Prelude.{◌≡◌, ◌<◌, ◌≤◌, [], IfErr, IfOk, OnOk, false, length};
-ghost use Rattle.std.specs.FinMap.{empty};
 ghost use mathlib.Core.List.{IsPrefix};
-ghost use Rattle.catalogue_query.specs.Replies.{Replied, AreReplies};
-ghost use Rattle.catalogue_core.specs.Entries.{entries_of};
 ghost use Rattle.union_words.specs.Flows.{shelf_flow};
 ghost use Rattle.union_words.specs.Meanings.{libraries_meaning};
 ghost use Rattle.union_files.specs.Inputs.{AreFresh, Gathers, OpensInOrder, deliveries, files_of, is_open_fault, states_of};
-ghost use Rattle.union_follow.specs.Following.{HasFollowed};
-ghost use Rattle.union_follow.specs.Turning.{AreTurnedFrom, IsShown, Runs};
+ghost use Rattle.union_follow.specs.Following.{AnswersBeside, AnswersLate, HasFollowed, RepliedOver};
+ghost use Rattle.union_follow.specs.Loads.{RunsLoad};
+ghost use Rattle.union_follow.specs.Turning.{AreTurnedFrom, IsShown};
 
 use crate::asking::view_all;
 use crate::libraries::{Halt, load_rest, return_all};
@@ -53,8 +51,8 @@ fn ask_beside<R: Wait>(_rt: &R, alloc: Global, asking: &mut Asking) -> Result<()
     requires none { asking.old.replies.items ≡ [] }
     ensures questions { asking.new.questions ≡ asking.old.questions }
     ensures book { asking.new.viewer.book ≡ asking.old.viewer.book }
-    ensures replied { Replied empty (entries_of asking.new.viewer.seen) 0
-        asking.old.questions.items asking.new.replies.items }
+    ensures replied { RepliedOver asking.new.viewer.seen 0 asking.old.questions.items
+        asking.new.replies.items }
     ensures all { OnOk result (length asking.new.replies.items
         ≡ length asking.old.questions.items) }
 {
@@ -77,10 +75,7 @@ fn load_all<R: Wait, S: Source>(rt: &R, alloc: Global, running: &mut Running<S>)
     requires few { length running.old.opened.items ≤ 64 }
     requires shown { IsShown running.old.load.catalogue.history running.old.load.publisher }
     requires empty { running.old.load.catalogue.history ≡ [] }
-    ensures { Runs S.name S.left S.faults running.old.opened.items running.new.opened.items
-        running.old.load.catalogue.history running.new.load.catalogue.history
-        running.old.load.publisher running.new.load.publisher
-        running.old.load.reports running.new.load.reports result }
+    ensures { RunsLoad S.name S.left S.faults running.old running.new result }
 {
     load_rest(rt, alloc, 0, &mut running.opened, &mut running.load)
 }
@@ -96,14 +91,11 @@ fn load_beside<R: Threads + Wait + Sync, S: Source + Send>(
     requires shown { IsShown running.old.load.catalogue.history running.old.load.publisher }
     requires empty { running.old.load.catalogue.history ≡ [] }
     requires none { asking.old.replies.items ≡ [] }
-    ensures runs { Runs S.name S.left S.faults running.old.opened.items running.new.opened.items
-        running.old.load.catalogue.history running.new.load.catalogue.history
-        running.old.load.publisher running.new.load.publisher
-        running.old.load.reports running.new.load.reports result.0 }
+    ensures runs { RunsLoad S.name S.left S.faults running.old running.new result.0 }
     ensures viewer { asking.new.viewer.book ≡ asking.old.viewer.book }
     ensures questions { asking.new.questions ≡ asking.old.questions }
-    ensures replied { Replied empty (entries_of asking.new.viewer.seen) 0
-        asking.old.questions.items asking.new.replies.items }
+    ensures replied { RepliedOver asking.new.viewer.seen 0 asking.old.questions.items
+        asking.new.replies.items }
     ensures all { OnOk result.1 (length asking.new.replies.items
         ≡ length asking.old.questions.items) }
 {
@@ -146,8 +138,8 @@ fn gather<R: Threads + Wait + Sync, F: Shelf>(
     ensures names { F.opened shelf.new ≡ F.opened shelf.old }
     ensures status { IfErr result (λ status. is_open_fault status ≡ false) }
     ensures questions { asking.new.questions ≡ asking.old.questions }
-    ensures replied { Replied empty (entries_of asking.new.viewer.seen) 0
-        asking.old.questions.items asking.new.replies.items }
+    ensures replied { RepliedOver asking.new.viewer.seen 0 asking.old.questions.items
+        asking.new.replies.items }
     ensures all { OnOk result (length asking.new.replies.items
         ≡ length asking.old.questions.items) }
 {
@@ -174,7 +166,7 @@ fn ask_late(
     requires { viewer.old.book ≡ load.now.publisher.book }
     ensures book { viewer.new.book ≡ viewer.old.book }
     ensures seen { IsPrefix viewer.old.seen viewer.new.seen }
-    ensures replied { IfOk result (λ replies. Replied empty (entries_of viewer.new.seen)
+    ensures replied { IfOk result (λ replies. RepliedOver viewer.new.seen
         (length load.now.publisher.published) questions.now replies.items) }
     ensures all { IfOk result (λ replies. length replies.items ≡ length questions.now) }
 {
@@ -262,10 +254,8 @@ pub fn follow_and_ask<R: Threads + Wait + Sync, F: Shelf>(
         watched.loaded) }
     ensures in_order { IfErr result (λ status. OpensInOrder status (libraries_meaning libraries.now)
         (F.opened shelf.old) (F.opened shelf.new)) }
-    ensures beside { IfOk result (λ watched. AreReplies empty watched.loaded.catalogue.history 0
-        questions.beside.items watched.beside.items) }
-    ensures late { IfOk result (λ watched. AreReplies empty watched.loaded.catalogue.history
-        (length watched.loaded.catalogue.history) questions.late.items watched.late.items) }
+    ensures beside { IfOk result (AnswersBeside questions.beside.items) }
+    ensures late { IfOk result (AnswersLate questions.late.items) }
 {
     let Questions { beside, late } = questions;
     let Ok(catalogue) = Catalogue::empty(alloc, hashing) else {

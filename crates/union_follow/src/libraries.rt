@@ -2,13 +2,12 @@
 //!
 //! The first file that is not read to its end stops the load; the later ones stay unread. Each opened file stays in its place, and all
 //! are given back when the load has ended.
-ghost use Rattle.std.specs.Prelude.{◌≡◌, ◌+◌, ◌<◌, ℕ, List, Some, OnOk, length, slice_get};
-ghost use Rattle.std.specs.declared.option.Option.{Option};
+ghost use Rattle.std.specs.Prelude.{◌≡◌, ◌+◌, ◌<◌, OnOk, length};
 ghost use Rattle.std.specs.VecDeque.{deque_capacity, deque_len};
-ghost use Rattle.union_files.specs.Inputs.{OpenedState, files_of, states_of};
-ghost use Rattle.union_io.specs.Causes.{Rose};
-ghost use Rattle.union_io.specs.Counts.{SameCounts, SameElsewhere};
-ghost use Rattle.union_follow.specs.Turning.{AreCalm, AreListed, AreTurnedFrom, AreUnread, FailsOnly, HaltsIn, IsBelow, IsShown};
+ghost use Rattle.union_files.specs.Inputs.{states_of};
+ghost use Rattle.union_io.specs.Counts.{SameCounts};
+ghost use Rattle.union_follow.specs.Loads.{Halts};
+ghost use Rattle.union_follow.specs.Turning.{AreCalm, AreListed, IsBelow, IsShown, RaisesAt, SameFiles};
 
 use crate::loading::load_file;
 use crate::turning::Load;
@@ -41,17 +40,11 @@ pub fn load_rest<R: Wait, S: Source>(
     requires below { IsBelow place load.old.catalogue.history }
     ensures room { deque_capacity opened.new ≡ deque_capacity opened.old }
     ensures long { deque_len opened.new ≡ deque_len opened.old }
-    ensures same { files_of (states_of S.name S.left S.faults opened.new.items)
-        ≡ files_of (states_of S.name S.left S.faults opened.old.items) }
+    ensures same { SameFiles S.name S.left S.faults opened.old.items opened.new.items }
     ensures book { load.new.publisher.book ≡ load.old.publisher.book }
     ensures shown { OnOk result (IsShown load.new.catalogue.history load.new.publisher) }
-    ensures halts { (told : Option (List ℕ → List ℕ))
-        → AreUnread told (states_of S.name S.left S.faults opened.old.items)
-        → HaltsIn result place told (states_of S.name S.left S.faults opened.old.items)
-        (states_of S.name S.left S.faults opened.new.items)
-        (λ contents. AreTurnedFrom contents place
-        (files_of (states_of S.name S.left S.faults opened.old.items))
-        load.old.catalogue.history load.new.catalogue.history load.old.reports load.new.reports) }
+    ensures halts { Halts S.name S.left S.faults place opened.old.items opened.new.items load.old
+        load.new result }
 {
     let Some(mut file) = opened.pop_front() else {
         return Ok(());
@@ -77,12 +70,8 @@ pub fn return_all<F: Shelf>(opened: &mut VecDeque<OpenedFile<F::Src>>, shelf: &m
     ensures names { F.opened shelf.new ≡ F.opened shelf.old }
     ensures calm { AreCalm (states_of F.Src.name F.Src.left F.Src.faults opened.old.items)
         → SameCounts (F.faults shelf.old) (F.faults shelf.new) }
-    ensures failed { (place : ℕ) (state : OpenedState)
-        → FailsOnly place (states_of F.Src.name F.Src.left F.Src.faults opened.old.items)
-        → slice_get (states_of F.Src.name F.Src.left F.Src.faults opened.old.items) place
-        ≡ Some state
-        → Rose (F.faults shelf.old state.name) (F.faults shelf.new state.name)
-        × SameElsewhere (F.faults shelf.old) (F.faults shelf.new) state.name }
+    ensures failed { RaisesAt (states_of F.Src.name F.Src.left F.Src.faults opened.old.items)
+        (F.faults shelf.old) (F.faults shelf.new) }
 {
     let Some(file) = opened.pop_front() else {
         return;

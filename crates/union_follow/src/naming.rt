@@ -1,11 +1,9 @@
 //! The status of a load that stopped.
-ghost use Rattle.std.specs.Prelude.{◌≡◌, ◌≢◌, ◌<◌, ℕ, IfSome, Some, false, length, nat_eq, slice_get};
+ghost use Rattle.std.specs.Prelude.{◌≡◌, ◌<◌, IfSome, false, length, nat_eq, slice_get};
 ghost use Rattle.std.specs.Cmp.Lexicographic.{pointwise};
-ghost use Rattle.union_words.specs.Flows.{ShelfFlow};
 ghost use Rattle.union_words.specs.Meanings.{file_meaning, libraries_meaning};
-ghost use Rattle.union_words.specs.Words.{LibraryFile};
-ghost use Rattle.union_files.specs.Inputs.{StopsAtLibraries, is_open_fault};
-ghost use Rattle.union_follow.specs.Turning.{HaltsAt};
+ghost use Rattle.union_files.specs.Inputs.{is_open_fault};
+ghost use Rattle.union_follow.specs.Turning.{IsFirstOf, TellsHalt};
 
 use crate::libraries::Halt;
 use library_batches::stop::Stop;
@@ -27,13 +25,7 @@ fn has_path(libraries: &Libraries<'_>, place: usize, path: &[u8]) -> bool
 /// names it. Takes no memory.
 fn first_of(libraries: &Libraries<'_>, place: usize) -> LibraryCode
     requires { place < length (libraries_meaning libraries.now) }
-    ensures { (first : ℕ) × (file other : LibraryFile)
-        × (slice_get (libraries_meaning libraries.now) place ≡ Some other)
-        × (slice_get (libraries_meaning libraries.now) first ≡ Some file)
-        × (file.library ≡ result) × (file.path ≡ other.path)
-        × ((earlier : ℕ) (before : LibraryFile) → earlier < first
-        → slice_get (libraries_meaning libraries.now) earlier ≡ Some before
-        → before.path ≢ other.path) }
+    ensures { IsFirstOf (libraries_meaning libraries.now) place result }
 {
     let path = libraries.at(place).path;
     for earlier in 0..place {
@@ -47,10 +39,7 @@ fn first_of(libraries: &Libraries<'_>, place: usize) -> LibraryCode
 /// The status of a load that stopped there.
 pub fn status_of(libraries: &Libraries<'_>, halt: &Halt) -> Status
     requires { halt.now.place < length (libraries_meaning libraries.now) }
-    ensures stops { (file : LibraryFile) (shelf : ShelfFlow)
-        → slice_get (libraries_meaning libraries.now) halt.now.place ≡ Some file
-        → HaltsAt halt.now.stop file (libraries_meaning libraries.now) shelf
-        → StopsAtLibraries result (libraries_meaning libraries.now) shelf }
+    ensures stops { TellsHalt (libraries_meaning libraries.now) halt.now result }
     ensures other { is_open_fault result ≡ false }
 {
     let place = halt.place as usize;

@@ -1,9 +1,8 @@
 //! One turn: a batch is applied to the catalogue of the load, and published.
-ghost use Rattle.std.specs.Prelude.{◌≡◌, ◌<◌, ◌++◌, ◌∷◌, [], IfOk, OnOk};
+ghost use Rattle.std.specs.Prelude.{◌≡◌, ◌<◌, IfOk, OnOk};
 ghost use Rattle.std.specs.Coded.{Coded-set, coded_list, coded_option, coded_ℕ};
 ghost use Rattle.std.specs.FinMap.{code, empty};
-ghost use Rattle.catalogue_core.specs.Histories.{current, outcomes};
-ghost use Rattle.union_follow.specs.Turning.{IsShown};
+ghost use Rattle.union_follow.specs.Turning.{IsShown, outcomes_over, with_turn};
 
 use catalogue_core::batch::Batch;
 use catalogue_core::catalogue::Catalogue;
@@ -42,9 +41,9 @@ fn apply_by<L: Ledger>(
     requires some { 0 < L.parts }
     ensures names { catalogue.new.names ≡ catalogue.old.names }
     ensures appended { OnOk result (catalogue.new.history
-        ≡ catalogue.old.history ++ record { pass = pass; batch = batch } ∷ []) }
-    ensures outcomes { IfOk result (λ found.
-        found.items ≡ outcomes batch.library (current catalogue.old.history) batch.ops) }
+        ≡ with_turn catalogue.old.history pass batch) }
+    ensures outcomes { IfOk result (λ found. found.items
+        ≡ outcomes_over catalogue.old.history batch) }
 {
     let mut steps: Steps<L> = Steps::open(blank);
     catalogue.apply(alloc, pass, batch, &mut steps)
@@ -64,9 +63,9 @@ pub fn publish_batch<R: Wait>(
     ensures book { load.new.publisher.book ≡ load.old.publisher.book }
     ensures reports { load.new.reports ≡ load.old.reports }
     ensures appended { OnOk result (load.new.catalogue.history
-        ≡ load.old.catalogue.history ++ record { pass = pass; batch = batch } ∷ []) }
+        ≡ with_turn load.old.catalogue.history pass batch) }
     ensures outcomes { IfOk result (λ found.
-        found.items ≡ outcomes batch.library (current load.old.catalogue.history) batch.ops) }
+        found.items ≡ outcomes_over load.old.catalogue.history batch) }
     ensures shown { OnOk result (IsShown load.new.catalogue.history load.new.publisher) }
 {
     let copy = batch.copied(alloc)?;

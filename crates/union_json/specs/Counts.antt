@@ -55,8 +55,12 @@ pub record AreCounted (all : List Ended) (found : Findings) : Type 0 where
   pub refused : found.refused.items ≡ refused all
   pub frames : found.frames ≡ frames_of all
 
+-- the next line was counted, whichever were counted before it
+abbrev pub Counts : Findings → Findings → Ended → Type 0
+Counts old new ended = (all : List Ended) → AreCounted all old → AreCounted (all ++ ended ∷ []) new
+
 -- what came of the lines of a text
-pub record IsConverted (text : List ℕ) (found : Findings) : Type 0 where
+pub record IsConverted (found : Findings) (text : List ℕ) : Type 0 where
   pub all : List Ended
   pub outcomes : AllZip IsOutcome (raw_lines text) all
   pub counted : AreCounted all found

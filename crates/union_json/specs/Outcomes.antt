@@ -1,5 +1,5 @@
 -- What comes of a line: nothing of an empty one, and else the frame of the record that its value stands for, or why there is none.
-use Rattle.std.specs.Prelude.{◌≡◌, ◌≢◌, ℕ, List, [], None, Some, IsSomeAnd, MatchOption}
+use Rattle.std.specs.Prelude.{◌≡◌, ◌≢◌, ℕ, List, [], Option, None, Some, IsSomeAnd, MatchOption}
 use Rattle.iso2709_frame.specs.declared.cut.Cut.TheVariants.{Whole}
 use Rattle.marc_fields.specs.Appending.{too_long}
 use Rattle.marc_fields.specs.Spelling.{spelling}
@@ -35,6 +35,10 @@ IsOutcomeWithin line Written frame =
     (r : Record) × IsRecordOf line r × (too_long r ≡ None) × (first_rule Whole (spelling r) ≡ None) × (frame ≡ spelling r)
 IsOutcomeWithin line (Refused reason) frame = (line ≢ []) × IsReason line reason × (frame ≡ [])
 
+-- what comes of each line that is not empty and stands for the record
+abbrev pub IsOutcomeOf : Record → Outcome → List ℕ → Type 0
+IsOutcomeOf r outcome frame = (line : List ℕ) → line ≢ [] → IsRecordOf line r → IsOutcomeWithin line outcome frame
+
 -- an outcome, and the frame that is written
 abbrev pub Ended : Type 0
 Ended = Outcome × List ℕ
@@ -43,3 +47,7 @@ Ended = Outcome × List ℕ
 abbrev pub IsOutcome : List ℕ → Ended → Type 0
 IsOutcome raw ended =
     MatchOption (line_within raw) ((ended.0 ≡ Refused LineTooLong) × (ended.1 ≡ [])) (λ line. IsOutcomeWithin line ended.0 ended.1)
+
+-- so ends each line that is this one without the carriage return at its end; None stands for one that is too long
+abbrev pub EndsAs : Option (List ℕ) → Ended → Type 0
+EndsAs line ended = (raw : List ℕ) → line ≡ line_within raw → IsOutcome raw ended

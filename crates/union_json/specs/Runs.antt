@@ -1,8 +1,11 @@
 -- How a run ends that reads one file to its end and then writes two texts.
-use Rattle.std.specs.Prelude.{◌≡◌, ◌≢◌, ℕ, ◌⊎◌, ◌≤◌, false, IsTrue, List, length, Some, IfSome}
+use Rattle.std.specs.Prelude.{◌≡◌, ◌≢◌, ℕ, ◌⊎◌, ◌≤◌, false, IsTrue, List, length, Option, Some, IfSome}
+use Rattle.std.specs.declared.result.Result.{Result}
 use Rattle.std.specs.Io.KnownBytes.{Appends, Keeps}
 use Rattle.library_batches.specs.Reading.{most_bytes}
+use Rattle.library_batches.specs.declared.stop.Stop.{Stop}
 use Rattle.union_files.specs.Endings.{EndsAtInput}
+use Rattle.union_files.specs.Readings.{Reads}
 use Rattle.union_json.specs.FromJson.{IsFromJson}
 use Rattle.union_json.specs.Texts.{Making}
 use Rattle.union_json.specs.ToJson.{IsToJson}
@@ -11,6 +14,14 @@ use Rattle.union_words.specs.Statuses.{is_done, is_early, is_input_fault}
 use Rattle.union_words.specs.declared.input.Input.TheVariants.{Library}
 use Rattle.union_words.specs.declared.status.Status.{Status}
 use Rattle.union_words.specs.declared.status.Status.TheVariants.{Usage, WriteFault, Memory}
+
+-- by what is told of a source
+abbrev pub inflow : {S : Type 0} → (S → Option (List ℕ)) → (S → ℕ) → S → S → Inflow
+inflow left faults old new = record { told = left old; before = faults old; after = faults new }
+
+-- a source of at most 2^40 bytes was read to its end, or why not. What was read is so of all its bytes
+abbrev pub ReadsAll : {T : Type 0} → Result T Stop → Inflow → (T → List ℕ → Type 0) → Type 0
+ReadsAll result source IsOf = Reads most_bytes result source IsOf
 
 -- a run on a library's file, of whose bytes something is made
 pub record IsMakingRun (library : List ℕ) (IsOf : List ℕ → Making → Type 0) (file : Inflow) (out notes : Outflow) (status : Status) : Type 0 where

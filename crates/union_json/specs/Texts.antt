@@ -19,6 +19,10 @@ pub record Making : Type 0 where
 abbrev pub making_of : Made → Making
 making_of made = record { shown = made.shown; noted = made.noted.items; end = made.end }
 
+-- of whatever bytes the first is so, the second is
+abbrev pub Whenever : (List ℕ → Type 0) → (List ℕ → Type 0) → Type 0
+Whenever First Second = (bytes : List ℕ) → First bytes → Second bytes
+
 -- `LIB WORD F written W refused N`
 unfoldable pub count_line : List ℕ → List ℕ → ℕ → ℕ → ℕ → List ℕ
 count_line library word all written refused =

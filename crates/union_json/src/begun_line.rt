@@ -20,7 +20,7 @@ pub struct BegunLine {
 impl BegunLine {
     /// A line without bytes. Takes no memory.
     pub fn new(alloc: Global) -> BegunLine
-        ensures { Holds result.is_over result.bytes.items [] }
+        ensures { Holds result [] }
     {
         BegunLine {
             bytes: Vec::new(alloc),
@@ -30,8 +30,8 @@ impl BegunLine {
 
     /// The line goes on.
     pub fn add(&mut self, part: &[u8]) -> Result<(), AllocError>
-        ensures { OnOk result ((begun : List ℕ) → Holds self.old.is_over self.old.bytes.items begun
-            → Holds self.new.is_over self.new.bytes.items (begun ++ part.now)) }
+        ensures { OnOk result ((begun : List ℕ) → Holds self.old begun
+            → Holds self.new (begun ++ part.now)) }
     {
         if self.is_over {
             return Ok(());
@@ -47,7 +47,7 @@ impl BegunLine {
 
     /// The line without the carriage return at its end; None where it is too long. Takes no memory.
     pub fn line(&self) -> Option<&[u8]>
-        ensures { (begun : List ℕ) → Holds self.now.is_over self.now.bytes.items begun
+        ensures { (begun : List ℕ) → Holds self.now begun
             → option_copied result ≡ line_within begun }
     {
         if self.is_over {
@@ -59,7 +59,7 @@ impl BegunLine {
 
     /// Begins the next line. Takes no memory.
     pub fn clear(&mut self)
-        ensures { Holds self.new.is_over self.new.bytes.items [] }
+        ensures { Holds self.new [] }
     {
         self.is_over = false;
         self.bytes.clear();

@@ -1,11 +1,9 @@
 //! The lines of a text, in whatever pieces it comes.
 ghost use Rattle.std.specs.Prelude.{◌≡◌, ◌+◌, ◌<◌, ◌≤◌, ℕ, false, List, [], ◌∷◌, ◌++◌, length, IfOk, OnOk};
 ghost use Rattle.std.specs.List.{All};
-ghost use Rattle.union_json.specs.Converting.{HasTaken};
-ghost use Rattle.union_json.specs.Counts.{AreCounted, IsConverted};
-ghost use Rattle.union_json.specs.Kept.{Holds};
+ghost use Rattle.union_json.specs.Converting.{HasTaken, JudgesHeld, Takes};
+ghost use Rattle.union_json.specs.Counts.{IsConverted};
 ghost use Rattle.union_json.specs.Lines.{is_feed};
-ghost use Rattle.union_json.specs.Outcomes.{Ended, IsOutcome};
 
 use crate::begun_line::BegunLine;
 use crate::findings::Findings;
@@ -38,11 +36,7 @@ impl Converter {
     /// Judges the line that is held, and counts it.
     fn judge_begun(&mut self, alloc: Global) -> Result<(), Memory>
         requires { self.old.findings.lines < u64.MAX }
-        ensures counted { OnOk result ((begun : List ℕ) (all : List Ended)
-            → Holds self.old.begun.is_over self.old.begun.bytes.items begun
-            → AreCounted all self.old.findings
-            → (ended : Ended) × IsOutcome begun ended
-            × AreCounted (all ++ ended ∷ []) self.new.findings) }
+        ensures counted { OnOk result (JudgesHeld self.old self.new) }
         ensures lines { OnOk result (self.new.findings.lines ≡ self.old.findings.lines + 1) }
     {
         let outcome = judge(alloc, self.begun.line(), &mut self.frame)?;
@@ -54,8 +48,7 @@ impl Converter {
     fn end_line(&mut self, alloc: Global, part: &[u8]) -> Result<(), Memory>
         requires room { self.old.findings.lines < u64.MAX }
         requires unended { All (λ b. is_feed b ≡ false) part.now }
-        ensures taken { OnOk result ((text : List ℕ) → HasTaken text self.old
-            → HasTaken (text ++ (part.now ++ 0x0A ∷ [])) self.new) }
+        ensures taken { OnOk result (Takes self.old self.new (part.now ++ 0x0A ∷ [])) }
         ensures lines { OnOk result (self.new.findings.lines ≡ self.old.findings.lines + 1) }
     {
         self.begun.add(part)?;
@@ -69,8 +62,7 @@ impl Converter {
     /// Returns `Memory` if allocation fails; nothing is said of what was taken then.
     pub fn take(&mut self, alloc: Global, piece: &[u8]) -> Result<(), Memory>
         requires { self.old.findings.lines + length piece.now < u64.MAX }
-        ensures taken { OnOk result ((text : List ℕ) → HasTaken text self.old
-            → HasTaken (text ++ piece.now) self.new) }
+        ensures taken { OnOk result (Takes self.old self.new piece.now) }
         ensures few { OnOk result (self.new.findings.lines
             ≤ self.old.findings.lines + length piece.now) }
     {
@@ -90,7 +82,7 @@ impl Converter {
     pub fn finish(mut self, alloc: Global) -> Result<Findings, Memory>
         requires { self.findings.lines < u64.MAX }
         ensures { IfOk result (λ found. (text : List ℕ) → HasTaken text self
-            → IsConverted text found) }
+            → IsConverted found text) }
     {
         self.judge_begun(alloc)?;
         Ok(self.findings)

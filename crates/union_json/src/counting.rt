@@ -1,7 +1,6 @@
 //! The counting of lines.
 ghost use Rattle.std.specs.Prelude.{◌≡◌, ◌+◌, ◌<◌, ◌++◌, ◌∷◌, [], List, IfOk, OnOk};
-ghost use Rattle.union_json.specs.Counts.{AreCounted};
-ghost use Rattle.union_json.specs.Outcomes.{Ended};
+ghost use Rattle.union_json.specs.Counts.{AreCounted, Counts};
 
 use crate::findings::Findings;
 use crate::gathered::Gathered;
@@ -25,8 +24,7 @@ impl Findings {
     /// Counts the next line, which came to `outcome` and for which `frame` is written.
     pub fn count(&mut self, outcome: Outcome, frame: &[u8]) -> Result<(), AllocError>
         requires { self.old.lines < u64.MAX }
-        ensures counted { OnOk result ((all : List Ended) → AreCounted all self.old
-            → AreCounted (all ++ (outcome, frame.now) ∷ []) self.new) }
+        ensures counted { OnOk result (Counts self.old self.new (outcome, frame.now)) }
         ensures lines { OnOk result (self.new.lines ≡ self.old.lines + 1) }
     {
         self.frames.add(frame)?;

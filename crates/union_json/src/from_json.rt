@@ -1,13 +1,12 @@
 //! `fromjson`: the records of lines of JSON as frames.
 ghost use Rattle.std.specs.Prelude.{◌≡◌, ◌≢◌, ◌≤◌, ℕ, List, [], IsTrue, IfOk, OnOk};
-ghost use Rattle.union_json.specs.Converting.{HasTaken};
-ghost use Rattle.union_json.specs.Counts.{AreCounted, IsConverted};
-ghost use Rattle.union_json.specs.Outcomes.{Ended};
+ghost use Rattle.union_json.specs.Converting.{TakesWhole};
+ghost use Rattle.union_json.specs.Counts.{IsConverted};
 ghost use Rattle.library_batches.specs.Reading.{most_bytes};
-ghost use Rattle.union_files.specs.Readings.{Reads};
-ghost use Rattle.union_json.specs.FromJson.{IsFromJson, end_with, from_json_notes};
-ghost use Rattle.union_json.specs.Runs.{IsFromJsonRun};
-ghost use Rattle.union_json.specs.Texts.{making_of};
+ghost use Rattle.union_json.specs.FromJson.{AreNotesOn, MakesFrames, end_with};
+ghost use Rattle.union_json.specs.Runs.{ReadsAll, inflow, IsFromJsonRun};
+ghost use Rattle.union_json.specs.Texts.{Whenever};
+ghost use Rattle.union_words.specs.Flows.{outflow};
 ghost use Rattle.union_words.specs.Statuses.{is_done, is_early};
 ghost use Rattle.union_words.specs.declared.input.Input.{Input as InputModel};
 
@@ -38,12 +37,8 @@ fn take_source<S: Source>(
 ) -> Result<(), Stop>
     requires { converter.old.findings.lines ≡ 0 }
     ensures name { S.name source.new ≡ S.name source.old }
-    ensures reads { Reads most_bytes result (record {
-      told = S.left source.old;
-      before = S.faults source.old;
-      after = S.faults source.new;
-    })
-        (λ _ bytes. HasTaken [] converter.old → HasTaken bytes converter.new) }
+    ensures reads { ReadsAll result (inflow S.left S.faults source.old source.new)
+        (TakesWhole converter.old converter.new) }
     ensures few { OnOk result (converter.new.findings.lines ≤ most_bytes) }
 {
     let mut piece = vec![in alloc; 0u8; PIECE]?;
@@ -66,12 +61,8 @@ fn take_source<S: Source>(
 /// What came of the lines of a source.
 fn convert<S: Source>(alloc: Global, source: &mut S) -> Result<Findings, Stop>
     ensures name { S.name source.new ≡ S.name source.old }
-    ensures reads { Reads most_bytes result (record {
-      told = S.left source.old;
-      before = S.faults source.old;
-      after = S.faults source.new;
-    })
-        (λ found bytes. IsConverted bytes found) }
+    ensures reads { ReadsAll result (inflow S.left S.faults source.old source.new)
+        IsConverted }
 {
     let mut converter = Converter::open(alloc)?;
     match take_source(alloc, source, &mut converter) {
@@ -97,8 +88,7 @@ fn end_with(refused: &[RefusedLine]) -> Status
 
 /// The notes on lines with these findings.
 fn notes_of(alloc: Global, library: &[u8], found: &Findings) -> Result<Vec<u8>, AllocError>
-    ensures { IfOk result (λ text. (all : List Ended) → AreCounted all found.now
-        → text.items ≡ from_json_notes library.now all) }
+    ensures { IfOk result (λ text. AreNotesOn library.now found.now text.items) }
 {
     let refused = found.refused.as_slice();
     let mut text = Vec::new(alloc);
@@ -118,8 +108,8 @@ fn notes_of(alloc: Global, library: &[u8], found: &Findings) -> Result<Vec<u8>, 
 
 /// What is made of lines with these findings.
 fn made_of(alloc: Global, library: &[u8], found: Findings) -> Result<Made, AllocError>
-    ensures value { IfOk result (λ made. (bytes : List ℕ) → IsConverted bytes found
-        → IsFromJson library.now bytes (making_of made)) }
+    ensures value { IfOk result (λ made. Whenever (IsConverted found)
+        (MakesFrames library.now made)) }
     ensures end { IfOk result (λ made. IsTrue (is_done made.end)) }
 {
     let noted = notes_of(alloc, library, &found)?;
@@ -134,12 +124,8 @@ fn made_of(alloc: Global, library: &[u8], found: Findings) -> Result<Made, Alloc
 /// What is made of a source.
 fn make<S: Source>(alloc: Global, library: &LibraryCode, source: &mut S) -> Result<Made, Stop>
     ensures name { S.name source.new ≡ S.name source.old }
-    ensures reads { Reads most_bytes result (record {
-      told = S.left source.old;
-      before = S.faults source.old;
-      after = S.faults source.new;
-    })
-        (λ made bytes. IsFromJson library.now bytes (making_of made)) }
+    ensures reads { ReadsAll result (inflow S.left S.faults source.old source.new)
+        (MakesFrames library.now) }
     ensures end { IfOk result (λ made. IsTrue (is_done made.end)) }
 {
     match convert(alloc, source) {
@@ -166,25 +152,9 @@ pub fn from_json_run<S: Source, O: Sink, N: Sink>(
 ) -> Status
     ensures name { S.name source.new ≡ S.name source.old }
     ensures run { IsFromJsonRun library.now
-        (record {
-          told = S.left source.old;
-          before = S.faults source.old;
-          after = S.faults
-              source.new;
-        })
-        (record {
-          old = O.written out.old;
-          new = O.written out.new;
-          before = O.faults out.old;
-          after
-              = O.faults out.new;
-        })
-        (record {
-          old = N.written notes.old;
-          new = N.written notes.new;
-          before = N.faults notes.old;
-          after = N.faults notes.new;
-        })
+        (inflow S.left S.faults source.old source.new)
+        (outflow O.written O.faults out.old out.new)
+        (outflow N.written N.faults notes.old notes.new)
         result }
     ensures open { (input : InputModel) → result ≢ Status.OpenFault input }
     // Whoever calls may write its own line on the notes then.

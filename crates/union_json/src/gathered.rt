@@ -1,9 +1,9 @@
 //! A text that is kept until it may be written.
 ghost use Rattle.std.specs.Prelude.{◌≡◌, ◌++◌, [], IfOk, OnOk, OnErr};
 ghost use Rattle.std.specs.Io.KnownBytes.{Appends};
-ghost use Rattle.std.specs.List.{flat_map};
 ghost use Rattle.union_io.specs.Causes.{HasCause};
 ghost use Rattle.union_io.specs.Writing.{AppendsFront};
+ghost use Rattle.union_json.specs.Kept.{joined};
 
 use std::alloc::{AllocError, Global};
 use std::marker::Model;
@@ -66,8 +66,8 @@ impl Gathered {
 
 /// Sets the last piece aside, and begins a new one with the room of a piece, and of `size` bytes at least.
 fn next_piece(full: &mut Vec<Vec<u8>>, last: &mut Vec<u8>, size: usize) -> Result<(), AllocError>
-    ensures { OnOk result (flat_map (λ piece. piece.items) full.new.items ++ last.new.items
-        ≡ flat_map (λ piece. piece.items) full.old.items ++ last.old.items) }
+    ensures { OnOk result (joined full.new.items ++ last.new.items
+        ≡ joined full.old.items ++ last.old.items) }
 {
     let alloc = *full.allocator();
     let next = Vec::with_capacity(alloc, PIECE.max(size))?;
@@ -78,9 +78,9 @@ fn next_piece(full: &mut Vec<Vec<u8>>, last: &mut Vec<u8>, size: usize) -> Resul
 /// Writes the pieces, one after the other.
 fn put_pieces<O: Sink>(pieces: &[Vec<u8>], out: &mut O) -> Result<(), Failed>
     ensures all { OnOk result (Appends (O.written out.old) (O.written out.new)
-        (flat_map (λ piece. piece.items) pieces.now)) }
+        (joined pieces.now)) }
     ensures front { OnErr result (AppendsFront (O.written out.old) (O.written out.new)
-        (flat_map (λ piece. piece.items) pieces.now)) }
+        (joined pieces.now)) }
     ensures cause { HasCause (O.faults out.old) (O.faults out.new) result }
 {
     for piece in pieces {

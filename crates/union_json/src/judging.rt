@@ -5,8 +5,7 @@ ghost use Rattle.iso2709_frame.specs.Frames.{IsWhole};
 ghost use Rattle.marc_fields.specs.Appending.{too_long};
 ghost use Rattle.marc_fields.specs.Spelling.{spelling};
 ghost use Rattle.marc_parts.specs.declared.marc_record.Record.{Record as RecordModel};
-ghost use Rattle.union_json.specs.Lines.{line_within};
-ghost use Rattle.union_json.specs.Outcomes.{IsRecordOf, IsOutcomeWithin, IsOutcome};
+ghost use Rattle.union_json.specs.Outcomes.{EndsAs, IsOutcomeOf, IsOutcomeWithin};
 
 use crate::outcome::{Outcome, Reason};
 use iso2709_frame::cut::Cut;
@@ -20,10 +19,9 @@ use union_base::memory::Memory;
 /// What comes of a line, by the record that it stands for and by the record's frame, which is emptied where it is refused.
 fn judge_frame(alloc: Global, frame: &mut Vec<u8>) -> Result<Outcome, Memory>
     requires { IsWhole frame.old.items }
-    ensures { IfOk result (λ outcome. (line : List ℕ) (r : RecordModel) → line ≢ []
-        → IsRecordOf line r
+    ensures { IfOk result (λ outcome. (r : RecordModel)
         → too_long r ≡ None → frame.old.items ≡ spelling r
-        → IsOutcomeWithin line outcome frame.new.items) }
+        → IsOutcomeOf r outcome frame.new.items) }
 {
     match accepted_status(alloc, Cut::Whole, frame.as_slice()) {
         Ok(_) => Ok(Outcome::Written),
@@ -38,8 +36,7 @@ fn judge_frame(alloc: Global, frame: &mut Vec<u8>) -> Result<Outcome, Memory>
 /// What comes of a line, by the record that it stands for. Its frame is put in `frame`.
 fn judge_record(alloc: Global, rec: &Record, frame: &mut Vec<u8>) -> Result<Outcome, Memory>
     requires { frame.old.items ≡ [] }
-    ensures { IfOk result (λ outcome. (line : List ℕ) → line ≢ [] → IsRecordOf line rec.now
-        → IsOutcomeWithin line outcome frame.new.items) }
+    ensures { IfOk result (λ outcome. IsOutcomeOf rec.now outcome frame.new.items) }
 {
     match encode(rec, frame) {
         Ok(()) => judge_frame(alloc, frame),
@@ -66,8 +63,8 @@ fn judge_text(alloc: Global, line: &[u8], frame: &mut Vec<u8>) -> Result<Outcome
 /// What comes of a line; None stands for one that is too long. The frame that is to be written is put in place of what
 /// stands in `frame`; it is empty where there is none.
 pub fn judge(alloc: Global, line: Option<&[u8]>, frame: &mut Vec<u8>) -> Result<Outcome, Memory>
-    ensures { IfOk result (λ outcome. (raw : List ℕ) → option_copied line.entry ≡ line_within raw
-        → IsOutcome raw (outcome, frame.new.items)) }
+    ensures { IfOk result (λ outcome. EndsAs (option_copied line.entry)
+        (outcome, frame.new.items)) }
 {
     frame.clear();
     let Some(line) = line else {

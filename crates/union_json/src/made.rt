@@ -1,7 +1,7 @@
 //! What a run has to write, and the writing of it.
 ghost use Rattle.std.specs.Prelude.{◌≡◌, ◌⊎◌, false, IsTrue};
 ghost use Rattle.std.specs.Io.KnownBytes.{Appends};
-ghost use Rattle.union_words.specs.Flows.{IsCutOff};
+ghost use Rattle.union_words.specs.Flows.{IsCutOff, outflow};
 ghost use Rattle.union_words.specs.Statuses.{is_done, is_early};
 
 use crate::gathered::Gathered;
@@ -26,19 +26,8 @@ pub fn write_made<O: Sink, N: Sink>(made: &Made, out: &mut O, notes: &mut N) -> 
         made.now.shown
         × Appends (N.written notes.old) (N.written notes.new) made.now.noted.items }
     ensures part { result ≡ Status.WriteFault → IsCutOff
-        (record {
-          old = O.written out.old;
-          new = O.written out.new;
-          before = O.faults out.old;
-          after
-              = O.faults out.new;
-        })
-        (record {
-          old = N.written notes.old;
-          new = N.written notes.new;
-          before = N.faults notes.old;
-          after = N.faults notes.new;
-        })
+        (outflow O.written O.faults out.old out.new)
+        (outflow N.written N.faults notes.old notes.new)
         made.now.shown made.now.noted.items }
 {
     match made.shown.put(out) {

@@ -1,15 +1,14 @@
 //! `tojson`: the accepted records of a library's file as lines of JSON.
 ghost use Rattle.std.specs.Prelude.{◌≡◌, ◌≢◌, ◌+◌, ◌<◌, ◌++◌, ◌∷◌, [], ℕ, List, None, Some, IsTrue, IfOk, OnOk};
 ghost use Rattle.iso2709_frame.specs.Frames.{frames, IsWhole};
-ghost use Rattle.library_batches.specs.Reading.{most_bytes};
 ghost use Rattle.library_batches.specs.Streams.{Frame, failure_of};
 ghost use Rattle.marc_fields.specs.Spelling.{Spells};
 ghost use Rattle.marc_parts.specs.declared.marc_record.Record.{Record as RecordModel};
 ghost use Rattle.marc_json.specs.Values.{json_line};
-ghost use Rattle.union_files.specs.Readings.{Reads};
-ghost use Rattle.union_json.specs.Runs.{IsToJsonRun};
-ghost use Rattle.union_json.specs.Texts.{making_of};
-ghost use Rattle.union_json.specs.ToJson.{AreWritten, IsToJson, to_json_notes};
+ghost use Rattle.union_json.specs.Runs.{ReadsAll, inflow, IsToJsonRun};
+ghost use Rattle.union_json.specs.Texts.{Whenever};
+ghost use Rattle.union_json.specs.ToJson.{AreAllWritten, AreNotesOn, AreWritten, Breaks, Counts, IsLineOf, MakesJson};
+ghost use Rattle.union_words.specs.Flows.{outflow};
 ghost use Rattle.union_words.specs.Statuses.{is_done, is_early};
 ghost use Rattle.union_words.specs.declared.input.Input.{Input as InputModel};
 
@@ -52,10 +51,8 @@ impl Written {
     /// Counts an accepted frame, for which `line` is written.
     fn accept(&mut self, line: &[u8]) -> Result<(), AllocError>
         requires { self.old.frames < u64.MAX }
-        ensures counted { OnOk result ((all : List Frame) (frame : Frame) (r : RecordModel)
-            → AreWritten all self.old
-            → failure_of frame ≡ None → Spells frame.1 r → line.now ≡ json_line r
-            → AreWritten (all ++ frame ∷ []) self.new) }
+        ensures counted { OnOk result ((frame : Frame) → IsLineOf line.now frame
+            → Counts self.old self.new frame) }
         ensures frames { OnOk result (self.new.frames ≡ self.old.frames + 1) }
     {
         self.lines.add(line)?;
@@ -67,9 +64,8 @@ impl Written {
     /// Counts a frame that breaks the rule there.
     fn refuse(&mut self, rule: Rule, place: u32) -> Result<(), AllocError>
         requires { self.old.frames < u64.MAX }
-        ensures counted { OnOk result ((all : List Frame) (frame : Frame) → AreWritten all self.old
-            → failure_of frame ≡ Some (record { rule = rule; place = place })
-            → AreWritten (all ++ frame ∷ []) self.new) }
+        ensures counted { OnOk result ((frame : Frame) → Breaks rule place frame
+            → Counts self.old self.new frame) }
         ensures frames { OnOk result (self.new.frames ≡ self.old.frames + 1) }
     {
         let frame = self.frames + 1;
@@ -83,8 +79,7 @@ impl Written {
 fn write_frame(alloc: Global, done: &mut Written, cut: Cut, frame: &[u8]) -> Result<(), Memory>
     requires whole { cut ≡ Cut.Whole → IsWhole frame.now }
     requires room { done.old.frames < u64.MAX }
-    ensures counted { OnOk result ((all : List Frame) → AreWritten all done.old
-        → AreWritten (all ++ (cut, frame.now) ∷ []) done.new) }
+    ensures counted { OnOk result (Counts done.old done.new (cut, frame.now)) }
     ensures frames { OnOk result (done.new.frames ≡ done.old.frames + 1) }
 {
     match check_frame(alloc, cut, frame) {
@@ -105,12 +100,8 @@ fn write_frame(alloc: Global, done: &mut Written, cut: Cut, frame: &[u8]) -> Res
 /// Writes the lines of the frames of a source.
 fn write_frames<S: Source>(alloc: Global, source: &mut S) -> Result<Written, Stop>
     ensures name { S.name source.new ≡ S.name source.old }
-    ensures reads { Reads most_bytes result (record {
-      told = S.left source.old;
-      before = S.faults source.old;
-      after = S.faults source.new;
-    })
-        (λ done bytes. AreWritten (frames bytes) done) }
+    ensures reads { ReadsAll result (inflow S.left S.faults source.old source.new)
+        AreAllWritten }
 {
     let mut reader = FrameReader::open(alloc, LARGEST_SOURCE)?;
     let mut done = Written::open(alloc)?;
@@ -126,8 +117,7 @@ fn write_frames<S: Source>(alloc: Global, source: &mut S) -> Result<Written, Sto
 
 /// The notes on frames whose lines were written.
 fn notes_of(alloc: Global, library: &[u8], done: &Written) -> Result<Vec<u8>, AllocError>
-    ensures { IfOk result (λ text. (all : List Frame) → AreWritten all done.now
-        → text.items ≡ to_json_notes library.now all) }
+    ensures { IfOk result (λ text. AreNotesOn library.now done.now text.items) }
 {
     let refused = done.refused.as_slice();
     let mut text = Vec::new(alloc);
@@ -147,8 +137,8 @@ fn notes_of(alloc: Global, library: &[u8], done: &Written) -> Result<Vec<u8>, Al
 
 /// What is made of the frames whose lines were written.
 fn made_of(alloc: Global, library: &[u8], done: Written) -> Result<Made, AllocError>
-    ensures value { IfOk result (λ made. (bytes : List ℕ) → AreWritten (frames bytes) done
-        → IsToJson library.now bytes (making_of made)) }
+    ensures value { IfOk result (λ made. Whenever (AreAllWritten done)
+        (MakesJson library.now made)) }
     ensures end { IfOk result (λ made. IsTrue (is_done made.end)) }
 {
     let noted = notes_of(alloc, library, &done)?;
@@ -163,12 +153,8 @@ fn made_of(alloc: Global, library: &[u8], done: Written) -> Result<Made, AllocEr
 /// What is made of a source.
 fn make<S: Source>(alloc: Global, library: &LibraryCode, source: &mut S) -> Result<Made, Stop>
     ensures name { S.name source.new ≡ S.name source.old }
-    ensures reads { Reads most_bytes result (record {
-      told = S.left source.old;
-      before = S.faults source.old;
-      after = S.faults source.new;
-    })
-        (λ made bytes. IsToJson library.now bytes (making_of made)) }
+    ensures reads { ReadsAll result (inflow S.left S.faults source.old source.new)
+        (MakesJson library.now) }
     ensures end { IfOk result (λ made. IsTrue (is_done made.end)) }
 {
     match write_frames(alloc, source) {
@@ -195,25 +181,9 @@ pub fn to_json_run<S: Source, O: Sink, N: Sink>(
 ) -> Status
     ensures name { S.name source.new ≡ S.name source.old }
     ensures run { IsToJsonRun library.now
-        (record {
-          told = S.left source.old;
-          before = S.faults source.old;
-          after = S.faults
-              source.new;
-        })
-        (record {
-          old = O.written out.old;
-          new = O.written out.new;
-          before = O.faults out.old;
-          after
-              = O.faults out.new;
-        })
-        (record {
-          old = N.written notes.old;
-          new = N.written notes.new;
-          before = N.faults notes.old;
-          after = N.faults notes.new;
-        })
+        (inflow S.left S.faults source.old source.new)
+        (outflow O.written O.faults out.old out.new)
+        (outflow N.written N.faults notes.old notes.new)
         result }
     ensures open { (input : InputModel) → result ≢ Status.OpenFault input }
     // Whoever calls may write its own line on the notes then.

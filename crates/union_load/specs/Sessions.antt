@@ -1,11 +1,15 @@
 -- The sessions of a load: before they are run, when each has ended, and what they come to.
-use Rattle.std.specs.Prelude.{◌≡◌, ◌<◌, ◌≤◌, ℕ, suc, ⊤, Bool, true, false, ◌&&◌, nat_eq, List, [], ◌∷◌, ◌++◌, length, map, Option, IfSome, IsTrue, Result, Ok, Err}
+use Rattle.std.specs.Prelude.{◌≡◌, ◌+◌, ◌<◌, ◌≤◌, ℕ, suc, ⊤, Bool, true, false, ◌&&◌, nat_eq, List, [], ◌∷◌, ◌++◌, length, map, Option, IfSome, IsTrue, Result, Ok, Err}
 use Rattle.std.specs.Cmp.Lexicographic.{pointwise}
 use Rattle.std.specs.List.{list_any, find, AllByRecursion}
+use Rattle.std.specs.Option.{option_map}
 use Rattle.atomic_table.specs.Seated.{TableId}
 use Rattle.authority_names.specs.Leads.{Table}
 use Rattle.catalogue_editions.specs.declared.batch.Batch.{Batch}
+use Rattle.catalogue_core.specs.Entries.{entries_of}
+use Rattle.catalogue_editions.specs.declared.history_entry.HistoryEntry.{HistoryEntry}
 use Rattle.catalogue_lock.specs.Ended.{Ended}
+use Rattle.catalogue_lock.specs.Rule.{EndedOk}
 use Rattle.catalogue_lock.specs.Tokens.{view}
 use Rattle.catalogue_lock.specs.declared.view.View.{View}
 use Rattle.library_batches.specs.Outcomes.{AreCounted}
@@ -19,9 +23,11 @@ use Rattle.load_sessions.specs.declared.session.Session.{Session}
 use Rattle.union_io.specs.Causes.{Rose}
 use Rattle.union_io.specs.Files.{told_file}
 use Rattle.union_io.specs.Names.{is_among}
-use Rattle.union_files.specs.Inputs.{OpenedState, inputs_of}
+use Rattle.union_files.specs.Inputs.{OpenedState, inputs_of, states_of}
 use Rattle.union_files.specs.Limits.{AreWithin, IsTooLongAt}
-use Rattle.union_files.specs.Courses.{Course}
+use Rattle.union_files.specs.Courses.{AreReported, Course, ended_of, file_of_course}
+use Rattle.union_files.specs.declared.opened_file.OpenedFile.{OpenedFile}
+use Rattle.union_files.specs.declared.reports.Reports.{Reports}
 use Rattle.union_words.specs.Words.{LibraryFile}
 use Rattle.union_words.specs.declared.status.Status.{Status}
 use Rattle.union_words.specs.declared.status.Status.TheVariants.{TooLong, Memory}
@@ -54,6 +60,10 @@ is_failed_in courses name = list_any (fails_on name) courses
 abbrev pub first_failed : List Course → List LibraryFile → Option LibraryFile
 first_failed courses libraries = find (λ file. is_failed_in courses file.path) libraries
 
+-- its code
+abbrev pub failed_library : List Course → List LibraryFile → Option (List ℕ)
+failed_library courses libraries = option_map (λ file. file.library) (first_failed courses libraries)
+
 -- the counts of the files that could not be read rose, and no others changed
 pub record RaisesFailed (courses : List Course) (before after : List ℕ → ℕ) : Type 0 where
   pub raised : (name : List ℕ) → is_failed_in courses name ≡ true → Rose (before name) (after name)
@@ -63,6 +73,11 @@ pub record RaisesFailed (courses : List Course) (before after : List ℕ → ℕ
 abbrev pub NoneFailed : List Course → Type 0
 NoneFailed courses = list_any (λ course. course.failed) courses ≡ false
 
+-- where no read failed, all files were read to their ends and their reports were added, or one was not
+abbrev pub ClosesAll : {T : Type 0} → Result T Status → List Course → Option (List ℕ → List ℕ) → Reports → Reports → Type 0
+ClosesAll result courses files old new =
+    NoneFailed courses → Closes result (map file_of_course courses) files (λ contents. AreReported contents courses old new)
+
 -- these passes more were ended at a root, which knows all turns that they have seen, and whose names stay
 pub record HasEnded (more : List (Ended Batch)) (before now : View Table Batch) : Type 0 where
   pub setting : now.setting ≡ before.setting
@@ -70,6 +85,26 @@ pub record HasEnded (more : List (Ended Batch)) (before now : View Table Batch) 
   pub ended : now.ended ≡ before.ended ++ more
   pub floor : before.floor ≤ now.floor
   pub known : AllByRecursion (λ left. length left.seen ≤ now.floor) more
+
+-- so were those of the sessions that took these courses
+abbrev pub EndsAll : List Course → View Table Batch → View Table Batch → Type 0
+EndsAll courses before now = HasEnded (map ended_of courses) before now
+
+-- a pass was made after each of those that ended
+abbrev pub IsNumbered : View Table Batch → Type 0
+IsNumbered root = AllByRecursion (λ left. left.number + 1 < root.made) root.ended
+
+-- the root knows all turns that they have seen
+abbrev pub KnowsAll : View Table Batch → Type 0
+KnowsAll root = AllByRecursion (λ left. length left.seen ≤ root.floor) root.ended
+
+-- their batches are turns of the history, each as the passes have seen it
+abbrev pub EndIn : List HistoryEntry → View Table Batch → Type 0
+EndIn history root = AllByRecursion (EndedOk (entries_of history)) root.ended
+
+-- the turns of the history have the numbers of passes before the last one
+abbrev pub IsOfPasses : List HistoryEntry → View Table Batch → Type 0
+IsOfPasses history root = AllByRecursion (λ entry. entry.0 + 1 < root.made) (entries_of history)
 
 module _ {S : Type 0} where
   -- a session that is to be run, by that preference and with this number
@@ -102,6 +137,14 @@ module _ {S : Type 0} where
     abbrev pub courses_of : List (Session S) → List Course
     courses_of sessions = map course_of sessions
 
+    -- the file of a session
+    abbrev pub file_of : Session S → LibraryFile
+    file_of session = file_of_course (course_of session)
+
+    -- the files of all sessions
+    abbrev pub libraries_of : List (Session S) → List LibraryFile
+    libraries_of sessions = map file_of_course (courses_of sessions)
+
     module _ (left : S → Option (List ℕ)) (faults : S → ℕ) where
       -- a session's file
       abbrev pub session_state : Session S → OpenedState
@@ -111,6 +154,10 @@ module _ {S : Type 0} where
       -- the files of all sessions
       abbrev pub session_states : List (Session S) → List OpenedState
       session_states sessions = map session_state sessions
+
+      -- sessions of opened files were added
+      abbrev pub AddsStates : List (Session S) → List (Session S) → List (OpenedFile S) → Type 0
+      AddsStates old new opened = session_states new ≡ session_states old ++ states_of name left faults opened
 
     module _ (faults : S → ℕ) where
       -- a session that was run at the desk of that id, on a file that was opened at a shelf with these files and names

@@ -1,10 +1,8 @@
 //! The passes that ask: one beside the sessions, and one when these have ended.
 ghost use Rattle.std.specs.Prelude.{◌≡◌, ◌+◌, ◌<◌, ◌++◌, ◌∷◌, [], IfOk};
-ghost use Rattle.catalogue_editions.specs.declared.batch.Batch.{Batch};
-ghost use Rattle.catalogue_lock.specs.Ended.{Ended};
 ghost use Rattle.catalogue_lock.specs.Tokens.{root_of, view, IsPassOf, IsRootOf};
 ghost use Rattle.load_sessions.specs.Askers.{IsAsker};
-ghost use Rattle.union_load.specs.Asked.{HasAsked, left_by};
+ghost use Rattle.union_load.specs.Asked.{AsksLate, left_by};
 ghost use Rattle.union_load.specs.Sessions.{HasEnded};
 
 use catalogue_lock::desk::Desk;
@@ -89,10 +87,7 @@ pub fn ask_late<R: Wait>(
     ensures desk { IsRootOf root.new desk.now }
     ensures made { (root_of root.new).made ≡ (root_of root.old).made + 1 }
     ensures setting { (root_of root.new).setting ≡ (root_of root.old).setting }
-    ensures asked { IfOk result (λ replies. (left : Ended Batch)
-        × ((root_of root.new).ended ≡ (root_of root.old).ended ++ left ∷ [])
-        × HasAsked (root_of root.old).setting (root_of root.old).floor questions.items replies.items
-        left) }
+    ensures asked { IfOk result (AsksLate (root_of root.old) (root_of root.new) questions.items) }
 {
     let mut asker = start_asker(alloc, desk, root, questions);
     ask_all(rt, alloc, desk, &mut asker);

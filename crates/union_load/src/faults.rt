@@ -2,11 +2,9 @@
 //!
 //! Several sessions may have failed, and two libraries may have one file. Each pair of libraries is looked at; a command has few
 //! of them.
-ghost use Rattle.std.specs.Prelude.{◌≡◌, Some, drop, map, slice_get};
-ghost use Rattle.std.specs.Option.{option_map};
+ghost use Rattle.std.specs.Prelude.{◌≡◌, Some, drop, slice_get};
 ghost use Rattle.union_words.specs.Meanings.{libraries_meaning};
-ghost use Rattle.union_files.specs.Courses.{file_of_course};
-ghost use Rattle.union_load.specs.Sessions.{course_of, courses_of, fails_on, first_failed, is_failed_in, is_fault};
+ghost use Rattle.union_load.specs.Sessions.{course_of, courses_of, failed_library, fails_on, file_of, is_failed_in, is_fault, libraries_of};
 
 use load_sessions::end::End;
 use load_sessions::session::Session;
@@ -32,7 +30,7 @@ fn fails_on<S: Source>(
     path: &[u8],
 ) -> bool
     requires { slice_get (libraries_meaning libraries.now) place
-        ≡ Some (file_of_course (course_of S.name session.now)) }
+        ≡ Some (file_of S.name session.now) }
     ensures { result ≡ fails_on path.now (course_of S.name session.now) }
 {
     is_fault(session.end) && libraries.at(place).path == path
@@ -45,7 +43,7 @@ fn is_failed_in<S: Source>(
     sessions: &[Session<S>],
     path: &[u8],
 ) -> bool
-    requires libraries { map file_of_course (courses_of S.name sessions.now)
+    requires libraries { libraries_of S.name sessions.now
         ≡ drop place (libraries_meaning libraries.now) }
     ensures { result ≡ is_failed_in (courses_of S.name sessions.now) path.now }
 {
@@ -63,10 +61,9 @@ pub fn first_failed<S: Source>(
     libraries: &Libraries<'_>,
     sessions: &[Session<S>],
 ) -> Option<LibraryCode>
-    requires { map file_of_course (courses_of S.name sessions.now)
-        ≡ libraries_meaning libraries.now }
-    ensures { result ≡ option_map (λ file. file.library)
-        (first_failed (courses_of S.name sessions.now) (libraries_meaning libraries.now)) }
+    requires { libraries_of S.name sessions.now ≡ libraries_meaning libraries.now }
+    ensures { result ≡ failed_library (courses_of S.name sessions.now)
+        (libraries_meaning libraries.now) }
 {
     for place in 0..libraries.len() {
         let file = libraries.at(place);

@@ -3,12 +3,13 @@
 //!
 //! A file that could not be read is named before one that is too long, and that before lack of memory; of two of a kind the first
 //! in the order of the command. Memory grows with the reports.
-ghost use Rattle.std.specs.Prelude.{◌≡◌, ◌∷◌, [], false, map, IfErr};
+ghost use Rattle.std.specs.Prelude.{◌≡◌, ◌∷◌, [], false, IfErr};
 ghost use Rattle.catalogue_lock.specs.Tokens.{root_of, IsRootOf};
+ghost use Rattle.union_words.specs.Flows.{shelf_flow};
 ghost use Rattle.union_words.specs.Meanings.{libraries_meaning};
 ghost use Rattle.union_files.specs.Inputs.{Gathers, is_open_fault};
-ghost use Rattle.union_files.specs.Courses.{AreReported, ended_of, file_of_course};
-ghost use Rattle.union_load.specs.Sessions.{Closes, HasEnded, HasRun, HaveRun, NoneFailed, RaisesFailed, course_of, courses_of};
+ghost use Rattle.union_files.specs.Courses.{AreReported};
+ghost use Rattle.union_load.specs.Sessions.{ClosesAll, EndsAll, HasRun, HaveRun, RaisesFailed, course_of, courses_of, libraries_of};
 
 use crate::faults::first_failed;
 use catalogue_lock::desk::Desk;
@@ -37,17 +38,15 @@ fn end_session<F: Shelf>(
         (F.opened shelf.old)
         session }
     ensures desk { IsRootOf root.new desk.now }
-    ensures root { HasEnded (ended_of (course_of F.Src.name session) ∷ []) (root_of root.old)
+    ensures root { EndsAll (course_of F.Src.name session ∷ []) (root_of root.old)
         (root_of root.new) }
     ensures files { F.files shelf.new ≡ F.files shelf.old }
     ensures names { F.opened shelf.new ≡ F.opened shelf.old }
     ensures status { IfErr result (λ status. is_open_fault status ≡ false) }
     ensures counts { RaisesFailed (course_of F.Src.name session ∷ []) (F.faults shelf.old)
         (F.faults shelf.new) }
-    ensures closes { NoneFailed (course_of F.Src.name session ∷ [])
-        → Closes result (file_of_course (course_of F.Src.name session) ∷ []) (F.files shelf.old)
-        (λ contents. AreReported contents (course_of F.Src.name session ∷ []) reports.old
-        reports.new) }
+    ensures closes { ClosesAll result (course_of F.Src.name session ∷ []) (F.files shelf.old)
+        reports.old reports.new }
 {
     let Session {
         number: _,
@@ -85,18 +84,15 @@ fn end_sessions<F: Shelf>(
         (F.files shelf.old) (F.opened shelf.old)
         sessions.old.items }
     ensures desk { IsRootOf root.new desk.now }
-    ensures root { HasEnded (map ended_of (courses_of F.Src.name sessions.old.items))
-        (root_of root.old) (root_of root.new) }
+    ensures root { EndsAll (courses_of F.Src.name sessions.old.items) (root_of root.old)
+        (root_of root.new) }
     ensures files { F.files shelf.new ≡ F.files shelf.old }
     ensures names { F.opened shelf.new ≡ F.opened shelf.old }
     ensures status { IfErr result (λ status. is_open_fault status ≡ false) }
     ensures counts { RaisesFailed (courses_of F.Src.name sessions.old.items) (F.faults shelf.old)
         (F.faults shelf.new) }
-    ensures closes { NoneFailed (courses_of F.Src.name sessions.old.items)
-        → Closes result (map file_of_course (courses_of F.Src.name sessions.old.items))
-        (F.files shelf.old)
-        (λ contents. AreReported contents (courses_of F.Src.name sessions.old.items) reports.old
-        reports.new) }
+    ensures closes { ClosesAll result (courses_of F.Src.name sessions.old.items) (F.files shelf.old)
+        reports.old reports.new }
 {
     let Some(session) = sessions.pop_front() else {
         return Ok(());
@@ -122,18 +118,13 @@ pub fn end_all<F: Shelf>(
     requires ran { HaveRun F.Src.name F.Src.faults desk.now.board.shared.table_id
         (F.files shelf.old) (F.opened shelf.old)
         sessions.items }
-    requires libraries { map file_of_course (courses_of F.Src.name sessions.items)
-        ≡ libraries_meaning libraries.now }
+    requires libraries { libraries_of F.Src.name sessions.items ≡ libraries_meaning libraries.now }
     ensures desk { IsRootOf root.new desk.now }
-    ensures root { HasEnded (map ended_of (courses_of F.Src.name sessions.items)) (root_of root.old)
+    ensures root { EndsAll (courses_of F.Src.name sessions.items) (root_of root.old)
         (root_of root.new) }
     ensures status { IfErr result (λ status. is_open_fault status ≡ false) }
     ensures gathers { Gathers result (libraries_meaning libraries.now)
-        (record {
-          files = F.files shelf.old;
-          before = F.faults shelf.old;
-          after = F.faults shelf.new;
-        })
+        (shelf_flow F.files F.faults shelf.old shelf.new)
         (λ done contents. AreReported contents (courses_of F.Src.name sessions.items) reports.old
         reports.new) }
 {

@@ -2,9 +2,10 @@
 ghost use Rattle.std.specs.Prelude.{◌≡◌, ◌+◌, ◌++◌, ◌∷◌, ◌<◌, ◌≤◌, [], length, vec_capacity, IfOk, IfErr, OnOk};
 ghost use Rattle.catalogue_lock.specs.Tokens.{root_of, IsRootOf};
 ghost use Rattle.union_io.specs.Counts.{SameCounts};
+ghost use Rattle.union_words.specs.Flows.{shelf_flow};
 ghost use Rattle.union_words.specs.Meanings.{libraries_meaning};
-ghost use Rattle.union_files.specs.Inputs.{AreFresh, OpensInOrder, StopsOpening, files_of, state_of, states_of};
-ghost use Rattle.union_load.specs.Sessions.{AreReady, IsReadyAs, session_state, session_states};
+ghost use Rattle.union_files.specs.Inputs.{AreFresh, OpensInOrder, StopsOpening, files_of, state_of};
+ghost use Rattle.union_load.specs.Sessions.{AddsStates, AreReady, IsReadyAs, session_state, session_states};
 
 use catalogue_lock::desk::Desk;
 use catalogue_lock::root::Root;
@@ -72,9 +73,8 @@ fn add_session<S: Source>(
     ensures ended { (root_of root.new).ended ≡ (root_of root.old).ended }
     ensures setting { (root_of root.new).setting ≡ (root_of root.old).setting }
     ensures ready { AreReady desk.now.board.shared.table_id prefer.now 0 sessions.new.items }
-    ensures states { session_states S.name S.left S.faults sessions.new.items
-        ≡ session_states S.name S.left S.faults sessions.old.items
-        ++ state_of S.name S.left S.faults file ∷ [] }
+    ensures states { AddsStates S.name S.left S.faults sessions.old.items sessions.new.items
+        (file ∷ []) }
 {
     match sessions.push(session_of(alloc, desk, root, prefer, file)) {
         Ok(()) => (),
@@ -102,9 +102,8 @@ fn add_sessions<S: Source>(
     ensures ended { (root_of root.new).ended ≡ (root_of root.old).ended }
     ensures setting { (root_of root.new).setting ≡ (root_of root.old).setting }
     ensures ready { AreReady desk.now.board.shared.table_id prefer.now 0 sessions.new.items }
-    ensures states { session_states S.name S.left S.faults sessions.new.items
-        ≡ session_states S.name S.left S.faults sessions.old.items
-        ++ states_of S.name S.left S.faults opened.old.items }
+    ensures states { AddsStates S.name S.left S.faults sessions.old.items sessions.new.items
+        opened.old.items }
 {
     let Some(file) = opened.pop_front() else {
         return;
@@ -143,11 +142,7 @@ pub fn start_sessions<F: Shelf>(
         (F.opened shelf.old) (F.opened shelf.new)) }
     ensures stops { IfErr result (λ status. StopsOpening status
         (libraries_meaning loading.now.libraries)
-        (record {
-          files = F.files shelf.old;
-          before = F.faults shelf.old;
-          after = F.faults shelf.new;
-        })) }
+        (shelf_flow F.files F.faults shelf.old shelf.new)) }
 {
     let Ok(mut sessions) = Vec::with_capacity(alloc, loading.libraries.len()) else {
         return Err(Status::Memory);

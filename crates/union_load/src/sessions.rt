@@ -6,15 +6,13 @@
 //! batches of each library in their order and no others, and the reports are in the order of the command. Each source is
 //! given back to its shelf. Memory grows with what is loaded.
 ghost use Rattle.std.specs.Prelude.{◌≡◌, ◌<◌, ◌≤◌, ◌+◌, ◌==◌, ◌&&◌, [], IfOk, IfErr, length, not};
-ghost use Rattle.std.specs.List.{AllByRecursion};
 ghost use Rattle.catalogue_core.specs.Catalogues.{by_names};
-ghost use Rattle.catalogue_lock.specs.Rule.{EndedOk};
 ghost use Rattle.catalogue_lock.specs.Tokens.{root_of, view, IsPassOf, IsRootOf};
+ghost use Rattle.union_words.specs.Flows.{shelf_flow};
 ghost use Rattle.union_words.specs.Meanings.{libraries_meaning};
-ghost use Rattle.catalogue_core.specs.Entries.{entries_of};
 ghost use Rattle.union_files.specs.Inputs.{Gathers, OpensInOrder, deliveries};
-ghost use Rattle.catalogue_query.specs.Replies.{AreReplies};
-ghost use Rattle.union_load.specs.Asked.{HasAsked, left_by};
+ghost use Rattle.union_load.specs.Asked.{AnswersBeside, AnswersLate, HasReplies};
+ghost use Rattle.union_load.specs.Sessions.{EndIn, IsNumbered, IsOfPasses, KnowsAll};
 ghost use Rattle.union_files.specs.Unions.{HasUnited};
 
 use crate::asking::{ask_late, end_asker, start_asker};
@@ -98,30 +96,21 @@ fn close_desk<R: Threads + Wait + Sync>(
     requires desk { IsRootOf opened.1 opened.0 }
     requires made { (root_of opened.1).made ≡ length (root_of opened.1).ended + 1 }
     requires few { (root_of opened.1).made < 4294967295 }
-    requires numbers { AllByRecursion (λ left. left.number + 1 < (root_of opened.1).made)
-        (root_of opened.1).ended }
-    requires known { AllByRecursion (λ left. length left.seen ≤ (root_of opened.1).floor)
-        (root_of opened.1).ended }
+    requires numbers { IsNumbered (root_of opened.1) }
+    requires known { KnowsAll (root_of opened.1) }
     requires asker { IsPassOf asker.pass opened.0 }
     requires idle { (view asker.pass).own ≡ [] }
-    requires asked { asker.end ≡ End.Done → HasAsked (root_of opened.1).setting 0
-        asker.questions.items asker.replies.items (left_by asker) }
+    requires asked { HasReplies (root_of opened.1).setting 0 asker }
     ensures names { IfOk result (λ watched. watched.loaded.catalogue.names
         ≡ (root_of opened.1).setting) }
     ensures reports { IfOk result (λ watched. watched.loaded.reports ≡ reports.text) }
     ensures refused { IfOk result (λ watched. watched.loaded.refused ≡ reports.refused) }
-    ensures ended { IfOk result (λ watched. AllByRecursion
-        (EndedOk (entries_of watched.loaded.catalogue.history))
-        (root_of opened.1).ended) }
-    ensures numbers { IfOk result (λ watched. AllByRecursion
-        (λ entry. entry.0 + 1 < (root_of opened.1).made)
-        (entries_of watched.loaded.catalogue.history)) }
-    ensures beside { IfOk result (λ watched. AreReplies (root_of opened.1).setting
-        watched.loaded.catalogue.history 0
-        asker.questions.items watched.beside.items) }
-    ensures late { IfOk result (λ watched. AreReplies (root_of opened.1).setting
-        watched.loaded.catalogue.history
-        (length watched.loaded.catalogue.history) ending.late.items watched.late.items) }
+    ensures ended { IfOk result (λ watched. EndIn watched.loaded.catalogue.history
+        (root_of opened.1)) }
+    ensures numbers { IfOk result (λ watched. IsOfPasses watched.loaded.catalogue.history
+        (root_of opened.1)) }
+    ensures beside { IfOk result (AnswersBeside (root_of opened.1).setting asker.questions.items) }
+    ensures late { IfOk result (AnswersLate (root_of opened.1).setting ending.late.items) }
 {
     let (desk, mut root) = opened;
     let Ending { late, workers } = ending;
@@ -163,22 +152,15 @@ pub fn load_and_ask<R: Threads + Wait + Sync, F: Shelf, G: Gate>(
     gate: &G,
 ) -> Result<Watched, Status>
     ensures gathers { Gathers result (libraries_meaning loading.now.libraries)
-        (record {
-          files = F.files shelf.old;
-          before = F.faults shelf.old;
-          after = F.faults shelf.new;
-        })
+        (shelf_flow F.files F.faults shelf.old shelf.new)
         (λ watched contents. HasUnited start.names
         (deliveries loading.now.prefer contents (libraries_meaning loading.now.libraries))
         watched.loaded) }
     ensures in_order { IfErr result (λ status. OpensInOrder status
         (libraries_meaning loading.now.libraries)
         (F.opened shelf.old) (F.opened shelf.new)) }
-    ensures beside { IfOk result (λ watched. AreReplies start.names watched.loaded.catalogue.history
-        0
-        start.questions.beside.items watched.beside.items) }
-    ensures late { IfOk result (λ watched. AreReplies start.names watched.loaded.catalogue.history
-        (length watched.loaded.catalogue.history) start.questions.late.items watched.late.items) }
+    ensures beside { IfOk result (AnswersBeside start.names start.questions.beside.items) }
+    ensures late { IfOk result (AnswersLate start.names start.questions.late.items) }
 {
     let Start { names, questions } = start;
     let is_asked = are_some(&questions);

@@ -8,10 +8,10 @@ ghost use Rattle.union_files.specs.Inputs.{Gathers, deliveries, inputs_of};
 ghost use Rattle.union_files.specs.Openings.{OpensInTurn};
 ghost use Rattle.union_files.specs.Interleavings.{IsInterleaving};
 ghost use Rattle.union_follow.specs.Following.{HasFollowed};
-ghost use Rattle.catalogue_query.specs.Replies.{AreReplies};
-ghost use Rattle.union_watch.specs.AskLines.{line_meaning, asked_lines, lines_in, questions_in, has_refused_line};
-ghost use Rattle.union_watch.specs.Lateness.{beside, late, AreTimely};
-ghost use Rattle.union_watch.specs.Told.{AreTold, numbers_of, told_of};
+ghost use Rattle.union_load.specs.Asked.{AnswersBeside, AnswersLate};
+ghost use Rattle.union_program.specs.Answering.{AnswersInTime, TellsLines};
+ghost use Rattle.union_watch.specs.AskLines.{line_meaning, lines_in, questions_in, has_refused_line};
+ghost use Rattle.union_watch.specs.Lateness.{beside, late};
 ghost use Rattle.union_watch.specs.Runs.{deliveries_of, HasTurned};
 
 use crate::host::Host;
@@ -110,10 +110,8 @@ pub fn load_by_names<R: Threads + Wait + Sync, F: Shelf, G: Gate>(
         (deliveries_of contents (loading_meaning loading.now)) watched.loaded) }
     ensures in_turn { IfErr result (λ status. OpensInTurn (F.files shelf.old) status
         (inputs_of (libraries_meaning loading.now.libraries)) (F.opened shelf.old) (F.opened shelf.new)) }
-    ensures beside { IfOk result (λ watched. AreReplies names.table
-        watched.loaded.catalogue.history 0 questions.beside.items watched.beside.items) }
-    ensures late { IfOk result (λ watched. AreReplies names.table watched.loaded.catalogue.history
-        (length watched.loaded.catalogue.history) questions.late.items watched.late.items) }
+    ensures beside { IfOk result (AnswersBeside names.table questions.beside.items) }
+    ensures late { IfOk result (AnswersLate names.table questions.late.items) }
 {
     let NamesRead {
         table,
@@ -160,12 +158,8 @@ pub fn load_and_answer<'a, R: Threads + Wait + Sync, F: Shelf, G: Gate>(
         (inputs_of (libraries_meaning loading.now.libraries)) (F.opened shelf.old) (F.opened shelf.new)) }
     ensures lines { IfOk result (λ answered. map line_meaning answered.lines.items
         ≡ lines_in text.now) }
-    ensures told { IfOk result (λ answered. AreTold names.table answered.loaded.catalogue.history
-        (asked_lines text.now)
-        (told_of (lines_in text.now) (answered.beside.items ++ answered.late.items))) }
-    ensures timely { IfOk result (λ answered. AreTimely loading.now.workers.number
-        (length answered.loaded.catalogue.history)
-        (numbers_of (told_of (lines_in text.now) (answered.beside.items ++ answered.late.items)))) }
+    ensures told { IfOk result (TellsLines names.table text.now) }
+    ensures timely { IfOk result (AnswersInTime loading.now.workers.number text.now) }
     ensures refused { IfOk result (λ answered. answered.refused ≡ has_refused_line text.now) }
 {
     let Ok(asked) = read_asked(host.alloc, loading.workers.number(), text) else {
@@ -202,11 +196,8 @@ pub fn follow_and_answer<'a, R: Threads + Wait + Sync, F: Shelf, G>(
         (inputs_of (libraries_meaning libraries.now)) (F.opened shelf.old) (F.opened shelf.new)) }
     ensures lines { IfOk result (λ answered. map line_meaning answered.lines.items
         ≡ lines_in text.now) }
-    ensures told { IfOk result (λ answered. AreTold empty answered.loaded.catalogue.history
-        (asked_lines text.now)
-        (told_of (lines_in text.now) (answered.beside.items ++ answered.late.items))) }
-    ensures timely { IfOk result (λ answered. AreTimely 2 (length answered.loaded.catalogue.history)
-        (numbers_of (told_of (lines_in text.now) (answered.beside.items ++ answered.late.items)))) }
+    ensures told { IfOk result (TellsLines empty text.now) }
+    ensures timely { IfOk result (AnswersInTime 2 text.now) }
     ensures refused { IfOk result (λ answered. answered.refused ≡ has_refused_line text.now) }
 {
     let Ok(asked) = read_asked(host.alloc, FOLLOWERS, text) else {

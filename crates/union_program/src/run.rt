@@ -7,9 +7,8 @@ ghost use Rattle.std.specs.Option.{option_map_or};
 ghost use Rattle.std.specs.Io.KnownBytes.{Keeps};
 ghost use Rattle.union_io.specs.Counts.{SameElsewhere};
 ghost use Rattle.union_words.specs.Meanings.{libraries_meaning, loading_meaning};
-ghost use Rattle.union_words.specs.Texts.{early_text};
 ghost use Rattle.union_words.specs.Words;
-ghost use Rattle.union_words.specs.Flows.{shelf_flow, file_flow, outflow, IsNoted};
+ghost use Rattle.union_words.specs.Flows.{shelf_flow, file_flow, outflow};
 ghost use Rattle.union_words.specs.Statuses.{is_early};
 ghost use Rattle.union_words.specs.declared.form.Exporting.{Exporting};
 ghost use Rattle.union_script.specs.Runs.{IsScript};
@@ -18,6 +17,7 @@ ghost use Rattle.names_file.specs.Named.{names_inputs};
 ghost use Rattle.union_files.specs.Inputs.{inputs_of};
 ghost use Rattle.union_files.specs.Openings.{OpensInTurn};
 ghost use Rattle.union_watch.specs.WatchRuns.{first_files, watch_of, IsWatchRun};
+ghost use Rattle.union_program.specs.Answering.{NotesEarly};
 ghost use Rattle.union_program.specs.Follow.{followed, IsFollowRun};
 ghost use Rattle.union_program.specs.Jobs.{loaded_files, HasDone};
 ghost use Rattle.union_watch.specs.Runs.{exported_as, listed, showing_of, IsCheck, IsUnionRun, IsTold};
@@ -70,9 +70,7 @@ fn is_early(status: &Status) -> bool
 /// Ends a run with this status: one that ended early has one line on the second output.
 fn end<N: Sink>(notes: &mut N, status: Status) -> Status
     ensures same { result ≡ status }
-    ensures noted { IsTrue (is_early status)
-        → IsNoted (outflow N.written N.faults notes.old notes.new)
-        (early_text status) }
+    ensures noted { NotesEarly status (outflow N.written N.faults notes.old notes.new) }
     ensures quiet { is_early status ≡ false → Keeps (N.written notes.old) (N.written notes.new) }
     ensures still { is_early status ≡ false → notes.new ≡ notes.old }
 {
@@ -84,8 +82,7 @@ fn end<N: Sink>(notes: &mut N, status: Status) -> Status
 
 /// Writes a text of the program's own.
 fn tell<O: Sink>(out: &mut O, text: &[u8]) -> Status
-    ensures { IsTold text.now
-        (outflow O.written O.faults out.old out.new) result }
+    ensures { IsTold text.now (outflow O.written O.faults out.old out.new) result }
 {
     match put_all(out, text) {
         Ok(()) => Status::Done,
@@ -126,9 +123,7 @@ fn run_to_json<F: Shelf, O: Sink, N: Sink>(
         (outflow N.written N.faults notes.old notes.new)
         result }
     ensures others { SameElsewhere (F.faults shelf.old) (F.faults shelf.new) file.now.path.now }
-    ensures noted { IsTrue (is_early result)
-        → IsNoted (outflow N.written N.faults notes.old notes.new)
-        (early_text result) }
+    ensures noted { NotesEarly result (outflow N.written N.faults notes.old notes.new) }
 {
     let status = to_json_file(alloc, file, shelf, out, notes);
     end(notes, status)
@@ -148,9 +143,7 @@ fn run_from_json<F: Shelf, O: Sink, N: Sink>(
         (outflow N.written N.faults notes.old notes.new)
         result }
     ensures others { SameElsewhere (F.faults shelf.old) (F.faults shelf.new) file.now.path.now }
-    ensures noted { IsTrue (is_early result)
-        → IsNoted (outflow N.written N.faults notes.old notes.new)
-        (early_text result) }
+    ensures noted { NotesEarly result (outflow N.written N.faults notes.old notes.new) }
 {
     let status = from_json_file(alloc, file, shelf, out, notes);
     end(notes, status)
@@ -206,8 +199,7 @@ fn run_union<R: Threads + Wait + Sync, F: Shelf, O: Sink, N: Sink, G: Gate>(
         (shelf_flow F.files F.faults shelf.old shelf.new)
         (outflow O.written O.faults out.old out.new)
         (outflow N.written N.faults notes.old notes.new) result }
-    ensures noted { IsTrue (is_early result)
-        → IsNoted (outflow N.written N.faults notes.old notes.new) (early_text result) }
+    ensures noted { NotesEarly result (outflow N.written N.faults notes.old notes.new) }
     ensures in_turn { OpensInTurn (F.files shelf.old) result
         (names_inputs (loading_meaning loading.now).names
         ++ inputs_of (libraries_meaning loading.now.libraries))
@@ -242,8 +234,7 @@ fn run_watch<R: Threads + Wait + Sync, F: Shelf, O: Sink, N: Sink, G: Gate>(
         (shelf_flow F.files F.faults shelf.old shelf.new)
         (outflow O.written O.faults out.old out.new)
         (outflow N.written N.faults notes.old notes.new) result }
-    ensures noted { IsTrue (is_early result)
-        → IsNoted (outflow N.written N.faults notes.old notes.new) (early_text result) }
+    ensures noted { NotesEarly result (outflow N.written N.faults notes.old notes.new) }
     ensures in_turn { OpensInTurn (F.files shelf.old) result
         (first_files (watch_of asks.now (loading_meaning loading.now))
         ++ inputs_of (libraries_meaning loading.now.libraries))
@@ -274,8 +265,7 @@ fn run_follow<R: Threads + Wait + Sync, F: Shelf, O: Sink, N: Sink, G>(
         (shelf_flow F.files F.faults shelf.old shelf.new)
         (outflow O.written O.faults out.old out.new)
         (outflow N.written N.faults notes.old notes.new) result }
-    ensures noted { IsTrue (is_early result)
-        → IsNoted (outflow N.written N.faults notes.old notes.new) (early_text result) }
+    ensures noted { NotesEarly result (outflow N.written N.faults notes.old notes.new) }
     ensures in_turn { OpensInTurn (F.files shelf.old) result
         (first_files (followed asks.now (libraries_meaning libraries.now))
         ++ inputs_of (libraries_meaning libraries.now))
@@ -303,9 +293,7 @@ fn run_words<R: Threads + Wait + Sync, F: Shelf, O: Sink, N: Sink, G: Gate>(
         (outflow O.written O.faults out.old out.new)
         (outflow N.written N.faults notes.old notes.new)
         result (F.opened shelf.old) (F.opened shelf.new) (Words.job_of words.now) }
-    ensures noted { IsTrue (is_early result)
-        → IsNoted (outflow N.written N.faults notes.old notes.new)
-        (early_text result) }
+    ensures noted { NotesEarly result (outflow N.written N.faults notes.old notes.new) }
     ensures quiet { option_map_or Words.has_report (Words.job_of words.now) true ≡ false
         → is_early result ≡ false → Keeps (N.written notes.old) (N.written notes.new) }
 {
@@ -421,9 +409,7 @@ pub fn union_run<R: Threads + Wait + Sync, F: Shelf, O: Sink, N: Sink, G: Gate>(
         (outflow O.written O.faults out.old out.new) result }
 
     // the second output, where that is no report
-    ensures noted { IsTrue (is_early result)
-        → IsNoted (outflow N.written N.faults notes.old notes.new)
-        (early_text result) }
+    ensures noted { NotesEarly result (outflow N.written N.faults notes.old notes.new) }
     ensures quiet { (job : Words.Job) → Words.job_of words.now ≡ Some job
         → Words.has_report job ≡ false
         → is_early result ≡ false → Keeps (N.written notes.old) (N.written notes.new) }

@@ -1,8 +1,9 @@
 -- What the running of lines of a script says, one or many.
-use Rattle.std.specs.Prelude.{◌≡◌, ℕ, ◌<◌, Bool, List, ◌∷◌, ◌++◌, length, Ok, Err, IfSome}
+use Rattle.std.specs.Prelude.{◌≡◌, ℕ, ◌<◌, Bool, false, List, ◌∷◌, ◌++◌, length, Ok, Err, IfSome}
 use Rattle.std.specs.declared.option.Option.{Option}
 use Rattle.std.specs.declared.result.Result.{Result}
 use Rattle.std.specs.Io.KnownBytes.{Appends}
+use Rattle.catalogue_core.specs.Catalogues.{CatalogueValue}
 use Rattle.catalogue_editions.specs.declared.history_entry.HistoryEntry.{HistoryEntry}
 use Rattle.union_io.specs.Causes.{Rose}
 use Rattle.union_io.specs.Counts.{SameElsewhere}
@@ -14,7 +15,7 @@ use Rattle.union_words.specs.declared.input.Input.{Input}
 use Rattle.union_words.specs.declared.input.Input.TheVariants.{Library}
 use Rattle.union_words.specs.declared.status.Status.{Status}
 use Rattle.union_words.specs.declared.status.Status.TheVariants.{Done, DoneWithRefusals, Usage, OpenFault, ReadFault, WriteFault, TooLong, Memory}
-use Rattle.union_script.specs.Texts.{ScriptText, has_refusals}
+use Rattle.union_script.specs.Texts.{IsExport, IsWorkList, ScriptText, has_refusals}
 use Rattle.library_batches.specs.Reading.{most_bytes}
 use Rattle.union_files.specs.Limits.{Contents, AreWithin}
 use Rattle.union_script.specs.Inputs.{files_loaded}
@@ -106,3 +107,13 @@ Says (Err (TooLong input)) text refused out = ⊥
 Says (Err Done) text refused out = ⊥
 Says (Err DoneWithRefusals) text refused out = ⊥
 Says (Err Usage) text refused out = ⊥
+
+-- the export of a catalogue was written, or why it was not written to its end
+abbrev pub SaysExport : CatalogueValue → Result Bool Status → Outflow → Type 0
+SaysExport catalogue result out =
+    (text : List ℕ) × IsExport catalogue.names catalogue.history text × Says result text false out
+
+-- the list of its works was written, or why not
+abbrev pub SaysWorks : CatalogueValue → Result Bool Status → Outflow → Type 0
+SaysWorks catalogue result out =
+    (text : List ℕ) × IsWorkList catalogue.names catalogue.history text × Says result text false out

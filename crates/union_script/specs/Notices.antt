@@ -1,9 +1,13 @@
 -- What is told of the turns of a load.
-use Rattle.std.specs.Prelude.{◌≡◌, ℕ, ◌+◌, Bool, true, false, List, [], ◌∷◌, ◌++◌, length, codes}
-use Rattle.catalogue_core.specs.Histories.{AreEditionsOf}
+use Rattle.std.specs.Prelude.{◌≡◌, ℕ, ◌+◌, Bool, true, false, List, [], ◌∷◌, ◌++◌, length, codes, Vec}
+use Rattle.std.specs.Global.{Global}
+use Rattle.catalogue_core.specs.Histories.{AreEditionsOf, current, outcomes}
+use Rattle.catalogue_core.specs.declared.delta.Delta.{Delta}
 use Rattle.catalogue_editions.specs.declared.batch.Batch.{Batch}
 use Rattle.catalogue_editions.specs.declared.edition.Edition.{Edition}
 use Rattle.catalogue_editions.specs.declared.history_entry.HistoryEntry.{HistoryEntry}
+use Rattle.catalogue_editions.specs.declared.outcome.Outcome.{Outcome}
+use Rattle.change_notices.specs.Followers.{AreHeld}
 use Rattle.change_notices.specs.Notices.{notice_lines}
 use Rattle.edition_blocks.specs.Deltas.{IsDelta}
 use Rattle.catalogue_query.specs.LineTexts.{ended_lines, six_digits}
@@ -43,3 +47,17 @@ TellsTurns told history [] text = text ≡ []
 TellsTurns told history (batch ∷ batches) text =
     (first : List ℕ) × (rest : List ℕ) × TellsTurn told history batch first
     × TellsTurns told (with_turn history batch) batches rest × (text ≡ first ++ rest)
+
+-- the notice of a turn of that number and delta was added to a text, whatever list of editions it leads to whichever other
+abbrev pub AddsNotice : ℕ → Delta → List ℕ → List ℕ → Type 0
+AddsNotice turn delta old new =
+    (before after : List Edition) → AreHeld before → AreHeld after → IsDelta before after delta.closed.items delta.opened.items
+    → new ≡ old ++ notice_text turn before after delta.closed.items delta.opened.items
+
+-- such a text was added to a text
+abbrev pub AddsText : (List ℕ → Type 0) → Vec ℕ Global → Vec ℕ Global → Type 0
+AddsText IsOf old new = (told : List ℕ) × IsOf told × (new.items ≡ old.items ++ told)
+
+-- what comes of a batch's operations over a history
+abbrev pub outcomes_over : List HistoryEntry → Batch → List Outcome
+outcomes_over history batch = outcomes batch.library (current history) batch.ops

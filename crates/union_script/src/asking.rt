@@ -1,7 +1,7 @@
 //! A line of a script that asks something of the catalogue.
 ghost use Rattle.std.specs.Prelude.{◌≡◌, ◌∷◌, [], IfOk};
 ghost use Rattle.std.specs.FinMap.{empty};
-ghost use Rattle.union_words.specs.Flows.{ShelfFlow, IsCalm};
+ghost use Rattle.union_words.specs.Flows.{ShelfFlow, IsCalm, outflow};
 ghost use Rattle.union_words.specs.ScriptLines.{Ask as AskLine};
 ghost use Rattle.union_script.specs.Lines.{LinesRun};
 ghost use Rattle.union_script.specs.Texts.{IsAnswer};
@@ -37,13 +37,7 @@ pub fn run_ask<O: Sink>(
     requires { catalogue.now.names ≡ empty }
     ensures { (shelf : ShelfFlow) → IsCalm shelf
         → LinesRun result (AskLine line.now ∷ []) catalogue.now.history catalogue.now.history shelf
-        (record {
-          old = O.written out.old;
-          new = O.written out.new;
-          before = O.faults out.old;
-          after
-              = O.faults out.new;
-        }) }
+        (outflow O.written O.faults out.old out.new) }
 {
     match Query::read(alloc, line) {
         Ok(query) => match answer_text(alloc, catalogue, &query) {

@@ -1,9 +1,10 @@
 //! One line of a script.
 ghost use Rattle.std.specs.Prelude.{◌≡◌, ◌∷◌, [], ℕ, List, false, OnOk};
+ghost use Rattle.union_words.specs.Flows.{outflow, shelf_flow};
 ghost use Rattle.union_words.specs.Meanings.{file_meaning};
 ghost use Rattle.union_words.specs.ScriptLines.{Load as LoadLine, script_line};
-ghost use Rattle.union_script.specs.Lines.{LinesRun, Says};
-ghost use Rattle.union_script.specs.Texts.{asked_by, IsExport, IsWorkList, tells_after, told_after, told_from, told_line};
+ghost use Rattle.union_script.specs.Lines.{LinesRun, SaysExport, SaysWorks};
+ghost use Rattle.union_script.specs.Texts.{asked_by, tells_after, told_after, told_from, told_line};
 
 use crate::asking::run_ask;
 use crate::loading::load_file;
@@ -35,18 +36,8 @@ fn run_load<L: Ledger, F: Shelf, O: Sink>(
     ensures told { OnOk result (union.new.told ≡ union.old.told) }
     ensures run { LinesRun result (LoadLine union.old.told (file_meaning file.now) ∷ [])
         union.old.catalogue.history union.new.catalogue.history
-        (record {
-          files = F.files shelf.old;
-          before = F.faults shelf.old;
-          after = F.faults shelf.new;
-        })
-        (record {
-          old = O.written out.old;
-          new = O.written out.new;
-          before = O.faults out.old;
-          after
-              = O.faults out.new;
-        }) }
+        (shelf_flow F.files F.faults shelf.old shelf.new)
+        (outflow O.written O.faults out.old out.new) }
 {
     match load_file(alloc, file, union, shelf) {
         Ok(report) => say(report.text.as_slice(), report.refused, out),
@@ -56,15 +47,7 @@ fn run_load<L: Ledger, F: Shelf, O: Sink>(
 
 /// Writes the export. Which fields were left out is not told.
 fn run_export<O: Sink>(alloc: Global, catalogue: &Catalogue, out: &mut O) -> Result<bool, Status>
-    ensures { (text : List ℕ) × IsExport catalogue.now.names catalogue.now.history text
-        × Says result text false
-        (record {
-          old = O.written out.old;
-          new = O.written out.new;
-          before = O.faults out.old;
-          after
-              = O.faults out.new;
-        }) }
+    ensures { SaysExport catalogue.now result (outflow O.written O.faults out.old out.new) }
 {
     let mut left = Vec::new(alloc);
     match export(alloc, catalogue, out, &mut left) {
@@ -76,15 +59,7 @@ fn run_export<O: Sink>(alloc: Global, catalogue: &Catalogue, out: &mut O) -> Res
 
 /// Writes the list of the works.
 fn run_works<O: Sink>(alloc: Global, catalogue: &Catalogue, out: &mut O) -> Result<bool, Status>
-    ensures { (text : List ℕ) × IsWorkList catalogue.now.names catalogue.now.history text
-        × Says result text false
-        (record {
-          old = O.written out.old;
-          new = O.written out.new;
-          before = O.faults out.old;
-          after
-              = O.faults out.new;
-        }) }
+    ensures { SaysWorks catalogue.now result (outflow O.written O.faults out.old out.new) }
 {
     match works_text(alloc, catalogue, out) {
         Ok(()) => Ok(false),
@@ -106,18 +81,8 @@ fn run_line<L: Ledger, F: Shelf, O: Sink>(
         ≡ tells_after union.old.told (script_line line.now)) }
     ensures run { LinesRun result (told_line union.old.told (script_line line.now) ∷ [])
         union.old.catalogue.history union.new.catalogue.history
-        (record {
-          files = F.files shelf.old;
-          before = F.faults shelf.old;
-          after = F.faults shelf.new;
-        })
-        (record {
-          old = O.written out.old;
-          new = O.written out.new;
-          before = O.faults out.old;
-          after
-              = O.faults out.new;
-        }) }
+        (shelf_flow F.files F.faults shelf.old shelf.new)
+        (outflow O.written O.faults out.old out.new) }
 {
     match ScriptLine::read(line) {
         ScriptLine::Load(file) => run_load(alloc, &file, union, shelf, out),
@@ -145,18 +110,8 @@ pub fn run_unskipped<L: Ledger, F: Shelf, O: Sink>(
         ≡ told_after union.old.told (asked_by (line.now ∷ []))) }
     ensures run { LinesRun result (told_from union.old.told (asked_by (line.now ∷ [])))
         union.old.catalogue.history union.new.catalogue.history
-        (record {
-          files = F.files shelf.old;
-          before = F.faults shelf.old;
-          after = F.faults shelf.new;
-        })
-        (record {
-          old = O.written out.old;
-          new = O.written out.new;
-          before = O.faults out.old;
-          after
-              = O.faults out.new;
-        }) }
+        (shelf_flow F.files F.faults shelf.old shelf.new)
+        (outflow O.written O.faults out.old out.new) }
 {
     if is_skipped(line) {
         Ok(false)

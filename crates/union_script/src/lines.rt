@@ -2,6 +2,7 @@
 ghost use Rattle.std.specs.Prelude.{◌≡◌, ◌||◌, false};
 ghost use Rattle.union_script.specs.Lines.{LinesRun};
 ghost use Rattle.union_script.specs.Texts.{script_of};
+ghost use Rattle.union_words.specs.Flows.{outflow, shelf_flow};
 
 use crate::line::run_unskipped;
 use crate::union::Union;
@@ -30,18 +31,8 @@ pub fn run_lines<L: Ledger, F: Shelf, O: Sink>(
     requires { union.old.told ≡ false }
     ensures run { LinesRun result (script_of script.now) union.old.catalogue.history
         union.new.catalogue.history
-        (record {
-          files = F.files shelf.old;
-          before = F.faults shelf.old;
-          after = F.faults shelf.new;
-        })
-        (record {
-          old = O.written out.old;
-          new = O.written out.new;
-          before = O.faults out.old;
-          after
-              = O.faults out.new;
-        }) }
+        (shelf_flow F.files F.faults shelf.old shelf.new)
+        (outflow O.written O.faults out.old out.new) }
 {
     let mut lines = Lines::of(script);
     let mut refused = false;

@@ -3,7 +3,9 @@ ghost use Rattle.std.specs.Prelude.{◌≡◌, [], OnOk};
 ghost use Rattle.iso2709_frame.specs.Frames.{frames};
 ghost use Rattle.library_batches.specs.Reading.{begun};
 ghost use Rattle.library_stream.specs.declared.frame_reader.TheConstants.{LARGEST_SOURCE};
+ghost use Rattle.union_words.specs.Flows.{shelf_flow};
 ghost use Rattle.union_words.specs.Meanings.{file_meaning};
+ghost use Rattle.union_words.specs.Stops.{input_of};
 ghost use Rattle.union_script.specs.Batches.{AreApplied, IsLoaded};
 ghost use Rattle.union_files.specs.Readings.{Reads, ReadsFile};
 
@@ -119,16 +121,8 @@ pub fn load_file<L: Ledger, F: Shelf>(
 ) -> Result<Report, Status>
     ensures files { F.files shelf.new ≡ F.files shelf.old }
     ensures told { OnOk result (union.new.told ≡ union.old.told) }
-    ensures reads { ReadsFile result (record {
-      input = Input.Library file.now.library;
-      path =
-          (file_meaning file.now).path;
-    })
-        (record {
-          files = F.files shelf.old;
-          before = F.faults shelf.old;
-          after = F.faults shelf.new;
-        })
+    ensures reads { ReadsFile result (input_of (file_meaning file.now))
+        (shelf_flow F.files F.faults shelf.old shelf.new)
         (λ report bytes. IsLoaded union.old.told file.now.library (frames bytes)
         union.old.catalogue.history union.new.catalogue.history report) }
 {

@@ -1,10 +1,6 @@
 //! The turns of a load, and what is told of them.
-ghost use Rattle.std.specs.Prelude.{◌≡◌, ◌++◌, List, ℕ, IfOk, OnOk};
-ghost use Rattle.catalogue_core.specs.Histories.{current, outcomes};
-ghost use Rattle.catalogue_editions.specs.declared.edition.Edition.{Edition};
-ghost use Rattle.change_notices.specs.Followers.{AreHeld};
-ghost use Rattle.edition_blocks.specs.Deltas.{IsDelta};
-ghost use Rattle.union_script.specs.Notices.{IsNotice, TellsTurn, notice_text, with_turn};
+ghost use Rattle.std.specs.Prelude.{◌≡◌, IfOk, OnOk};
+ghost use Rattle.union_script.specs.Notices.{AddsNotice, AddsText, IsNotice, TellsTurn, outcomes_over, with_turn};
 
 use crate::union::Union;
 use catalogue_core::batch::Batch;
@@ -25,10 +21,7 @@ const PASS: u32 = 0;
 /// Adds the notice of the turn of that number, which has that delta: `notice T`, and then the lines on each edition that was
 /// closed or opened. Returns `Memory` if allocation fails.
 fn add_notice(alloc: Global, text: &mut Vec<u8>, turn: u64, delta: &Delta) -> Result<(), Memory>
-    ensures { OnOk result ((before after : List Edition) → AreHeld before → AreHeld after
-        → IsDelta before after delta.now.closed.items delta.now.opened.items
-        → text.new.items ≡ text.old.items
-        ++ notice_text turn before after delta.now.closed.items delta.now.opened.items) }
+    ensures { OnOk result (AddsNotice turn delta.now text.old.items text.new.items) }
 {
     let lines = notice(alloc, delta)?;
     text.extend_from_slice(b"notice ")?;
@@ -50,9 +43,9 @@ fn apply_noticed<L: Ledger>(
     ensures appended { OnOk result (catalogue.new.history ≡ with_turn catalogue.old.history batch) }
     ensures names { catalogue.new.names ≡ catalogue.old.names }
     ensures outcomes { IfOk result (λ found. found.items
-        ≡ outcomes batch.library (current catalogue.old.history) batch.ops) }
-    ensures notice { OnOk result ((told : List ℕ) × IsNotice catalogue.old.history batch told
-        × (text.new.items ≡ text.old.items ++ told)) }
+        ≡ outcomes_over catalogue.old.history batch) }
+    ensures notice { OnOk result (AddsText (IsNotice catalogue.old.history batch) text.old
+        text.new) }
 {
     // The counts are not used: their clauses say that there are editions before the turn, and after it, for the notice to tell of.
     // A follower can hold them.
@@ -76,10 +69,9 @@ pub fn apply_turn<L: Ledger>(
     ensures appended { OnOk result (union.new.catalogue.history
         ≡ with_turn union.old.catalogue.history batch) }
     ensures outcomes { IfOk result (λ found. found.items
-        ≡ outcomes batch.library (current union.old.catalogue.history) batch.ops) }
-    ensures tells { OnOk result ((said : List ℕ)
-        × TellsTurn union.old.told union.old.catalogue.history batch said
-        × (text.new.items ≡ text.old.items ++ said)) }
+        ≡ outcomes_over union.old.catalogue.history batch) }
+    ensures tells { OnOk result (AddsText
+        (TellsTurn union.old.told union.old.catalogue.history batch) text.old text.new) }
 {
     if union.told {
         apply_noticed(alloc, batch, &mut union.catalogue, &mut union.steps, text)

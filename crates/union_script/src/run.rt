@@ -2,6 +2,7 @@
 ghost use Rattle.std.specs.Prelude.{◌≡◌, ◌<◌, List, [], IfOk};
 ghost use Rattle.catalogue_core.specs.Catalogues.{empty_catalogue};
 ghost use Rattle.catalogue_editions.specs.declared.history_entry.HistoryEntry.{HistoryEntry};
+ghost use Rattle.union_words.specs.Flows.{outflow, shelf_flow};
 ghost use Rattle.union_words.specs.Statuses.{end_by};
 ghost use Rattle.union_script.specs.Lines.{LinesRun};
 ghost use Rattle.union_script.specs.Runs.{IsScript};
@@ -46,18 +47,8 @@ fn run_counted<L: Ledger, F: Shelf, O: Sink>(
     requires parts { blank.parts ≡ L.parts }
     requires some { 0 < L.parts }
     ensures run { (now : List HistoryEntry) × LinesRun result (script_of script.now) [] now
-        (record {
-          files = F.files shelf.old;
-          before = F.faults shelf.old;
-          after = F.faults shelf.new;
-        })
-        (record {
-          old = O.written out.old;
-          new = O.written out.new;
-          before = O.faults out.old;
-          after
-              = O.faults out.new;
-        }) }
+        (shelf_flow F.files F.faults shelf.old shelf.new)
+        (outflow O.written O.faults out.old out.new) }
 {
     match empty_catalogue(alloc, hashing) {
         Ok(catalogue) => {
@@ -89,18 +80,8 @@ fn run_text<F: Shelf, O: Sink>(
     out: &mut O,
 ) -> Result<bool, Status>
     ensures run { (now : List HistoryEntry) × LinesRun result (script_of script.now) [] now
-        (record {
-          files = F.files shelf.old;
-          before = F.faults shelf.old;
-          after = F.faults shelf.new;
-        })
-        (record {
-          old = O.written out.old;
-          new = O.written out.new;
-          before = O.faults out.old;
-          after
-              = O.faults out.new;
-        }) }
+        (shelf_flow F.files F.faults shelf.old shelf.new)
+        (outflow O.written O.faults out.old out.new) }
 {
     run_counted::<Brand, F, O>(alloc, hashing, script, shelf, out, Blank::new(1))
 }
@@ -135,18 +116,8 @@ pub fn script_run<F: Shelf, O: Sink>(
     out: &mut O,
 ) -> Status
     ensures run { IsScript path.now
-        (record {
-          files = F.files shelf.old;
-          before = F.faults shelf.old;
-          after = F.faults shelf.new;
-        })
-        (record {
-          old = O.written out.old;
-          new = O.written out.new;
-          before = O.faults out.old;
-          after
-              = O.faults out.new;
-        })
+        (shelf_flow F.files F.faults shelf.old shelf.new)
+        (outflow O.written O.faults out.old out.new)
         result }
 {
     match read_text_file(alloc, path, Input::Script, shelf) {

@@ -1,5 +1,6 @@
 //! The writing of a line's text, once it is whole.
 ghost use Rattle.union_script.specs.Lines.{Says};
+ghost use Rattle.union_words.specs.Flows.{outflow};
 
 use union_io::failed::Failed;
 use union_io::sink::{Sink, put_all};
@@ -7,14 +8,7 @@ use union_words::status::Status;
 
 /// Writes a text, and tells again whether something is refused.
 pub fn say<O: Sink>(text: &[u8], refused: bool, out: &mut O) -> Result<bool, Status>
-    ensures { Says result text.now refused
-        (record {
-          old = O.written out.old;
-          new = O.written out.new;
-          before = O.faults out.old;
-          after
-              = O.faults out.new;
-        }) }
+    ensures { Says result text.now refused (outflow O.written O.faults out.old out.new) }
 {
     match put_all(out, text) {
         Ok(()) => Ok(refused),

@@ -7,6 +7,7 @@ use Rattle.catalogue_query.specs.declared.query.Query.{Query}
 use Rattle.catalogue_query.specs.declared.query.QueryRefusal.{QueryRefusal}
 use Rattle.catalogue_query.specs.declared.query.QueryRefusal.TheVariants.{Unknown, Word as BadRest}
 use Rattle.union_words.specs.Lines.{lines_of, kept}
+use Rattle.union_watch.specs.declared.ask_file.AskFile.{AskFile}
 use Rattle.union_watch.specs.declared.ask_line.AskLine.{AskLine as LineInPlace}
 use Rattle.union_watch.specs.declared.ask_line.AskLine.TheVariants.{Asks as AsksInPlace, Unknown as UnknownInPlace, Word as WordInPlace}
 
@@ -19,6 +20,10 @@ abbrev pub line_meaning : LineInPlace → AskLine
 line_meaning (AsksInPlace line) = Ok line.now
 line_meaning UnknownInPlace = Err Unknown
 line_meaning WordInPlace = Err BadRest
+
+-- the lines of a file of questions that were read
+abbrev pub lines_read : AskFile → List AskLine
+lines_read file = map line_meaning file.lines.items
 
 -- the line, where it gives a query
 abbrev pub with_line : List ℕ → Result Query QueryRefusal → AskLine

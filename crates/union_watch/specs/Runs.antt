@@ -1,5 +1,5 @@
 -- What a run does, by the form of its words.
-use Rattle.std.specs.Prelude.{◌≡◌, ◌≢◌, ℕ, ◌⊎◌, ◌≤◌, ◌||◌, Bool, false, IsTrue, if◌then◌else◌, List, [], ◌++◌, length, map, Some, IfSome}
+use Rattle.std.specs.Prelude.{◌≡◌, ◌≢◌, ℕ, ◌⊎◌, ◌≤◌, ◌||◌, Bool, false, IsTrue, if◌then◌else◌, List, [], ◌++◌, length, map, Option, Some, IfSome}
 use Rattle.std.specs.List.{flat_map, list_any}
 use Rattle.std.specs.Io.KnownBytes.{Appends, Keeps}
 use Rattle.authority_names.specs.Leads.{Table}
@@ -19,7 +19,11 @@ use Rattle.union_files.specs.Inputs.{deliveries}
 use Rattle.union_files.specs.Runs.{IsRunOver}
 use Rattle.union_files.specs.Unions.{IsUnion}
 use Rattle.union_files.specs.declared.loaded.Loaded.{Loaded}
+use Rattle.union_watch.specs.AskLines.{line_meaning}
+use Rattle.union_watch.specs.Told.{told_of}
 use Rattle.union_watch.specs.WatchRuns.{Order}
+use Rattle.union_watch.specs.WatchTexts.{watch_text}
+use Rattle.union_watch.specs.declared.answered.Answered.{Answered}
 use Rattle.union_words.specs.Flows.{ShelfFlow, Inflow, HasFailed, Outflow, HasFailedAt, IsNoted, IsCutOff}
 use Rattle.union_words.specs.Statuses.{is_done, is_early, is_input_fault, end_by}
 use Rattle.union_words.specs.Texts.{early_text}
@@ -31,12 +35,21 @@ use Rattle.union_words.specs.declared.input.Input.TheVariants.{Library}
 use Rattle.union_words.specs.declared.status.Status.{Status}
 use Rattle.union_words.specs.declared.status.Status.TheVariants.{Done, Usage, WriteFault, Memory}
 use Rattle.union_files.specs.Endings.{EndsAtInput, end_with}
+use Rattle.union_watch.specs.declared.check.Findings.{Findings}
 use Rattle.union_watch.specs.declared.shown.Shown.{Shown}
 use Rattle.union_watch.specs.declared.shown.Shown.TheVariants.{Export, Works}
 
 -- how a check of a stream ends that is done
 abbrev pub end_of : List ℕ → Status
 end_of stream = end_with (refused (frames stream))
+
+-- what is found in a file: the text of its check, and how that ends
+abbrev pub Finds : List ℕ → Findings → List ℕ → Type 0
+Finds library found bytes = (found.text.items ≡ check_text library (frames bytes)) × (found.end ≡ end_of bytes)
+
+-- by what is told of a source
+abbrev pub inflow : {S : Type 0} → (S → Option (List ℕ)) → (S → ℕ) → S → S → Inflow
+inflow left faults old new = record { told = left old; before = faults old; after = faults new }
 
 -- `check` of a library's file
 pub record IsCheck (library : List ℕ) (file : Inflow) (out : Outflow) (status : Status) : Type 0 where
@@ -152,3 +165,13 @@ Shows showing loaded out notes status =
     (editions : List Edition) × AreEditionsOf loaded.catalogue.history editions
     × Written (showing.shown loaded.catalogue.names loaded.catalogue.history editions)
     (loaded.reports.items ++ showing.noted loaded.catalogue.names loaded.catalogue.history editions) (end_by loaded.refused) out notes status
+
+-- what `watch` shows of what was loaded and asked
+abbrev pub answered_text : Answered → List ℕ
+answered_text answered =
+    watch_text answered.loaded.catalogue.history
+    (told_of (map line_meaning answered.lines.items) (answered.beside.items ++ answered.late.items))
+
+-- and how it ends: whether a frame or a line is refused
+abbrev pub answered_end : Answered → Status
+answered_end answered = end_by (answered.loaded.refused || answered.refused)

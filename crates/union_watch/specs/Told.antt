@@ -11,7 +11,8 @@ use Rattle.catalogue_query.specs.declared.query.QueryRefusal.TheVariants.{Unknow
 use Rattle.catalogue_query.specs.LineTexts.{IsAnswer, ended_lines, refused_unknown, refused_word}
 use Rattle.union_base.specs.OneLine.{shown}
 use Rattle.union_words.specs.Texts.{line_feed}
-use Rattle.union_watch.specs.AskLines.{AskLine}
+use Rattle.union_watch.specs.AskLines.{AskLine, line_meaning}
+use Rattle.union_watch.specs.declared.ask_line.AskLine.{AskLine as LineInPlace}
 use Rattle.union_watch.specs.TurnLines.{six_digits}
 
 -- what is told of a line: the answer over `over` turns, or why the line is refused
@@ -74,3 +75,11 @@ left_behind (Err refusal) replies = replies
 abbrev pub told_of : List AskLine → List (ℕ × Answer) → List Told
 told_of [] replies = []
 told_of (line ∷ lines) replies = told_first line replies ++ told_of lines (left_behind line replies)
+
+-- the text of what is told of a line, by the first of the replies
+abbrev pub line_text : LineInPlace → List (ℕ × Answer) → List ℕ
+line_text line replies = told_text_of (told_first (line_meaning line) replies)
+
+-- the replies that are left after that line
+abbrev pub left_after : LineInPlace → List (ℕ × Answer) → List (ℕ × Answer)
+left_after line replies = left_behind (line_meaning line) replies

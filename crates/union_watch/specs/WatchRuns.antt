@@ -35,9 +35,13 @@ abbrev pub watch_of : List ℕ → Loading → Watch
 watch_of asks loading =
     record { workers = loading.workers; prefer = loading.prefer; names = loading.names; asks = asks; libraries = loading.libraries }
 
+-- the file of questions of that name
+abbrev pub asks_at : List ℕ → InputFile
+asks_at path = record { input = Asks; path = path }
+
 -- the file of questions
 abbrev pub asks_file : Watch → InputFile
-asks_file watch = record { input = Asks; path = watch.asks }
+asks_file watch = asks_at watch.asks
 
 -- the files that are read before those of the libraries: that of questions, and then that of names
 abbrev pub first_files : Watch → List InputFile

@@ -1,8 +1,8 @@
 //! The lines of a file of questions.
-ghost use Rattle.std.specs.Prelude.{◌≡◌, ◌++◌, ◌∷◌, [], map, IfOk, OnOk};
+ghost use Rattle.std.specs.Prelude.{◌≡◌, ◌++◌, ◌∷◌, [], IfOk, OnOk};
 ghost use Rattle.std.specs.List.{list_any};
 ghost use Rattle.std.specs.Result.{is_err};
-ghost use Rattle.union_watch.specs.AskLines.{line_meaning, read_line, question_of, lines_in, questions_in};
+ghost use Rattle.union_watch.specs.AskLines.{line_meaning, lines_in, lines_read, question_of, questions_in, read_line};
 
 use crate::ask_line::AskLine;
 use catalogue_query::query::{Query, QueryRefusal};
@@ -20,8 +20,7 @@ pub struct AskFile<'a> {
 impl<'a> AskFile<'a> {
     /// Reads the lines of the text. Returns `Memory` if allocation fails.
     pub fn read(alloc: Global, text: &'a [u8]) -> Result<AskFile<'a>, Memory>
-        ensures lines { IfOk result (λ file. map line_meaning file.lines.items
-            ≡ lines_in text.now) }
+        ensures lines { IfOk result (λ file. lines_read file ≡ lines_in text.now) }
         ensures questions { IfOk result (λ file. file.questions.items ≡ questions_in text.now) }
     {
         let mut file = AskFile {
@@ -39,8 +38,8 @@ impl<'a> AskFile<'a> {
 
     /// Adds a line, and its question where it asks one.
     fn add(&mut self, alloc: Global, line: &'a [u8]) -> Result<(), Memory>
-        ensures lines { OnOk result (map line_meaning self.new.lines.items
-            ≡ map line_meaning self.old.lines.items ++ read_line line.now ∷ []) }
+        ensures lines { OnOk result (lines_read self.new ≡ lines_read self.old
+            ++ read_line line.now ∷ []) }
         ensures questions { OnOk result (self.new.questions.items ≡ self.old.questions.items
             ++ question_of line.now) }
     {
@@ -64,7 +63,7 @@ impl<'a> AskFile<'a> {
 
     /// Whether a line is refused. Takes no memory.
     pub fn has_refusals(&self) -> bool
-        ensures { result ≡ list_any is_err (map line_meaning self.now.lines.items) }
+        ensures { result ≡ list_any is_err (lines_read self.now) }
     {
         has_refused(self.lines.as_slice())
     }

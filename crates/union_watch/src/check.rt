@@ -2,16 +2,14 @@
 //!
 //! No record is made, and none is kept. The source is read piece by piece to its end before anything is written; memory
 //! grows with the number of refused frames alone.
-ghost use Rattle.std.specs.Prelude.{◌≡◌, ◌≢◌, ◌++◌, ◌<◌, ◌+◌, List, length, IsTrue, IfOk, OnOk};
-ghost use Rattle.iso2709_frame.specs.Frames.{frames};
+ghost use Rattle.std.specs.Prelude.{◌≡◌, ◌≢◌, ◌++◌, IsTrue, IfOk, OnOk};
 ghost use Rattle.union_files.specs.Readings.{Reads};
-ghost use Rattle.library_batches.specs.Reports.{check_line, check_text};
-ghost use Rattle.union_watch.specs.Runs.{end_of, IsCheck};
+ghost use Rattle.union_watch.specs.Runs.{Finds, IsCheck, inflow};
 ghost use Rattle.library_batches.specs.Reading.{most_bytes};
-ghost use Rattle.library_batches.specs.Streams.{Frame};
+ghost use Rattle.union_words.specs.Flows.{outflow};
 ghost use Rattle.union_words.specs.Statuses.{is_done};
 ghost use Rattle.union_words.specs.declared.input.Input.{Input as InputModel};
-ghost use Rattle.union_watch.specs.Tallies.{IsTally};
+ghost use Rattle.union_watch.specs.Tallies.{IsTallyOf, IsTextOf, tally_line};
 
 use crate::counting::count_frame;
 use crate::tally::Tally;
@@ -40,12 +38,8 @@ struct Findings {
 /// Counts the frames of a source.
 fn count_frames<S: Source>(alloc: Global, source: &mut S) -> Result<Tally, Stop>
     ensures name { S.name source.new ≡ S.name source.old }
-    ensures reads { Reads most_bytes result (record {
-      told = S.left source.old;
-      before = S.faults source.old;
-      after = S.faults source.new;
-    })
-        (λ tally bytes. IsTally (frames bytes) tally) }
+    ensures reads { Reads most_bytes result (inflow S.left S.faults source.old source.new)
+        IsTallyOf }
 {
     let mut reader = FrameReader::open(alloc, LARGEST_SOURCE)?;
     let mut tally = Tally::new(alloc);
@@ -61,9 +55,7 @@ fn count_frames<S: Source>(alloc: Global, source: &mut S) -> Result<Tally, Stop>
 
 /// Adds `LIB frames F load L withdraw W refused N`.
 fn add_check_line(text: &mut Vec<u8>, library: &[u8], tally: &Tally) -> Result<(), AllocError>
-    ensures { OnOk result (text.new.items ≡ text.old.items
-        ++ check_line library.now tally.now.frames tally.now.loads tally.now.withdrawals
-        (length tally.now.refused.items)) }
+    ensures { OnOk result (text.new.items ≡ text.old.items ++ tally_line library.now tally.now) }
 {
     text.extend_from_slice(library)?;
     add_counted(text, b"frames", tally.frames)?;
@@ -76,8 +68,7 @@ fn add_check_line(text: &mut Vec<u8>, library: &[u8], tally: &Tally) -> Result<(
 
 /// The text of a check by which these frames were counted.
 fn check_text(alloc: Global, library: &[u8], tally: &Tally) -> Result<Vec<u8>, AllocError>
-    ensures { IfOk result (λ text. (all : List Frame) → IsTally all tally.now
-        → text.items ≡ check_text library.now all) }
+    ensures { IfOk result (λ text. IsTextOf library.now tally.now text.items) }
 {
     let mut text = Vec::new(alloc);
     add_refused_lines(&mut text, library, tally.refused.as_slice())?;
@@ -92,13 +83,8 @@ fn check_source<S: Source>(
     source: &mut S,
 ) -> Result<Findings, Stop>
     ensures name { S.name source.new ≡ S.name source.old }
-    ensures reads { Reads most_bytes result (record {
-      told = S.left source.old;
-      before = S.faults source.old;
-      after = S.faults source.new;
-    })
-        (λ found bytes. (found.text.items ≡ check_text library.now (frames bytes))
-        × (found.end ≡ end_of bytes)) }
+    ensures reads { Reads most_bytes result (inflow S.left S.faults source.old source.new)
+        (Finds library.now) }
     ensures end { IfOk result (λ found. IsTrue (is_done found.end)) }
 {
     match count_frames(alloc, source) {
@@ -127,19 +113,8 @@ pub fn check_run<S: Source, O: Sink>(
 ) -> Status
     ensures name { S.name source.new ≡ S.name source.old }
     ensures run { IsCheck library.now
-        (record {
-          told = S.left source.old;
-          before = S.faults source.old;
-          after = S.faults
-              source.new;
-        })
-        (record {
-          old = O.written out.old;
-          new = O.written out.new;
-          before = O.faults out.old;
-          after
-              = O.faults out.new;
-        })
+        (inflow S.left S.faults source.old source.new)
+        (outflow O.written O.faults out.old out.new)
         result }
     ensures open { (input : InputModel) → result ≢ Status.OpenFault input }
 {

@@ -1,9 +1,8 @@
 //! The counting of a stream's frames.
-ghost use Rattle.std.specs.Prelude.{◌≡◌, ◌<◌, ◌+◌, ◌++◌, ◌∷◌, [], List, None, Some, OnOk};
+ghost use Rattle.std.specs.Prelude.{◌≡◌, ◌<◌, ◌+◌, [], OnOk};
 ghost use Rattle.iso2709_frame.specs.Frames.{IsWhole};
-ghost use Rattle.marc_rules.specs.NineteenRules.{status_of};
-ghost use Rattle.library_batches.specs.Streams.{Frame, failure_of};
-ghost use Rattle.union_watch.specs.Tallies.{IsTally};
+ghost use Rattle.library_batches.specs.Streams.{Frame};
+ghost use Rattle.union_watch.specs.Tallies.{Breaks, Counts, HasStatus, IsTally};
 
 use crate::tally::Tally;
 use iso2709_frame::cut::Cut;
@@ -30,9 +29,8 @@ impl Tally {
     /// Counts an accepted frame with that status. Takes no memory.
     pub fn accept(&mut self, status: u8)
         requires { self.old.frames < u64.MAX }
-        ensures counted { (all : List Frame) (frame : Frame) → IsTally all self.old
-            → failure_of frame ≡ None
-            → status_of frame.1 ≡ status → IsTally (all ++ frame ∷ []) self.new }
+        ensures counted { (frame : Frame) → HasStatus status frame
+            → Counts self.old self.new frame }
         ensures frames { self.new.frames ≡ self.old.frames + 1 }
     {
         self.frames += 1;
@@ -46,9 +44,8 @@ impl Tally {
     /// Counts a frame that breaks the rule there.
     pub fn refuse(&mut self, rule: Rule, place: u32) -> Result<(), AllocError>
         requires { self.old.frames < u64.MAX }
-        ensures counted { OnOk result ((all : List Frame) (frame : Frame) → IsTally all self.old
-            → failure_of frame ≡ Some (record { rule = rule; place = place })
-            → IsTally (all ++ frame ∷ []) self.new) }
+        ensures counted { OnOk result ((frame : Frame) → Breaks rule place frame
+            → Counts self.old self.new frame) }
         ensures frames { OnOk result (self.new.frames ≡ self.old.frames + 1) }
     {
         self.frames += 1;
@@ -65,8 +62,7 @@ impl Tally {
 pub fn count_frame(alloc: Global, tally: &mut Tally, cut: Cut, frame: &[u8]) -> Result<(), Memory>
     requires whole { cut ≡ Cut.Whole → IsWhole frame.now }
     requires room { tally.old.frames < u64.MAX }
-    ensures counted { OnOk result ((all : List Frame) → IsTally all tally.old
-        → IsTally (all ++ (cut, frame.now) ∷ []) tally.new) }
+    ensures counted { OnOk result (Counts tally.old tally.new (cut, frame.now)) }
     ensures frames { OnOk result (tally.new.frames ≡ tally.old.frames + 1) }
 {
     match accepted_status(alloc, cut, frame) {

@@ -2,8 +2,7 @@
 //!
 //! Each function appends its text to a buffer.
 ghost use Rattle.std.specs.Prelude.{◌≡◌, ◌++◌, OnOk};
-ghost use Rattle.union_watch.specs.AskLines.{line_meaning};
-ghost use Rattle.union_watch.specs.Told.{reply_line, told_first, left_behind, told_text_of};
+ghost use Rattle.union_watch.specs.Told.{left_after, line_text, reply_line};
 ghost use Rattle.union_watch.specs.TurnLines.{turn_of, turn_text};
 
 use crate::ask_line::AskLine;
@@ -52,9 +51,8 @@ pub fn add_told(
     replies: &mut Replies<'_>,
 ) -> Result<(), AllocError>
     ensures told { OnOk result (text.new.items ≡ text.old.items
-        ++ told_text_of (told_first (line_meaning line.now) replies.old.left.now)) }
-    ensures left { OnOk result (replies.new.left.now
-        ≡ left_behind (line_meaning line.now) replies.old.left.now) }
+        ++ line_text line.now replies.old.left.now) }
+    ensures left { OnOk result (replies.new.left.now ≡ left_after line.now replies.old.left.now) }
 {
     match line {
         AskLine::Asks(line) => {

@@ -4,7 +4,7 @@ ghost use Rattle.std.specs.Io.KnownBytes.{Appends};
 ghost use Rattle.union_io.specs.Causes.{HasCause};
 ghost use Rattle.union_io.specs.Writing.{AppendsFront};
 ghost use Rattle.union_words.specs.Texts.{early_text};
-ghost use Rattle.union_words.specs.Flows.{IsNoted};
+ghost use Rattle.union_words.specs.Flows.{IsNoted, outflow};
 
 use union_io::failed::Failed;
 use union_io::sink::{Sink, put_all};
@@ -12,13 +12,7 @@ use union_words::status::Status;
 
 /// Writes the one line of a run that ended early. Whether that could be written changes nothing else.
 pub fn put_early<N: Sink>(notes: &mut N, status: &Status)
-    ensures { IsNoted (record {
-      old = N.written notes.old;
-      new = N.written notes.new;
-      before =
-          N.faults notes.old;
-      after = N.faults notes.new;
-    })
+    ensures { IsNoted (outflow N.written N.faults notes.old notes.new)
         (early_text status.now) }
 {
     let (front, name, end) = status.early_parts();

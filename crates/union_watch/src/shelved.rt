@@ -1,7 +1,7 @@
 //! `check` of the file of a library, as a shelf has it.
 ghost use Rattle.union_io.specs.Counts.{SameElsewhere};
-ghost use Rattle.union_io.specs.Files.{told_file};
 ghost use Rattle.union_watch.specs.Runs.{IsCheck};
+ghost use Rattle.union_words.specs.Flows.{file_flow, outflow, shelf_flow};
 
 use crate::check::check_run;
 use std::alloc::Global;
@@ -21,19 +21,8 @@ pub fn check_file<F: Shelf, O: Sink>(
     out: &mut O,
 ) -> Status
     ensures run { IsCheck library.now
-        (record {
-          told = told_file (F.files shelf.old) path.now;
-          before = F.faults shelf.old
-              path.now;
-          after = F.faults shelf.new path.now;
-        })
-        (record {
-          old = O.written out.old;
-          new = O.written out.new;
-          before = O.faults out.old;
-          after
-              = O.faults out.new;
-        })
+        (file_flow (shelf_flow F.files F.faults shelf.old shelf.new) path.now)
+        (outflow O.written O.faults out.old out.new)
         result }
     ensures others { SameElsewhere (F.faults shelf.old) (F.faults shelf.new) path.now }
 {

@@ -2,11 +2,12 @@
 ghost use Rattle.std.specs.Prelude.{◌≡◌, ◌++◌, List, IfOk, OnOk};
 ghost use Rattle.std.specs.List.{flat_map};
 ghost use Rattle.library_batches.specs.Reports.{left_line};
+ghost use Rattle.union_words.specs.Flows.{outflow};
 ghost use Rattle.union_words.specs.Statuses.{end_by};
 ghost use Rattle.catalogue_core.specs.Histories.{AreEditionsOf};
 ghost use Rattle.catalogue_editions.specs.declared.edition.Edition.{Edition as EditionModel};
 ghost use Rattle.catalogue_export.specs.Sources.{left_of};
-ghost use Rattle.catalogue_export.specs.Writing.{HasWritten, outflow};
+ghost use Rattle.catalogue_export.specs.Writing.{HasWritten, outflow as output};
 ghost use Rattle.union_watch.specs.Runs.{listed, showing_of, shown_by, sources_of, IsReported, Shows};
 
 use crate::notes::put_early;
@@ -67,12 +68,7 @@ pub fn write_reports<N: Sink>(
 ) -> Status
     ensures { IsReported (loaded.reports.items ++ flat_map left_line left.now)
         (end_by loaded.refused)
-        (record {
-          old = N.written notes.old;
-          new = N.written notes.new;
-          before = N.faults notes.old;
-          after = N.faults notes.new;
-        })
+        (outflow N.written N.faults notes.old notes.new)
         result }
 {
     let (catalogue, reports, refused) = loaded.into_parts();
@@ -108,19 +104,8 @@ fn write_export<R: Threads + Sync, F: ExportForm + Send, O: Sink, N: Sink>(
     notes: &mut N,
 ) -> Status
     ensures { Shows (shown_by F.shown making.owners) loaded
-        (record {
-          old = O.written out.old;
-          new = O.written out.new;
-          before = O.faults out.old;
-          after
-              = O.faults out.new;
-        })
-        (record {
-          old = N.written notes.old;
-          new = N.written notes.new;
-          before = N.faults notes.old;
-          after = N.faults notes.new;
-        })
+        (outflow O.written O.faults out.old out.new)
+        (outflow N.written N.faults notes.old notes.new)
         result }
 {
     let mut left = Vec::new(alloc);
@@ -147,7 +132,7 @@ fn make_export<R: Threads + Sync, F: ExportForm + Send, O: Sink>(
     ensures { (all : List EditionModel) × AreEditionsOf catalogue.now.history all
         × HasWritten (flat_map (F.shown (sources_of making.owners catalogue.now.names
         catalogue.now.history)) all)
-        (outflow O.written O.faults out.old out.new) result
+        (output O.written O.faults out.old out.new) result
         × OnOk result (left.new.items ≡ left.old.items
         ++ left_of (sources_of making.owners catalogue.now.names catalogue.now.history) all) }
 {
@@ -169,19 +154,8 @@ fn write_works<R: Threads + Sync, O: Sink, N: Sink>(
     notes: &mut N,
 ) -> Status
     ensures { Shows listed loaded
-        (record {
-          old = O.written out.old;
-          new = O.written out.new;
-          before = O.faults out.old;
-          after
-              = O.faults out.new;
-        })
-        (record {
-          old = N.written notes.old;
-          new = N.written notes.new;
-          before = N.faults notes.old;
-          after = N.faults notes.new;
-        })
+        (outflow O.written O.faults out.old out.new)
+        (outflow N.written N.faults notes.old notes.new)
         result }
 {
     match finished_works_text(rt, alloc, &loaded.catalogue, workers.number(), out) {
@@ -204,19 +178,8 @@ pub fn write_shown<R: Threads + Sync, O: Sink, N: Sink>(
     notes: &mut N,
 ) -> Status
     ensures { Shows (showing_of by.shown) loaded
-        (record {
-          old = O.written out.old;
-          new = O.written out.new;
-          before = O.faults out.old;
-          after
-              = O.faults out.new;
-        })
-        (record {
-          old = N.written notes.old;
-          new = N.written notes.new;
-          before = N.faults notes.old;
-          after = N.faults notes.new;
-        })
+        (outflow O.written O.faults out.old out.new)
+        (outflow N.written N.faults notes.old notes.new)
         result }
 {
     let workers = by.workers;

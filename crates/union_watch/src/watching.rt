@@ -1,14 +1,11 @@
 //! The command `watch`: what was loaded and asked is written, the text on `out` and the reports on `notes` after it.
-ghost use Rattle.std.specs.Prelude.{◌≡◌, ◌++◌, ◌||◌, ◌∷◌, IfOk, IfErr, List, map};
+ghost use Rattle.std.specs.Prelude.{◌≡◌, ◌||◌, ◌∷◌, IfOk, IfErr, List};
 ghost use Rattle.union_files.specs.Openings.{OpensInTurn};
 ghost use Rattle.union_files.specs.Readings.{ReadsFile};
 ghost use Rattle.union_io.specs.Names.{AddsName};
-ghost use Rattle.union_words.specs.Flows.{InputFile};
-ghost use Rattle.union_words.specs.Statuses.{end_by};
-ghost use Rattle.union_watch.specs.AskLines.{line_meaning};
-ghost use Rattle.union_watch.specs.Told.{told_of};
-ghost use Rattle.union_watch.specs.WatchTexts.{watch_text};
-ghost use Rattle.union_watch.specs.Runs.{Written};
+ghost use Rattle.union_words.specs.Flows.{InputFile, outflow, shelf_flow};
+ghost use Rattle.union_watch.specs.Runs.{Written, answered_end, answered_text};
+ghost use Rattle.union_watch.specs.WatchRuns.{asks_at};
 
 use crate::answered::Answered;
 use crate::notes::put_early;
@@ -28,18 +25,14 @@ use union_words::status::Status;
 /// Reads the file of questions of that name whole.
 pub fn read_asks<F: Shelf>(alloc: Global, path: &[u8], shelf: &mut F) -> Result<Vec<u8>, Status>
     ensures files { F.files shelf.new ≡ F.files shelf.old }
-    ensures reads { ReadsFile result (record { input = Input.Asks; path = path.now })
-        (record {
-          files = F.files shelf.old;
-          before = F.faults shelf.old;
-          after = F.faults shelf.new;
-        })
+    ensures reads { ReadsFile result (asks_at path.now)
+        (shelf_flow F.files F.faults shelf.old shelf.new)
         (λ text bytes. text.items ≡ bytes) }
     ensures opened { IfOk result (λ _. AddsName (F.opened shelf.old) (F.opened shelf.new) path.now) }
     ensures in_turn { IfErr result (λ status. (rest : List InputFile)
         → OpensInTurn (F.files shelf.old) status
-        (record { input = Input.Asks; path = path.now } ∷ rest)
-        (F.opened shelf.old) (F.opened shelf.new)) }
+        (asks_at path.now ∷ rest) (F.opened shelf.old)
+        (F.opened shelf.new)) }
 {
     match Bytes::of(alloc, path) {
         Ok(path) => read_text_file(alloc, &path, Input::Asks, shelf),
@@ -64,24 +57,10 @@ pub fn write_answered<O: Sink, N: Sink>(
     out: &mut O,
     notes: &mut N,
 ) -> Status
-    ensures { Written (watch_text answered.entry.loaded.catalogue.history
-        (told_of (map line_meaning answered.entry.lines.items)
-        (answered.entry.beside.items ++ answered.entry.late.items)))
-        answered.entry.loaded.reports.items (end_by
-        (answered.entry.loaded.refused || answered.entry.refused))
-        (record {
-          old = O.written out.old;
-          new = O.written out.new;
-          before = O.faults out.old;
-          after
-              = O.faults out.new;
-        })
-        (record {
-          old = N.written notes.old;
-          new = N.written notes.new;
-          before = N.faults notes.old;
-          after = N.faults notes.new;
-        })
+    ensures { Written (answered_text answered.entry) answered.entry.loaded.reports.items
+        (answered_end answered.entry)
+        (outflow O.written O.faults out.old out.new)
+        (outflow N.written N.faults notes.old notes.new)
         result }
 {
     let Answered {

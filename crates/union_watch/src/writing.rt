@@ -1,8 +1,8 @@
 //! The writing of the text.
 ghost use Rattle.std.specs.Prelude.{◌≡◌, ◌++◌, map, IfOk, OnOk};
-ghost use Rattle.catalogue_export.specs.Writing.{HasMoved, HasWritten};
+ghost use Rattle.catalogue_export.specs.Writing.{HasMoved, HasWritten, outflow};
 ghost use Rattle.union_watch.specs.AskLines.{line_meaning};
-ghost use Rattle.union_watch.specs.Told.{told_first, left_behind, told_of, told_text_of};
+ghost use Rattle.union_watch.specs.Told.{left_after, line_text, told_of, told_text_of};
 ghost use Rattle.union_watch.specs.TurnLines.{turn_of, turn_text, turns_text};
 ghost use Rattle.union_watch.specs.WatchTexts.{watch_text};
 
@@ -24,13 +24,7 @@ fn write_turn<O: Sink>(
     out: &mut O,
 ) -> Result<(), ExportFail>
     ensures { HasMoved (pending.old.items ++ turn_text (turn_of turn entry.now)) pending.new.items
-        (record {
-          old = O.written out.old;
-          new = O.written out.new;
-          before = O.faults out.old;
-          after
-              = O.faults out.new;
-        }) result }
+        (outflow O.written O.faults out.old out.new) result }
 {
     add_turn_line(pending, turn, entry)?;
     hand_on(pending, out)
@@ -43,13 +37,7 @@ fn write_turns<O: Sink>(
     out: &mut O,
 ) -> Result<(), ExportFail>
     ensures { HasMoved (pending.old.items ++ turns_text catalogue.now.history) pending.new.items
-        (record {
-          old = O.written out.old;
-          new = O.written out.new;
-          before = O.faults out.old;
-          after
-              = O.faults out.new;
-        }) result }
+        (outflow O.written O.faults out.old out.new) result }
 {
     for turn in 0..catalogue.turns() {
         match write_turn(turn + 1, catalogue.entry(turn), pending, out) {
@@ -67,17 +55,9 @@ fn write_line<O: Sink>(
     pending: &mut Vec<u8>,
     out: &mut O,
 ) -> Result<(), ExportFail>
-    ensures text { HasMoved (pending.old.items
-        ++ told_text_of (told_first (line_meaning line.now) replies.old.left.now)) pending.new.items
-        (record {
-          old = O.written out.old;
-          new = O.written out.new;
-          before = O.faults out.old;
-          after
-              = O.faults out.new;
-        }) result }
-    ensures left { OnOk result (replies.new.left.now
-        ≡ left_behind (line_meaning line.now) replies.old.left.now) }
+    ensures text { HasMoved (pending.old.items ++ line_text line.now replies.old.left.now)
+        pending.new.items (outflow O.written O.faults out.old out.new) result }
+    ensures left { OnOk result (replies.new.left.now ≡ left_after line.now replies.old.left.now) }
 {
     add_told(pending, line, replies)?;
     hand_on(pending, out)
@@ -92,13 +72,7 @@ fn write_lines<O: Sink>(
 ) -> Result<(), ExportFail>
     ensures { HasMoved (pending.old.items ++ told_text_of
         (told_of (map line_meaning lines.now) replies.now)) pending.new.items
-        (record {
-          old = O.written out.old;
-          new = O.written out.new;
-          before = O.faults out.old;
-          after
-              = O.faults out.new;
-        }) result }
+        (outflow O.written O.faults out.old out.new) result }
 {
     let mut replies = Replies { left: replies };
     for line in lines {
@@ -139,13 +113,7 @@ pub fn write_watch<O: Sink>(
 ) -> Result<(), ExportFail>
     ensures { HasWritten (watch_text catalogue.now.history
         (told_of (map line_meaning lines.now) (beside.items ++ late.items)))
-        (record {
-          old = O.written out.old;
-          new = O.written out.new;
-          before = O.faults out.old;
-          after
-              = O.faults out.new;
-        }) result }
+        (outflow O.written O.faults out.old out.new) result }
 {
     let replies = joined(beside, late)?;
     let mut pending = Vec::new(alloc);

@@ -1,6 +1,7 @@
 use Rattle.std.proofs.Common.{sym, subst}
 use Rattle.union_files.specs.Inputs.{state_of, states_of}
-use Rattle.union_follow.proofs.ShelfLaws.{RaisesAt, raises_more}
+use Rattle.union_follow.proofs.ShelfLaws.{raises_more}
+use Rattle.union_follow.specs.Turning.{RaisesAt}
 use Rattle.union_follow.proofs.libraries.+return_all.Goals as goal
 
 pub returns-clause-failed : goal.returns-clause-failed

@@ -13,7 +13,7 @@ returns-in_ok-refuse-in-Some-clause-read c =
       one,
       refl,
       reading_more all one c.args.self.now.table c.take_frame.new.table c.args.self.now.tally c.refuse.new.self before judged took.2
-          (c.in_ok-refuse-in-Some.ensures.counted all one before.tallied refl),
+          (c.in_ok-refuse-in-Some.ensures.counted one refl all before.tallied),
     )
 
 pub returns-in-None-clause-read : goal.returns-in-None-clause-read
@@ -26,5 +26,5 @@ returns-in-None-clause-read c =
       one,
       refl,
       reading_more all one c.args.self.now.table c.take_frame.new.table c.args.self.now.tally c.accept.new.self before judged took.2
-          (c.accept.ensures.counted all one before.tallied refl),
+          (c.accept.ensures.counted one refl all before.tallied),
     )

@@ -5,7 +5,7 @@ use Rattle.names_file.proofs.tally.Tally.accept.Goals as goal
 
 pub returns-clause-counted : goal.returns-clause-counted
 returns-clause-counted c =
-    λ all one before none.
+    λ one none all before.
     record {
       frames = ap (λ n. n + 1) before.frames ∙ sym (length_push all one);
       refused = before.refused ∙ sym (count_read all one none);

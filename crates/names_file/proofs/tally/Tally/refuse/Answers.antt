@@ -6,7 +6,7 @@ use Rattle.names_file.proofs.tally.Tally.refuse.Goals as goal
 
 pub returns-clause-counted : goal.returns-clause-counted
 returns-clause-counted c =
-    λ all one before is.
+    λ one is all before.
     let number = c.args.self.now.frames + 1 in
     record {
       frames = ap (λ n. n + 1) before.frames ∙ sym (length_push all one);

@@ -6,7 +6,7 @@ use Rattle.union_json.proofs.written.Written.refuse.Goals as goal
 
 pub returns-clause-counted : goal.returns-clause-counted
 returns-clause-counted c =
-    λ all frame before fails.
+    λ frame fails all before.
     let same = accepted-refused_more all frame _ fails in
     record {
       records = before.records;

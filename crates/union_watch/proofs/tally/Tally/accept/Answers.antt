@@ -8,22 +8,22 @@ use Rattle.union_watch.proofs.tally.Tally.accept.Goals as goal
 
 pub returns-then-is_deleted-clause-counted : goal.returns-then-is_deleted-clause-counted
 returns-then-is_deleted-clause-counted c =
-    λ all frame before none has.
+    λ frame is all before.
     let deleted : is_deleted c.args.status ≡ true = sym c.is_deleted.ensures ∙ c.if-is_deleted.true in
     record {
       frames = ap (λ n. n + 1) before.frames ∙ sym (length_push all frame);
-      loads = before.loads ∙ sym (loads-one_more all frame c.args.status none has ∙ (ap (λ b. loads all + cond (not b) 1 0) deleted ∙ add-zero _));
-      withdrawals = ap (λ n. n + 1) before.withdrawals ∙ sym (withdrawals-one_more all frame c.args.status none has ∙ ap (λ b. withdrawals all + cond b 1 0) deleted);
-      refused = before.refused ∙ sym (refused-accepted_more all frame none);
+      loads = before.loads ∙ sym (loads-one_more all frame c.args.status is.0 is.1 ∙ (ap (λ b. loads all + cond (not b) 1 0) deleted ∙ add-zero _));
+      withdrawals = ap (λ n. n + 1) before.withdrawals ∙ sym (withdrawals-one_more all frame c.args.status is.0 is.1 ∙ ap (λ b. withdrawals all + cond b 1 0) deleted);
+      refused = before.refused ∙ sym (refused-accepted_more all frame is.0);
     }
 
 pub returns-else-is_deleted-clause-counted : goal.returns-else-is_deleted-clause-counted
 returns-else-is_deleted-clause-counted c =
-    λ all frame before none has.
+    λ frame is all before.
     let deleted : is_deleted c.args.status ≡ false = sym c.is_deleted.ensures ∙ c.if-is_deleted.false in
     record {
       frames = ap (λ n. n + 1) before.frames ∙ sym (length_push all frame);
-      loads = ap (λ n. n + 1) before.loads ∙ sym (loads-one_more all frame c.args.status none has ∙ ap (λ b. loads all + cond (not b) 1 0) deleted);
-      withdrawals = before.withdrawals ∙ sym (withdrawals-one_more all frame c.args.status none has ∙ (ap (λ b. withdrawals all + cond b 1 0) deleted ∙ add-zero _));
-      refused = before.refused ∙ sym (refused-accepted_more all frame none);
+      loads = ap (λ n. n + 1) before.loads ∙ sym (loads-one_more all frame c.args.status is.0 is.1 ∙ ap (λ b. loads all + cond (not b) 1 0) deleted);
+      withdrawals = before.withdrawals ∙ sym (withdrawals-one_more all frame c.args.status is.0 is.1 ∙ (ap (λ b. withdrawals all + cond b 1 0) deleted ∙ add-zero _));
+      refused = before.refused ∙ sym (refused-accepted_more all frame is.0);
     }

@@ -7,7 +7,7 @@ use Rattle.union_watch.proofs.tally.Tally.refuse.Goals as goal
 
 pub returns-clause-counted : goal.returns-clause-counted
 returns-clause-counted c =
-    λ all frame before fails.
+    λ frame fails all before.
     record {
       frames = ap (λ n. n + 1) before.frames ∙ sym (length_push all frame);
       loads = before.loads ∙ sym (ap (count_by (λ f. not (is_withdrawing f))) (accepted-refused_more all frame _ fails));
