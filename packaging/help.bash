@@ -24,6 +24,7 @@ options_of() {
     follow) echo "--ask=PATH" ;;
     union-explain) echo "--csv" ;;
     union-keys) echo "--table --groups=PATH" ;;
+    union-why) echo "--fields --prefer=LIB,.. --doubtful --csv" ;;
   esac
 }
 
@@ -138,10 +139,23 @@ wrong_one_id() {
 wrong_why() {
   local count=0 word wrong ids=wrong_ids
   local LC_ALL=C
-  if [ "${1-}" = --fields ]; then
-    ids=wrong_one_id
-    shift
-  fi
+  case ${1-} in
+    --fields)
+      ids=wrong_one_id
+      shift
+      if [[ ${1-} == --prefer=* ]]; then
+        wrong=$(wrong_preference "${1#*=}")
+        [ -z "$wrong" ] || { echo "$wrong"; return; }
+        shift
+      fi
+      ;;
+    --doubtful)
+      shift
+      [ "${1-}" != --csv ] || shift
+      wrong_libraries 64 "$@"
+      return
+      ;;
+  esac
   for word; do
     [[ ! $word =~ ^[A-Z0-9]{1,16}\. ]] || break
     count=$((count + 1))

@@ -14,7 +14,11 @@ _union_tools() {
     union-explain:1) options="--csv --help --version" ;;
     union-keys:1) options="--table --groups= --help --version" ;;
     union-keys:2) options="--groups=" ;;
-    union-why:1) options="--fields --help --version" ;;
+    union-why:1) options="--fields --doubtful --help --version" ;;
+    union-why:2)
+      [ "${COMP_WORDS[1]}" != --doubtful ] || options="--csv"
+      [ "${COMP_WORDS[1]}" != --fields ] || options="--prefer="
+      ;;
     union-overlap:*)
       if [[ $word == -* ]]; then
         options="--csv --help --version"

@@ -29,14 +29,14 @@ placed_from-next at text = ap (λ x. placed_piece at (first_piece text) ++ x) (p
 -- a piece of CR and LF alone has no frame
 pub placed_piece-none : (at : ℕ) (piece : List ℕ) → skip_breaks piece ≡ [] → placed_piece at piece ≡ []
 placed_piece-none at piece e =
-    ap (λ s. map (placed_at (at + (length piece - length (skip_breaks piece))) (length (skip_breaks piece))) (cut_of s)) e
+    ap (λ s. map (placed_at (at + (length piece - length (skip_breaks piece))) (skip_breaks piece)) (cut_of s)) e
 
 -- any other has one
 pub placed_piece-one : (at : ℕ) (piece frame : List ℕ) (cut : Cut) (bytes : List ℕ) → frame ≡ skip_breaks piece
-    → cut_piece piece ≡ (cut, bytes) ∷ [] → placed_piece at piece ≡ placed_at (at + (length piece - length frame)) (length frame) (cut, bytes) ∷ []
+    → cut_piece piece ≡ (cut, bytes) ∷ [] → placed_piece at piece ≡ placed_at (at + (length piece - length frame)) frame (cut, bytes) ∷ []
 placed_piece-one at piece frame cut bytes e h =
-    ap (map (placed_at (at + (length piece - length (skip_breaks piece))) (length (skip_breaks piece)))) h
-    ∙ ap (λ f. placed_at (at + (length piece - length f)) (length f) (cut, bytes) ∷ []) (sym e)
+    ap (map (placed_at (at + (length piece - length (skip_breaks piece))) (skip_breaks piece))) h
+    ∙ ap (λ f. placed_at (at + (length piece - length f)) f (cut, bytes) ∷ []) (sym e)
 
 -- how a frame is cut, by whether it is ended and whether it is too long
 cut_of-is : (ended over : Bool) (frame : List ℕ) → 0 < length frame → ended ≡ list_any is_terminator frame → over ≡ nat_lt 99999 (length frame)

@@ -6,12 +6,12 @@ use Rattle.iso2709_frame.specs.declared.cut.Cut.{Cut}
 use Rattle.iso2709_frame.specs.Frames.{is_terminator, first_piece, later_pieces, skip_breaks, cut_piece, frames}
 use Rattle.union_keys.specs.Placed.{Placed, placed, placed_at, placed_piece, placed_later, cut_at}
 
-cuts_at : (first size : ℕ) (cuts : List (Cut × List ℕ)) → map cut_at (map (placed_at first size) cuts) ≡ cuts
-cuts_at first size [] = refl
-cuts_at first size (cut ∷ rest) = ap (λ xs. cut ∷ xs) (cuts_at first size rest)
+cuts_at : (first : ℕ) (text : List ℕ) (cuts : List (Cut × List ℕ)) → map cut_at (map (placed_at first text) cuts) ≡ cuts
+cuts_at first text [] = refl
+cuts_at first text (cut ∷ rest) = ap (λ xs. cut ∷ xs) (cuts_at first text rest)
 
 piece_at : (at : ℕ) (piece : List ℕ) → map cut_at (placed_piece at piece) ≡ cut_piece piece
-piece_at at piece = cuts_at (at + (length piece - length (skip_breaks piece))) (length (skip_breaks piece)) (cut_piece piece)
+piece_at at piece = cuts_at (at + (length piece - length (skip_breaks piece))) (skip_breaks piece) (cut_piece piece)
 
 -- a piece begins after a terminator, and none after another byte
 by_byte : (ends : Bool) (one rest : List Placed) (piece : List ℕ) (pieces : List (List ℕ)) → map cut_at one ≡ cut_piece piece

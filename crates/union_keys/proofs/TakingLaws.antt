@@ -6,8 +6,8 @@ use Rattle.marc_fields.specs.Spelling.{Spells}
 use Rattle.marc_parts.specs.declared.marc_record.Record.{Record}
 use Rattle.marc_fields.specs.declared.rules.Failure.{Failure}
 use Rattle.union_keys.specs.Placed.{Placed, placed_piece, placed_from}
-use Rattle.union_keys.specs.Readings.{Read, Takes, TakesAll, refused_line}
-use Rattle.union_keys.specs.Standings.{standing_of}
+use Rattle.union_keys.specs.Readings.{Read, Takes, TakesAll, refused_line, with_refused, with_standing}
+use Rattle.union_keys.specs.Standings.{standing_of, refused_of}
 use Rattle.union_keys.specs.declared.standing.Standing.{Standing}
 use Rattle.union_keys.proofs.PlacedLaws.{placed_from-next}
 
@@ -40,14 +40,13 @@ taken-next library number next first first' rest piece behind a b c p h f n t u 
 
 -- the record of a frame that breaks no rule
 pub taken-record : (library : List ℕ) (number : ℕ) (frame : Placed) (failure : Option Failure) (r : Record) (s : Standing) (a b : Read)
-    → failure ≡ None → Spells frame.bytes r → s ≡ standing_of library frame.first frame.size r
-    → b.standings ≡ a.standings ++ s ∷ [] → b.notes ≡ a.notes → Takes library number frame failure a b
-taken-record library number frame failure r s a b none spells is more same =
-    subst (λ f. Takes library number frame f a b) (sym none)
-    (r, spells, λ i. record { standings = (more ∙ ap (λ x. a.standings ++ x ∷ []) is) i; notes = same i })
+    → failure ≡ None → Spells frame.bytes r → s ≡ standing_of a.prefer library number frame.first frame.size r
+    → b ≡ with_standing a s → Takes library number frame failure a b
+taken-record library number frame failure r s a b none spells is more =
+    subst (λ f. Takes library number frame f a b) (sym none) (r, spells, more ∙ ap (with_standing a) is)
 
--- the line on a frame that breaks a rule
+-- a frame that breaks a rule
 pub taken-refused : (library : List ℕ) (number : ℕ) (frame : Placed) (failure : Option Failure) (f : Failure) (a b : Read) → failure ≡ Some f
-    → b.standings ≡ a.standings → b.notes ≡ a.notes ++ refused_line library number f → Takes library number frame failure a b
-taken-refused library number frame failure f a b some same more =
-    subst (λ x. Takes library number frame x a b) (sym some) (λ i. record { standings = same i; notes = more i })
+    → b ≡ with_refused a (refused_of library number frame.first frame.text f) (refused_line library number f)
+    → Takes library number frame failure a b
+taken-refused library number frame failure f a b some more = subst (λ x. Takes library number frame x a b) (sym some) more

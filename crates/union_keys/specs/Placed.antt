@@ -4,21 +4,22 @@ use Rattle.std.specs.Prelude.{ℕ, ◌+◌, ◌-◌, if◌then◌else◌, List, 
 use Rattle.iso2709_frame.specs.declared.cut.Cut.{Cut}
 use Rattle.iso2709_frame.specs.Frames.{is_terminator, first_piece, skip_breaks, cut_piece}
 
--- a frame: how many bytes stand before it, how many it has, how it was cut, and its bytes where it is whole
+-- a frame: how many bytes stand before it, how many it has, which, how it was cut, and its bytes where it is whole
 pub record Placed : Type 0 where
   pub first : ℕ
   pub size : ℕ
+  pub text : List ℕ
   pub cut : Cut
   pub bytes : List ℕ
 
 -- the frame that is cut so
-abbrev pub placed_at : ℕ → ℕ → Cut × List ℕ → Placed
-placed_at first size cut = record { first = first; size = size; cut = cut.0; bytes = cut.1 }
+abbrev pub placed_at : ℕ → List ℕ → Cut × List ℕ → Placed
+placed_at first text cut = record { first = first; size = length text; text = text; cut = cut.0; bytes = cut.1 }
 
 -- the frame in a piece that begins at that offset: none where the piece is CR and LF alone
 abbrev pub placed_piece : ℕ → List ℕ → List Placed
 placed_piece at piece =
-    map (placed_at (at + (length piece - length (skip_breaks piece))) (length (skip_breaks piece))) (cut_piece piece)
+    map (placed_at (at + (length piece - length (skip_breaks piece))) (skip_breaks piece)) (cut_piece piece)
 
 -- the frames after the first piece of a text that begins at that offset
 abbrev pub placed_later : ℕ → List ℕ → List Placed

@@ -7,13 +7,30 @@ use Rattle.marc_rules.specs.NineteenRules.{first_rule}
 use Rattle.marc_fields.specs.RuleNames.{rule_name}
 use Rattle.union_words.specs.Words.{LibraryFile}
 use Rattle.union_keys.specs.Placed.{Placed, placed}
-use Rattle.union_keys.specs.Standings.{standing_of}
+use Rattle.union_keys.specs.Standings.{standing_of, refused_of}
+use Rattle.union_keys.specs.declared.refused.Refused.{Refused}
 use Rattle.union_keys.specs.declared.standing.Standing.{Standing}
 
--- the accepted records so far, and the lines on refused ones
+-- the libraries that are preferred, the accepted records so far, the refused frames, and the lines on these
 pub record Read : Type 0 where
+  pub prefer : List (List ℕ)
   pub standings : List Standing
+  pub refused : List Refused
   pub notes : List ℕ
+
+-- nothing read yet
+abbrev pub none_read : List (List ℕ) → Read
+none_read prefer = record { prefer = prefer; standings = []; refused = []; notes = [] }
+
+-- one more accepted record
+abbrev pub with_standing : Read → Standing → Read
+with_standing read s =
+    record { prefer = read.prefer; standings = read.standings ++ s ∷ []; refused = read.refused; notes = read.notes }
+
+-- one more refused frame, with its line
+abbrev pub with_refused : Read → Refused → List ℕ → Read
+with_refused read r line =
+    record { prefer = read.prefer; standings = read.standings; refused = read.refused ++ r ∷ []; notes = read.notes ++ line }
 
 -- `LIB refused FRAME RULE PLACE`
 unfoldable pub refused_line : List ℕ → ℕ → Failure → List ℕ
@@ -21,13 +38,13 @@ refused_line library number failure =
     library
     ++ (codes " refused " ++ (decimal number ++ (codes " " ++ (rule_name failure.rule ++ (codes " " ++ (decimal failure.place ++ 0x0A ∷ []))))))
 
--- a frame that breaks a rule gets a line, and of one that breaks none the record is taken that it spells
+-- a frame that breaks a rule is kept as refused and gets a line, and of one that breaks none the record is taken that it spells
 abbrev pub Takes : List ℕ → ℕ → Placed → Option Failure → Read → Read → Type 0
 Takes library number frame (Some failure) before after =
-    after ≡ record { standings = before.standings; notes = before.notes ++ refused_line library number failure }
+    after ≡ with_refused before (refused_of library number frame.first frame.text failure) (refused_line library number failure)
 Takes library number frame None before after =
     (r : Record) × Spells frame.bytes r
-    × (after ≡ record { standings = before.standings ++ standing_of library frame.first frame.size r ∷ []; notes = before.notes })
+    × (after ≡ with_standing before (standing_of before.prefer library number frame.first frame.size r))
 
 -- the frames are taken in their order, the first of which has that number
 abbrev pub TakesAll : List ℕ → ℕ → List Placed → Read → Read → Type 0

@@ -4,23 +4,30 @@ ghost use Rattle.iso2709_frame.specs.Frames.{IsWhole, first_piece, skip_breaks};
 ghost use Rattle.marc_fields.specs.declared.rules.Failure.{Failure as FailureModel};
 ghost use Rattle.marc_rules.specs.NineteenRules.{first_rule};
 ghost use Rattle.union_keys.specs.Placed.{placed, placed_at, placed_piece};
-ghost use Rattle.union_keys.specs.Readings.{Takes, TakesAll, refused_line};
+ghost use Rattle.union_keys.specs.Readings.{Takes, TakesAll, none_read, refused_line, with_refused};
+ghost use Rattle.union_keys.specs.Standings.{refused_of};
 
 use crate::frame_cut::{behind_breaks, cut_frame, piece_size};
+use crate::place::Place;
+use crate::refused::Refused;
 use crate::standing::Standing;
+use field_merge::preference::Preference;
 use iso2709_frame::cut::Cut;
 use itoa::Buffer;
-use marc_fields::rules::Rule;
+use marc_fields::rules::Failure;
 use marc_rules::check::{Refusal, check_frame};
 use std::alloc::{AllocError, Global};
 use std::marker::Model;
 use union_base::library_code::LibraryCode;
 use union_base::memory::Memory;
 
-/// The accepted records so far, and the lines on refused ones. Contracts see the two lists.
+/// The accepted records so far, the refused frames, and the lines on these. Contracts see the lists, and which libraries' records
+/// are preferred.
 #[derive(Drop)]
 pub struct Reading {
+    pub(crate) prefer: Preference,
     pub(crate) standings: Vec<Standing>,
+    pub(crate) refused: Vec<Refused>,
     pub(crate) notes: Vec<u8>,
 }
 
@@ -29,15 +36,12 @@ impl Model for Reading {
 
     ghost Value = { Read };
 
-    ghost view = { λ r. record { standings = r.standings.items; notes = r.notes.items } };
-}
-
-/// Where a frame stands: its library, its number in the file, and how many bytes of the file are before it.
-#[derive(Clone, Copy)]
-pub(crate) struct Place<'a> {
-    pub(crate) library: &'a LibraryCode,
-    pub(crate) number: u64,
-    pub(crate) first: u64,
+    ghost view = { λ r. record {
+      prefer = r.prefer;
+      standings = r.standings.items;
+      refused = r.refused.items;
+      notes = r.notes.items;
+    } };
 }
 
 /// Adds a blank, and a number.
@@ -55,58 +59,80 @@ fn add_refused_line(
     text: &mut Vec<u8>,
     library: &[u8],
     number: u64,
-    rule: Rule,
-    place: u32,
+    failure: Failure,
 ) -> Result<(), AllocError>
     ensures { OnOk result (text.new.items
-        ≡ text.old.items ++ refused_line library.now number
-        (record { rule = rule; place = place })) }
+        ≡ text.old.items ++ refused_line library.now number failure) }
 {
     text.extend_from_slice(library)?;
     text.extend_from_slice(b" refused")?;
     add_number(text, number)?;
     text.push(b' ')?;
-    text.extend_from_slice(rule.name())?;
-    add_number(text, u64::from(place))?;
+    text.extend_from_slice(failure.rule.name())?;
+    add_number(text, u64::from(failure.place))?;
     text.push(b'\n')?;
     Ok(())
 }
 
 impl Reading {
     /// Nothing read yet. Takes no memory.
-    pub fn begun(alloc: Global) -> Reading
-        ensures { result ≡ record { standings = []; notes = [] } }
+    pub fn begun(alloc: Global, prefer: &Preference) -> Reading
+        ensures { result ≡ none_read prefer.now }
     {
         Reading {
+            prefer: *prefer,
             standings: Vec::new(alloc),
+            refused: Vec::new(alloc),
             notes: Vec::new(alloc),
         }
     }
 
-    /// Takes a frame of `size` bytes, which are given where it is whole. Returns `Memory` if allocation fails.
+    /// Keeps a refused frame, and adds its line. Returns `Memory` if allocation fails.
+    fn refuse(
+        &mut self,
+        alloc: Global,
+        place: Place<'_>,
+        frame: &[u8],
+        failure: Failure,
+    ) -> Result<(), Memory>
+        ensures { OnOk result (self.new ≡ with_refused self.old
+            (refused_of place.entry.library.now place.entry.number place.entry.first frame.now
+            failure)
+            (refused_line place.entry.library.now place.entry.number failure)) }
+    {
+        let refused = Refused::of(alloc, place, frame, failure)?;
+        self.refused.push(refused)?;
+        add_refused_line(
+            &mut self.notes,
+            place.library.bytes(),
+            place.number,
+            failure,
+        )?;
+        Ok(())
+    }
+
+    /// Takes a frame, whose bytes are given again where it is whole. Returns `Memory` if allocation fails.
     fn take(
         &mut self,
         alloc: Global,
         place: Place<'_>,
-        size: usize,
+        frame: &[u8],
         cut: Cut,
         bytes: &[u8],
     ) -> Result<(), Memory>
         requires { cut ≡ Cut.Whole → IsWhole bytes.now }
         ensures { OnOk result (Takes place.entry.library.now place.entry.number
-            (placed_at place.entry.first size (cut, bytes.now))
+            (placed_at place.entry.first frame.now (cut, bytes.now))
             (first_rule cut bytes.now) self.old self.new) }
     {
         match check_frame(alloc, cut, bytes) {
             Ok(rec) => {
-                let standing = Standing::of(alloc, place.library, place.first, size as u64, rec)?;
+                let standing = Standing::of(alloc, &self.prefer, place, frame.len() as u64, rec)?;
                 self.standings.push(standing)?;
                 Ok(())
             }
             Err(Refusal::Rule { rule, place: at }) => {
-                let library = place.library.bytes();
-                add_refused_line(&mut self.notes, library, place.number, rule, at)?;
-                Ok(())
+                self.refuse(alloc, place, frame, Failure { rule, place: at })
             }
             Err(Refusal::Memory) => Err(Memory),
         }
@@ -135,7 +161,7 @@ impl Reading {
             number: place.number,
             first: place.first + (piece.len() - frame.len()) as u64,
         };
-        self.take(alloc, begun, frame.len(), cut, bytes)?;
+        self.take(alloc, begun, frame, cut, bytes)?;
         Ok(place.number + 1)
     }
 
@@ -183,10 +209,21 @@ impl Reading {
     pub fn into_standings(self) -> Vec<Standing>
         ensures { result.items ≡ self.standings }
     {
+        let (standings, _) = self.into_parts();
+        standings
+    }
+
+    /// The accepted records and the refused frames, each in the order of the files, given away with the reading. Takes no memory.
+    pub fn into_parts(self) -> (Vec<Standing>, Vec<Refused>)
+        ensures standings { result.0.items ≡ self.standings }
+        ensures refused { result.1.items ≡ self.refused }
+    {
         let Reading {
+            prefer: _,
             standings,
+            refused,
             notes: _,
         } = self;
-        standings
+        (standings, refused)
     }
 }

@@ -6,11 +6,12 @@ ghost use Rattle.union_words.specs.Meanings.{file_meaning, libraries_meaning};
 ghost use Rattle.union_words.specs.Stops.{input_of, inputs_of};
 ghost use Rattle.union_keys.specs.Lines.{AddsLines, alone};
 ghost use Rattle.union_keys.specs.Placed.{placed};
-ghost use Rattle.union_keys.specs.Readings.{TakesAll, ReadsFiles};
+ghost use Rattle.union_keys.specs.Readings.{TakesAll, ReadsFiles, none_read};
 
 use crate::line::add_line;
 use crate::reading::Reading;
 use crate::standing::Standing;
+use field_merge::preference::Preference;
 use std::alloc::Global;
 use union_base::bytes::Bytes;
 use union_base::memory::Memory;
@@ -59,8 +60,8 @@ fn read_file<F: Shelf>(
     }
 }
 
-/// What the libraries' files have, in the order of the command. A file is opened and read after the one before it. Where a file
-/// cannot be opened or read the run stops there.
+/// What the libraries' files have, in the order of the command, by a preference among libraries. A file is opened and read after the one
+/// before it. Where a file cannot be opened or read the run stops there.
 ///
 /// # Errors
 ///
@@ -69,15 +70,16 @@ fn read_file<F: Shelf>(
 /// - `Memory`: allocation failed.
 pub fn read_files<F: Shelf>(
     alloc: Global,
+    prefer: &Preference,
     libraries: &Libraries<'_>,
     shelf: &mut F,
 ) -> Result<Reading, Status>
     ensures reads { ReadsInTurn result (inputs_of (libraries_meaning libraries.now))
         (shelf_flow F.files F.faults shelf.old shelf.new)
         (λ reading contents. ReadsFiles contents (libraries_meaning libraries.now)
-        (record { standings = []; notes = [] }) reading) }
+        (none_read prefer.now) reading) }
 {
-    let mut reading = Reading::begun(alloc);
+    let mut reading = Reading::begun(alloc, prefer);
     for place in 0..libraries.len() {
         let file = libraries.at(place);
         read_file(alloc, &file, shelf, &mut reading)?;

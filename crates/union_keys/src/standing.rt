@@ -3,6 +3,7 @@ ghost use Rattle.std.specs.Prelude.{◌≡◌, IfOk};
 ghost use Rattle.marc_rules.specs.Accepted.{IsAccepted};
 ghost use Rattle.union_keys.specs.Standings.{edition_by, standing_of};
 
+use crate::place::Place;
 use catalogue_editions::edition::Edition;
 use field_merge::preference::Preference;
 use marc_parts::loads::is_deleted;
@@ -20,6 +21,8 @@ use union_base::record_id::RecordId;
 pub struct Standing {
     /// The library, and the record's control number there.
     pub id: RecordId,
+    /// Its frame's number in the file, counted from 1.
+    pub number: u64,
     /// How many bytes of the file stand before its frame.
     pub first: u64,
     /// How many bytes its frame has.
@@ -29,15 +32,20 @@ pub struct Standing {
 }
 
 /// What the library's record loads: None where it withdraws.
-fn edition_by(alloc: Global, library: &LibraryCode, rec: Record) -> Result<Option<Edition>, Memory>
+fn edition_by(
+    alloc: Global,
+    prefer: &Preference,
+    library: &LibraryCode,
+    rec: Record,
+) -> Result<Option<Edition>, Memory>
     requires { IsAccepted rec }
-    ensures { IfOk result (λ found. found ≡ edition_by library.now rec) }
+    ensures { IfOk result (λ found. found ≡ edition_by prefer.now library.now rec) }
 {
     if is_deleted(rec.leader.status) {
         return Ok(None);
     }
     accepted_can_be_loaded();
-    let edition = edition_of(alloc, &Preference::none(), library, rec)?;
+    let edition = edition_of(alloc, prefer, library, rec)?;
     Ok(Some(edition))
 }
 
@@ -45,22 +53,24 @@ impl Standing {
     /// The library's record whose frame stands there. Returns `Memory` if allocation fails.
     pub(crate) fn of(
         alloc: Global,
-        library: &LibraryCode,
-        first: u64,
+        prefer: &Preference,
+        place: Place<'_>,
         size: u64,
         rec: Record,
     ) -> Result<Standing, Memory>
         requires { IsAccepted rec }
-        ensures { IfOk result (λ s. s ≡ standing_of library.now first size rec) }
+        ensures { IfOk result (λ s. s ≡ standing_of prefer.now place.entry.library.now
+            place.entry.number place.entry.first size rec) }
     {
         let control = control_of(alloc, &rec)?;
-        let edition = edition_by(alloc, library, rec)?;
+        let edition = edition_by(alloc, prefer, place.library, rec)?;
         Ok(Standing {
             id: RecordId {
-                library: *library,
+                library: *place.library,
                 control,
             },
-            first,
+            number: place.number,
+            first: place.first,
             size,
             edition,
         })
@@ -76,6 +86,7 @@ impl Standing {
         };
         Ok(Standing {
             id: self.id.copied(alloc)?,
+            number: self.number,
             first: self.first,
             size: self.size,
             edition,

@@ -1,6 +1,7 @@
 //! The program that writes by which keys records may meet: the real files and streams, handed to the crate that does the work.
 #![tactic(auto)]
 
+use field_merge::preference::Preference;
 use library_batches::stop::Stop;
 use library_stream::frame_reader::LARGEST_SOURCE;
 use std::alloc::Global;
@@ -168,13 +169,15 @@ fn each(
         return End::Status(Status::Memory);
     };
     let mut shelf = FileShelf::new(alloc, files);
-    End::Status(match read_files(alloc, libraries, &mut shelf) {
-        Ok(reading) => match text_of_each(alloc, form, &reading) {
-            Ok(text) => written(out, notes, text.as_slice(), [reading.notes(), &[]]),
-            Err(Memory) => Status::Memory,
+    End::Status(
+        match read_files(alloc, &Preference::none(), libraries, &mut shelf) {
+            Ok(reading) => match text_of_each(alloc, form, &reading) {
+                Ok(text) => written(out, notes, text.as_slice(), [reading.notes(), &[]]),
+                Err(Memory) => Status::Memory,
+            },
+            Err(status) => status,
         },
-        Err(status) => status,
-    })
+    )
 }
 
 /// The text of the file of groups.
@@ -216,18 +219,20 @@ fn grouped(
         Ok(groups) => groups,
         Err(end) => return end,
     };
-    End::Status(match read_files(alloc, libraries, &mut shelf) {
-        Ok(reading) => match text_and_notes(alloc, form, reading, groups.as_slice()) {
-            Ok((text, refused, tells)) => written(
-                out,
-                notes,
-                text.as_slice(),
-                [refused.as_slice(), tells.as_slice()],
-            ),
-            Err(Memory) => Status::Memory,
+    End::Status(
+        match read_files(alloc, &Preference::none(), libraries, &mut shelf) {
+            Ok(reading) => match text_and_notes(alloc, form, reading, groups.as_slice()) {
+                Ok((text, refused, tells)) => written(
+                    out,
+                    notes,
+                    text.as_slice(),
+                    [refused.as_slice(), tells.as_slice()],
+                ),
+                Err(Memory) => Status::Memory,
+            },
+            Err(status) => status,
         },
-        Err(status) => status,
-    })
+    )
 }
 
 /// What is written of the groups, the lines on refused records, and what is to be told of groups.

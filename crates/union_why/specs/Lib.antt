@@ -1,3 +1,4 @@
 pub mod Fates
 pub mod Records
 pub mod Requests
+pub mod Listings

@@ -26,6 +26,7 @@ fn push_loaded(records: &mut Vec<Edition>, standing: Standing) -> Result<(), Mem
 {
     let Standing {
         id: _,
+        number: _,
         first: _,
         size: _,
         edition,
@@ -52,7 +53,7 @@ pub fn records_in(
 }
 
 /// One more owner of each of the records. Returns `Memory` if allocation fails.
-fn shared_each(alloc: Global, records: &[Edition]) -> Result<Vec<Edition>, Memory>
+pub(crate) fn shared_each(alloc: Global, records: &[Edition]) -> Result<Vec<Edition>, Memory>
     ensures { IfOk result (λ all. all.items ≡ records.now) }
 {
     let mut all = Vec::with_capacity(alloc, records.len())?;

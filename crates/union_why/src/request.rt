@@ -3,11 +3,13 @@ ghost use Rattle.std.specs.Prelude.{◌≡◌, ◌≤◌, IfOk, length, position
 ghost use Rattle.std.specs.List.{list_all};
 ghost use Rattle.std.specs.Option.{option_map};
 ghost use Rattle.union_keys.specs.Groups.{id_in};
-ghost use Rattle.union_why.specs.Requests.{request_meaning, why_of, fields_of, request_of};
-ghost use Rattle.union_words.specs.Words.{alone_of};
+ghost use Rattle.union_why.specs.Requests.{request_meaning, why_of, fields_by, fields_of, listed_as, doubtful_of, request_of};
 ghost use Rattle.union_why.specs.Requests.{is_id_word, are_ids, is_one_id, library_count};
 
+use crate::options::prefer_in;
 use crate::words::{after, before};
+use doubt_texts::form::Form;
+use field_merge::preference::Preference;
 use std::alloc::Global;
 use union_base::bytes::Bytes;
 use union_base::library_code::LibraryCode;
@@ -24,7 +26,8 @@ union-why - say why records are one edition, and why they are not
 
 USAGE
     union-why LIB=PATH .. ID [ID]
-    union-why --fields LIB=PATH .. ID
+    union-why --fields [--prefer=LIB,..] LIB=PATH .. ID
+    union-why --doubtful [--csv] LIB=PATH ..
     union-why --help          show this help
     union-why --version       show the program's name and version
 
@@ -59,8 +62,37 @@ WHAT IS WRITTEN
 
         245 of LIBA.a1, before LIBB.b1 by encoding level: $aRed ships
 
-    The reason is the encoding level (leader/17), the date of 005 or else the
-    id. 001, 003, 991 and 993 are left out, since union makes them.
+    The reason is the preference, the encoding level (leader/17), the date of
+    005 or else the id. 001, 003, 991 and 993 are left out, since union makes
+    them. --prefer=LIB,.. names the libraries whose fields come first, the best
+    first, as union export has it. It changes no merge, nor does a file of names
+    (--names of union), which is not taken here.
+
+    Of an ID that is not current the lines say why: the number and the offset of
+    the frame that withdraws it, or of each refused frame that shows it, with
+    the rule that it breaks, as union check reports it. A frame shows an ID where
+    the control number of its first 001 can be read.
+
+    With --doubtful, each edition of several records that deserves a look, in
+    the order of their ids: its id, how many records it has, the reasons, and
+    the step that first brought together records of which a reason stands:
+
+        titles       no title (245) is common to its records
+        ISBNs        its records with ISBNs (020) have none in common
+        languages    two languages differ (008/35-37)
+        carriers     two forms of item differ (008/23, or 29 of maps and visual
+                     materials), or the records that have 006 or 007 have no
+                     first byte of it in common
+        edition statements
+                     two edition statements differ (250)
+        set ISBN     two records match by nothing but an ISBN with which 'set'
+                     or 'v.' stands in 020 $a or $q
+        own numbers  records of two libraries match by nothing but a number
+                     that is, under one source, the own one (001) of both
+
+    At the end stands how often each reason stands. With --csv the same is a
+    table of four columns (RFC 4180), without the counts. Codes that tell
+    nothing, such as 'und' and fill characters, differ from none.
 
     The rules: a control number with its source, a type and an ISBN, a type and
     an ISSN, or a type that is no serial's, a title, a date and a name. A type
@@ -92,8 +124,10 @@ COST
 pub enum Request<'a> {
     /// `LIB=PATH .. ID [ID]`: tell of one or two records.
     Why(Libraries<'a>, &'a [Bytes]),
-    /// `--fields LIB=PATH .. ID`: tell where the fields of one record's edition come from.
-    Fields(Libraries<'a>, &'a [Bytes]),
+    /// `--fields [--prefer=LIB,..] LIB=PATH .. ID`: tell where the fields of one record's edition come from.
+    Fields(Preference, Libraries<'a>, &'a [Bytes]),
+    /// `--doubtful [--csv] LIB=PATH ..`: list the merged editions that deserve a look.
+    Doubtful(Form, Libraries<'a>),
     /// `--help`: tell the forms of words.
     Help,
     /// `--version`: tell the program's name and version.
@@ -110,27 +144,24 @@ impl<'a> Request<'a> {
             [] => None,
             [word, rest @ ..] => {
                 if word.bytes() == b"--help".as_slice() {
-                    alone(Request::Help, rest)
+                    match rest {
+                        [] => Some(Request::Help),
+                        _ => None,
+                    }
                 } else if word.bytes() == b"--version".as_slice() {
-                    alone(Request::Version, rest)
+                    match rest {
+                        [] => Some(Request::Version),
+                        _ => None,
+                    }
                 } else if word.bytes() == b"--fields".as_slice() {
                     fields(rest)
+                } else if word.bytes() == b"--doubtful".as_slice() {
+                    doubtful(rest)
                 } else {
                     why(words)
                 }
             }
         }
-    }
-}
-
-/// The request, where no word follows it.
-fn alone<'a>(request: Request<'a>, rest: &[Bytes]) -> Option<Request<'a>>
-    ensures { option_map request_meaning result
-        ≡ alone_of (request_meaning request.entry) rest.now }
-{
-    match rest {
-        [] => Some(request),
-        _ => None,
     }
 }
 
@@ -192,17 +223,51 @@ fn is_one_id(words: &[Bytes]) -> bool
     words.len() == 1 && are_id_words(words)
 }
 
-/// The libraries and the one id that the words name.
-fn fields<'a>(words: &'a [Bytes]) -> Option<Request<'a>>
-    ensures { option_map request_meaning result ≡ fields_of words.now }
+/// The libraries and the one id that the words name, by a preference.
+fn fields_by<'a>(prefer: &Preference, words: &'a [Bytes]) -> Option<Request<'a>>
+    ensures { option_map request_meaning result ≡ fields_by prefer.now words.now }
 {
     let (front, ids) = words.split_at(library_count(words));
     if !is_one_id(ids) {
         return None;
     }
     match Libraries::read(front) {
-        Some(libraries) => Some(Request::Fields(libraries, ids)),
+        Some(libraries) => Some(Request::Fields(*prefer, libraries, ids)),
         None => None,
+    }
+}
+
+/// The same, where the first word may be a preference.
+fn fields<'a>(words: &'a [Bytes]) -> Option<Request<'a>>
+    ensures { option_map request_meaning result ≡ fields_of words.now }
+{
+    let (prefer, rest) = prefer_in(words);
+    fields_by(&prefer, rest)
+}
+
+/// The list of the libraries that the words name.
+fn listed<'a>(form: Form, words: &'a [Bytes]) -> Option<Request<'a>>
+    ensures { option_map request_meaning result ≡ listed_as form words.now }
+{
+    match Libraries::read(words) {
+        Some(libraries) => Some(Request::Doubtful(form, libraries)),
+        None => None,
+    }
+}
+
+/// The same in the form that the first word may ask for.
+fn doubtful<'a>(words: &'a [Bytes]) -> Option<Request<'a>>
+    ensures { option_map request_meaning result ≡ doubtful_of words.now }
+{
+    match words {
+        [] => None,
+        [word, rest @ ..] => {
+            if word.bytes() == b"--csv".as_slice() {
+                listed(Form::Table, rest)
+            } else {
+                listed(Form::Lines, words)
+            }
+        }
     }
 }
 

@@ -1,6 +1,8 @@
 //! The program that tells why records are one edition: the real files and streams, handed to the crate that does the work.
 #![tactic(auto)]
 
+use doubt_texts::form::Form;
+use field_merge::preference::Preference;
 use key_hashing::hashing::Hashing;
 use std::alloc::Global;
 use std::collections::BTreeMap;
@@ -17,9 +19,12 @@ use union_io::shelf::Shelf;
 use union_io::sink::{Sink, put_all};
 use union_io::writer_sink::{ErrSink, OutSink};
 use union_keys::groups::table_of;
+use union_keys::reading::Reading;
+use union_keys::refused::Refused;
 use union_keys::run::read_files;
 use union_keys::standing::Standing;
 use union_why::fates::add_fate;
+use union_why::listings::tell_doubtful;
 use union_why::records::{records_in, tell_fields, tell_one, tell_two};
 use union_why::request::{HELP, Request, VERSION, id_in};
 use union_words::libraries::Libraries;
@@ -87,30 +92,54 @@ fn answer<Rt: Threads + Sync, F: Shelf, O: Sink>(
 ) -> Status {
     match Request::read(words) {
         None => Status::Usage,
-        Some(Request::Help) => told(out, HELP),
-        Some(Request::Version) => told(out, VERSION),
-        Some(Request::Why(libraries, ids)) => {
+        Some(request) => done(rt, hashing, alloc, &request, shelf, out),
+    }
+}
+
+/// Does what is asked for.
+fn done<Rt: Threads + Sync, F: Shelf, O: Sink>(
+    rt: &Rt,
+    hashing: Hashing,
+    alloc: Global,
+    request: &Request<'_>,
+    shelf: &mut F,
+    out: &mut O,
+) -> Status {
+    match request {
+        Request::Help => told(out, HELP),
+        Request::Version => told(out, VERSION),
+        Request::Why(libraries, ids) => {
             let asked = Asked {
-                libraries,
-                ids,
+                prefer: &Preference::none(),
+                libraries: *libraries,
+                ids: *ids,
                 of_fields: false,
             };
             tell_files(rt, hashing, alloc, &asked, shelf, out)
         }
-        Some(Request::Fields(libraries, ids)) => {
+        Request::Fields(prefer, libraries, ids) => {
             let asked = Asked {
-                libraries,
-                ids,
+                prefer,
+                libraries: *libraries,
+                ids: *ids,
                 of_fields: true,
             };
             tell_files(rt, hashing, alloc, &asked, shelf, out)
         }
+        Request::Doubtful(form, libraries) => {
+            let wanted = Wanted {
+                libraries: *libraries,
+                form: *form,
+            };
+            list_files(rt, hashing, alloc, &wanted, shelf, out)
+        }
     }
 }
 
-/// The libraries, the ids that are asked for, and whether the fields of their edition are.
+/// The libraries, and which of them are preferred, the ids that are asked for, and whether the fields of their edition are.
 #[derive(Clone, Copy)]
 struct Asked<'a> {
+    prefer: &'a Preference,
     libraries: Libraries<'a>,
     ids: &'a [Bytes],
     of_fields: bool,
@@ -125,13 +154,50 @@ fn tell_files<Rt: Threads + Sync, F: Shelf, O: Sink>(
     shelf: &mut F,
     out: &mut O,
 ) -> Status {
-    match read_files(alloc, &asked.libraries, shelf) {
-        Ok(reading) => match tell(rt, hashing, alloc, reading.into_standings(), asked) {
+    match read_files(alloc, asked.prefer, &asked.libraries, shelf) {
+        Ok(reading) => match tell(rt, hashing, alloc, reading, asked) {
             Ok(telling) => written(out, &telling),
             Err(Memory) => Status::Memory,
         },
         Err(status) => status,
     }
+}
+
+/// The libraries whose doubtful editions are listed, and in which form.
+#[derive(Clone, Copy)]
+struct Wanted<'a> {
+    libraries: Libraries<'a>,
+    form: Form,
+}
+
+/// Reads the libraries' files, and lists the merged editions that deserve a look.
+fn list_files<Rt: Threads + Sync, F: Shelf, O: Sink>(
+    rt: &Rt,
+    hashing: Hashing,
+    alloc: Global,
+    wanted: &Wanted<'_>,
+    shelf: &mut F,
+    out: &mut O,
+) -> Status {
+    match read_files(alloc, &Preference::none(), &wanted.libraries, shelf) {
+        Ok(reading) => match list(rt, hashing, alloc, reading.into_standings(), wanted.form) {
+            Ok(text) => told(out, text.as_slice()),
+            Err(Memory) => Status::Memory,
+        },
+        Err(status) => status,
+    }
+}
+
+/// The list of the merged editions that deserve a look, by the records of the files in their order.
+fn list<Rt: Threads + Sync>(
+    rt: &Rt,
+    hashing: Hashing,
+    alloc: Global,
+    standings: Vec<Standing>,
+    form: Form,
+) -> Result<Vec<u8>, Memory> {
+    let records = records_in(alloc, table_of(alloc, standings)?)?;
+    tell_doubtful(rt, hashing, alloc, records.as_slice(), form)
 }
 
 /// Writes a text.
@@ -168,12 +234,13 @@ fn tell<Rt: Threads + Sync>(
     rt: &Rt,
     hashing: Hashing,
     alloc: Global,
-    standings: Vec<Standing>,
+    reading: Reading,
     asked: &Asked<'_>,
 ) -> Result<Telling, Memory> {
     let ids = ids_of(alloc, asked.ids)?;
+    let (standings, refused) = reading.into_parts();
     let table = table_of(alloc, standings)?;
-    let fates = fates_of(alloc, &table, ids.as_slice())?;
+    let fates = fates_of(alloc, &table, refused.as_slice(), ids.as_slice())?;
     if !fates.is_empty() {
         return Ok(Telling {
             text: fates,
@@ -212,11 +279,12 @@ fn ids_of(alloc: Global, words: &[Bytes]) -> Result<Vec<RecordId>, Memory> {
 fn fates_of(
     alloc: Global,
     table: &BTreeMap<RecordId, Standing>,
+    refused: &[Refused],
     ids: &[RecordId],
 ) -> Result<Vec<u8>, Memory> {
     let mut text = Vec::new(alloc);
     for id in ids {
-        add_fate(&mut text, id, table.get(id))?;
+        add_fate(&mut text, id, table.get(id), refused)?;
     }
     Ok(text)
 }

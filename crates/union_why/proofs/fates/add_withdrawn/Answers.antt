@@ -7,7 +7,7 @@ unfolding withdrawn_text
 returns c =
     rw (
       c.in_ok-extend_from_slice-2.ensures.items,
-      c.in_ok-add_number.ensures,
+      c.in_ok-add_frame.ensures,
       c.in_ok-extend_from_slice.ensures.items,
       c.in_ok-add_id.ensures,
     )

@@ -1,0 +1,9 @@
+pub mod Comparing
+pub mod Reasons
+pub mod Pairs
+pub mod Sets
+pub mod OwnNumbers
+pub mod Doubts
+pub mod DoubtfulSteps
+pub mod Groups
+pub mod Placing
