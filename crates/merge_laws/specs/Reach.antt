@@ -10,3 +10,7 @@ near is_near list x = count_by (λ w. is_near w x) list
 -- members x dominates those that match it, and these are counted.
 abbrev pub reach : {A : Type 0} → (A → A → Bool) → (A → A → Bool) → List A → A → ℕ
 reach match is_near list x = (count_by (λ w. match w x) list + 1) * near is_near list x
+
+-- The square of a number: how many tests of two values there are among so many, each with each.
+abbrev pub square : ℕ → ℕ
+square n = n * n

@@ -2,10 +2,9 @@
 //! contract is a fact that follows from the laws of the two traits alone. Callers and crates above cite it by a call.
 //!
 //! Cost: none. The definitions are in specs/Resolution.antt and specs/Reach.antt.
-ghost use Rattle.std.specs.Prelude.{◌≡◌, ◌≤◌, ◌↔◌, List, [], ◌∷◌, ◌++◌, IsTrue, Contains};
-ghost use Rattle.std.specs.List.Sorted.{IsPermutation};
+ghost use Rattle.std.specs.Prelude.{◌≡◌, ◌≤◌, List, [], ◌∷◌, ◌++◌};
 ghost use Rattle.merge_laws.specs.Reach.{reach};
-ghost use Rattle.merge_laws.specs.Resolution.{IsDominated, IsResolution, AreApart, IsDominatedOnce};
+ghost use Rattle.merge_laws.specs.Resolution.{IsDominated, DominationGoesOn, IsResolution, HasOneResolution, DominatesMatch, AreApart, DominatesOnce};
 
 use crate::resolvable::Resolvable;
 
@@ -13,9 +12,7 @@ use crate::resolvable::Resolvable;
 /// dominate one another are one.
 pub fn domination_is_an_order<R: Resolvable>()
     ensures reflexive { (x : R) → IsDominated R.meets R.join x x }
-    ensures transitive { (x y z : R) → IsDominated R.meets R.join x y
-        → IsDominated R.meets R.join y z
-        → IsDominated R.meets R.join x z }
+    ensures transitive { DominationGoesOn R.meets R.join }
     ensures antisymmetric { (x y : R) → IsDominated R.meets R.join x y
         → IsDominated R.meets R.join y x → x ≡ y }
 {}
@@ -28,21 +25,18 @@ pub fn resolution_exists<R: Resolvable>()
 
 /// Members of a resolution at different places do not match.
 pub fn resolution_is_apart<R: Resolvable>()
-    ensures { (list resolution : List R) → IsResolution R.meets R.join list resolution
-        → AreApart R.meets resolution }
+    ensures { (list all : List R) → IsResolution R.meets R.join list all → AreApart R.meets all }
 {}
 
 /// Each member of a list is dominated by the member at exactly one place of the list's resolution.
 pub fn each_is_dominated_once<R: Resolvable>()
-    ensures { (list resolution : List R) → IsResolution R.meets R.join list resolution
-        → (x : R) → Contains list x → IsDominatedOnce R.meets R.join resolution x }
+    ensures { (list all : List R) → IsResolution R.meets R.join list all
+        → DominatesOnce R.meets R.join list all }
 {}
 
 /// A list has one resolution, up to the order of its members.
 pub fn resolution_is_unique<R: Resolvable>()
-    ensures { (list one other : List R) → IsResolution R.meets R.join list one
-        → IsResolution R.meets R.join list other
-        → IsPermutation one other }
+    ensures { (list : List R) → HasOneResolution R.meets R.join list }
 {}
 
 /// What resolves a resolution and more values resolves all the values: one value more, or a second list by its own
@@ -60,9 +54,8 @@ pub fn resolution_goes_on<R: Resolvable>()
 
 /// The members of a list that a member of its resolution dominates are those that match it.
 pub fn dominated_is_matching<R: Resolvable>()
-    ensures { (list resolution : List R) → IsResolution R.meets R.join list resolution → (w x : R)
-        → Contains list w
-        → Contains resolution x → IsDominated R.meets R.join w x ↔ IsTrue (R.meets w x) }
+    ensures { (list all : List R) → IsResolution R.meets R.join list all
+        → DominatesMatch R.meets R.join list all }
 {}
 
 /// The reach of an insertion that counts the values which an index finds is within the one that counts all values with a key in

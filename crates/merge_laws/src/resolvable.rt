@@ -1,7 +1,7 @@
 //! Values that match or do not, and merge where they do.
-ghost use Rattle.std.specs.Prelude.{◌≡◌, ◌≢◌, ◌+◌, ◌↔◌, Bool, true, false, List, IfOk, IfSome, Contains, AllPairs};
+ghost use Rattle.std.specs.Prelude.{◌≡◌, ◌≢◌, ◌+◌, ◌↔◌, Bool, true, List, IfOk, IfSome, Contains, AllPairs};
 ghost use Rattle.merge_laws.specs.Resolution.{MatchLaws, KeyLaws};
-ghost use Rattle.merge_laws.specs.Candidates.{SeekingLaws, FindingLaws};
+ghost use Rattle.merge_laws.specs.Candidates.{SeekingLaws, FindingLaws, AreKeysBeside, FindsBeside};
 
 use crate::join::Join;
 use crate::steps::Steps;
@@ -81,8 +81,8 @@ pub trait Resolvable: Join {
     fn posted_beside(&self, alloc: Global, base: &Self) -> Result<Option<Vec<Self::Key>>, Memory>
         ensures keeps { IfOk result (λ o. IfSome o (λ keys. (k : Self.Key)
             → is_posted base.now k → is_posted self.now k)) }
-        ensures keys { IfOk result (λ o. IfSome o (λ keys. (k : Self.Key) → Contains keys.items k
-            ↔ (is_posted self.now k × (is_posted base.now k → ⊥)))) }
+        ensures keys { IfOk result (λ o. IfSome o (λ keys. AreKeysBeside is_posted self.now base.now
+            keys.items)) }
         ensures once { IfOk result (λ o. IfSome o (λ keys. AllPairs (λ j k. j ≢ k) keys.items)) };
 
     /// The keys under which what the value can match is looked up, where it is known that `base` does not match it. Returns
@@ -90,8 +90,7 @@ pub trait Resolvable: Join {
     fn sought_beside(&self, alloc: Global, base: &Self) -> Result<Vec<Self::Key>, Memory>
         ensures keys { IfOk result (λ keys. (k : Self.Key) → Contains keys.items k
             → seeks self.now k) }
-        ensures whole { IfOk result (λ keys. (x : Self) → meets self.now x ≡ true
-            → meets base.now x ≡ false → (k : Self.Key) × Contains keys.items k × is_posted x k) };
+        ensures whole { IfOk result (λ keys. FindsBeside meets is_posted self.now base.now keys.items) };
 
     /// Matching is reflexive and symmetric, and what matches one side of a merge matches the merge.
     ghost match_laws: { MatchLaws meets Self.join };

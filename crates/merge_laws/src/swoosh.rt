@@ -3,10 +3,11 @@
 //! Guarantee: what it answers is a resolution of its list (specs/Resolution.antt). Cost: at most k * k match tests and
 //! fewer than k merges for k values; values are moved and never copied. Values that are known not to match, as those of an
 //! earlier resolution, are tested against more values alone.
-ghost use Rattle.std.specs.Prelude.{◌≡◌, ◌+◌, ◌*◌, ◌<◌, ◌≤◌, ◌++◌, ◌∷◌, [], false, IsTrue, length, slice_index_or};
-ghost use Rattle.std.specs.Prelude.{IfOk, IfSome, IfNone, OnOk, All};
+ghost use Rattle.std.specs.Prelude.{◌≡◌, ◌+◌, ◌*◌, ◌<◌, ◌≤◌, ◌++◌, ◌∷◌, [], IsTrue, length, slice_index_or};
+ghost use Rattle.std.specs.Prelude.{IfOk, IfSome, IfNone, OnOk};
 ghost use Rattle.std.specs.List.Sorted.{IsPermutation};
-ghost use Rattle.merge_laws.specs.Resolution.{AreApart, IsResolution};
+ghost use Rattle.merge_laws.specs.Reach.{square};
+ghost use Rattle.merge_laws.specs.Resolution.{AreApart, IsResolution, MatchesNone};
 
 use crate::resolvable::Resolvable;
 use crate::steps::Steps;
@@ -23,7 +24,7 @@ fn first_match<R: Resolvable, L: Ledger>(
     ensures within { IfSome result (λ i. i < length done.now) }
     ensures found { IfSome result (λ i. (d : R)
         → IsTrue (R.meets value.now (slice_index_or done.now i d))) }
-    ensures none { IfNone result (All (λ x. R.meets value.now x ≡ false) done.now) }
+    ensures none { IfNone result (MatchesNone R.meets value.now done.now) }
     ensures cost { steps.new ≤ steps.old + length done.now }
 {
     for (i, other) in done.iter().enumerate() {
@@ -43,7 +44,7 @@ fn take_match<R: Resolvable, L: Ledger>(
     ensures taken { IfSome result (λ other. IsPermutation done.old.items (other ∷ done.new.items)) }
     ensures matches { IfSome result (λ other. IsTrue (R.meets value.now other)) }
     ensures same { IfNone result (done.new.items ≡ done.old.items) }
-    ensures none { IfNone result (All (λ x. R.meets value.now x ≡ false) done.old.items) }
+    ensures none { IfNone result (MatchesNone R.meets value.now done.old.items) }
     ensures cost { steps.new ≤ steps.old + length done.old.items }
 {
     match first_match(done.as_slice(), value, steps) {
@@ -72,9 +73,7 @@ pub fn resolve_onto<R: Resolvable, L: Ledger>(
     requires { AreApart R.meets apart.items }
     ensures resolved { IfOk result (λ all. IsResolution R.meets R.join (apart.items ++ more.items)
         all.items) }
-    ensures cost { steps.new
-        ≤ steps.old + (length apart.items + length more.items) *
-        (length apart.items + length more.items) }
+    ensures cost { steps.new ≤ steps.old + square (length apart.items + length more.items) }
 {
     let mut left = more;
     let mut done = apart;
