@@ -1,5 +1,6 @@
 -- What is known of a directory whose entries were read.
 use Rattle.std.specs.Prelude.{◌≡◌, ℕ, Bool, true, ◌&&◌, nat_le, List, map, Option, None}
+use Rattle.std.specs.Global.{Vec}
 use Rattle.std.specs.List.{list_all, flat_map}
 use Rattle.marc_leader.specs.declared.entry.Entry.{Entry}
 use Rattle.union_base.specs.Fields.{is_tag}
@@ -19,6 +20,18 @@ pub record AreRead (directory : List ℕ) (count : ℕ) (entries : List Entry) :
   pub spelled : directory ≡ flat_map entry_bytes entries
   pub are : entries ≡ map entry_in (entry_texts count directory)
   pub formed : list_all is_formed entries ≡ true
+
+-- the directory spells the entries in the vector, which stand in its texts
+abbrev pub HasRead : List ℕ → ℕ → Vec Entry → Type 0
+HasRead directory count entries = AreRead directory count entries.items
+
+-- the fields in the vector lie at the entries
+abbrev pub LieAt : List ℕ → List Entry → Vec Field → Type 0
+LieAt bytes entries fields = AreEntriesOf bytes entries fields.items
+
+-- they lie at the entries, whose ranges partition the data
+abbrev pub LieTiled : List ℕ → List Entry → Vec Field → Type 0
+LieTiled bytes entries fields = (tiling_failure bytes entries ≡ None) × AreEntriesOf bytes entries fields.items
 
 -- the directory spells entries at which the fields lie, and the entries' ranges partition the data
 pub record AreDecoded (directory bytes : List ℕ) (count : ℕ) (fields : List Field) : Type 0 where

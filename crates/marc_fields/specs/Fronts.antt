@@ -4,6 +4,7 @@ use Rattle.marc_leader.specs.Codes.{Codes}
 use Rattle.marc_leader.specs.Leader.{leader_of}
 use Rattle.marc_leader.specs.declared.leader.Leader.{Leader}
 use Rattle.marc_fields.specs.Rules.{base_in, has_base}
+use Rattle.marc_fields.specs.declared.head.Front.{Front}
 
 -- the leader is read, and these are its codes
 pub record IsCounted (text : List ℕ) (codes : Codes) : Type 0 where
@@ -16,3 +17,7 @@ pub record IsFront (leader frame : List ℕ) (codes : Codes) (base : ℕ) : Type
   pub read : leader_of leader ≡ Ok (record { length = length frame; base = base; codes = codes })
   pub based : has_base leader frame ≡ true
   pub base_is : base ≡ base_in leader
+
+-- what is kept of the leader are its codes and its base address
+abbrev pub IsFrontOf : List ℕ → List ℕ → Front → Type 0
+IsFrontOf leader frame front = IsFront leader frame front.codes front.base

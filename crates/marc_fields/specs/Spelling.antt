@@ -78,6 +78,10 @@ abbrev pub entries_from : ℕ → List Field → List Entry
 entries_from start [] = []
 entries_from start (f ∷ fields) = entry_at start f ∷ entries_from (start + length (stored f)) fields
 
+-- the directory of fields that lie one after the other
+abbrev pub directory_of : List Field → List ℕ
+directory_of fields = flat_map entry_bytes (entries_from 0 fields)
+
 -- the bytes of the frame that has the fields' bytes in the order of the directory
 abbrev pub frame_size : Record → ℕ
 frame_size r = 26 + 12 * length r.fields + length (flat_map stored r.fields)
@@ -85,6 +89,10 @@ frame_size r = 26 + 12 * length r.fields + length (flat_map stored r.fields)
 -- that frame
 unfoldable pub spelling : Record → List ℕ
 spelling r = frame_text (frame_size r) r.leader (entries_from 0 r.fields) (flat_map stored r.fields)
+
+-- the frame spells the record
+abbrev pub HasSpelling : Record → Type 0
+HasSpelling r = Spells (spelling r) r
 
 -- four digits can say how long the field is
 abbrev pub is_short : Field → Bool

@@ -1,5 +1,6 @@
 -- Marks of the bytes that have their entry, and ranges that need none.
-use Rattle.std.specs.Prelude.{◌≡◌, ℕ, ◌+◌, ◌-◌, Bool, false, ◌&&◌, ◌==◌, nat_le, List, [], ◌∷◌, length, take, drop, slice_index, slice_index_or, if◌then◌else◌}
+use Rattle.std.specs.Prelude.{◌≡◌, ℕ, ◌+◌, ◌-◌, Bool, false, not, ◌&&◌, ◌||◌, ◌==◌, nat_le, nat_lt, List, [], ◌∷◌, length, take, drop, slice_index, slice_index_or, if◌then◌else◌}
+use Rattle.std.specs.List.{list_any}
 use Rattle.marc_leader.specs.declared.entry.Entry.{Entry}
 use Rattle.union_base.specs.Fields.{field_terminator}
 use Rattle.marc_fields.specs.Rows.{ends_in_only}
@@ -12,6 +13,15 @@ is_marked mark = mark
 -- the marked bytes are those in the range of one of the entries
 abbrev pub AreOwners : List Entry → List Bool → Type 0
 AreOwners entries marks = (at : ℕ) → slice_index_or marks at false ≡ is_owned entries at
+
+-- no byte of the entry's range is marked
+abbrev pub is_free : List Bool → Entry → Bool
+is_free marks e = not (list_any is_marked (take e.length (drop e.start marks)))
+
+-- so many bytes from there on are marked too
+abbrev pub AreMarkedFrom : List Bool → List Bool → ℕ → ℕ → Type 0
+AreMarkedFrom old new start size =
+    (k : ℕ) → slice_index_or new k false ≡ (slice_index_or old k false || (nat_le start k && nat_lt k (start + size)))
 
 -- how often the byte stands in the bytes
 abbrev pub count_of : ℕ → List ℕ → ℕ

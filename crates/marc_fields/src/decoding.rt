@@ -1,13 +1,13 @@
 //! Frames read as records.
-ghost use Rattle.std.specs.Prelude.{◌≡◌, ◌*◌, ◌≤◌, IsTrue, ◌↔◌, true, length, None};
+ghost use Rattle.std.specs.Prelude.{◌≡◌, ◌*◌, ◌≤◌, IsTrue, ◌↔◌, true, length};
 ghost use Rattle.std.specs.List.{list_all};
-ghost use Rattle.marc_fields.specs.Directories.{is_formed, AreDecoded};
+ghost use Rattle.marc_fields.specs.Directories.{is_formed, AreDecoded, LieTiled};
 ghost use Rattle.marc_fields.specs.Fronts.{IsFront};
 ghost use Rattle.marc_fields.specs.Refusals.{RefusesUnspelled};
 ghost use Rattle.marc_fields.specs.Rows.{Answers};
-ghost use Rattle.marc_fields.specs.Rules.{IsFrame, entry_texts, texts_of, data_in, leader_of_frame, tiling_failure, data_failure, parts_failure, first_failure};
+ghost use Rattle.marc_fields.specs.Rules.{IsFrame, entry_texts, texts_of, data_in, leader_of_frame, data_failure, parts_failure, first_failure};
 ghost use Rattle.marc_fields.specs.Shapes.{ends_no_record};
-ghost use Rattle.marc_fields.specs.Spelling.{AreEntriesOf, Spells};
+ghost use Rattle.marc_fields.specs.Spelling.{Spells};
 
 use crate::directory::check_directory;
 use crate::encoding::LONGEST_FRAME;
@@ -91,8 +91,7 @@ fn decode_data(alloc: Global, entries: &[Entry], bytes: &[u8]) -> Result<Vec<Fie
     requires formed { list_all is_formed entries.now ≡ true }
     requires inner { ends_no_record bytes.now ≡ true }
     ensures { Answers result (data_failure bytes.now entries.now)
-        (λ fields. (tiling_failure bytes.now entries.now ≡ None)
-        × AreEntriesOf bytes.now entries.now fields.items) }
+        (LieTiled bytes.now entries.now) }
 {
     match check_tiling(alloc, entries, bytes) {
         Ok(()) => check_fields(alloc, entries, bytes),
@@ -124,7 +123,7 @@ fn decode_behind(alloc: Global, frame: &[u8], front: &Front) -> Result<Record, D
     requires frame { IsFrame frame.now }
     requires front { IsFront (leader_of_frame frame.now) frame.now front.now.codes front.now.base }
     ensures { Answers result (parts_failure (texts_of frame.now) (data_in frame.now))
-        (λ found. Spells frame.now found) }
+        (Spells frame.now) }
 {
     let base = front.base;
     let parts = split_frame(frame, base);
@@ -148,7 +147,7 @@ fn decode_behind(alloc: Global, frame: &[u8], front: &Front) -> Result<Record, D
 /// Linear in the frame. Returns `Memory` if allocation fails.
 pub fn decode(alloc: Global, frame: &[u8]) -> Result<Record, DecodeRefusal>
     requires { IsFrame frame.now }
-    ensures answer { Answers result (first_failure frame.now) (λ found. Spells frame.now found) }
+    ensures answer { Answers result (first_failure frame.now) (Spells frame.now) }
     ensures refused { RefusesUnspelled result frame.now }
 {
     match check_head(frame) {

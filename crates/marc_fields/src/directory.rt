@@ -1,7 +1,7 @@
 //! The directory of a frame: its entries, looked at rule by rule.
 ghost use Rattle.std.specs.Prelude.{◌≡◌, ◌+◌, ◌*◌, ◌<◌, ◌≤◌, length, take, Some};
 ghost use Rattle.marc_leader.specs.Entry.{entry_of};
-ghost use Rattle.marc_fields.specs.Directories.{AreRead, directory_failure_from};
+ghost use Rattle.marc_fields.specs.Directories.{HasRead, directory_failure_from};
 ghost use Rattle.marc_fields.specs.Rows.{Answers, least_where_not};
 ghost use Rattle.marc_fields.specs.Rules.{entry_texts, has_digits, directory_failure};
 
@@ -73,7 +73,7 @@ pub fn check_directory(
     requires size { length directory.now ≡ 12 * count }
     requires few { count ≤ 9999 }
     ensures { Answers result (directory_failure (entry_texts count directory.now))
-        (λ entries. AreRead directory.now count entries.items) }
+        (HasRead directory.now count) }
 {
     let mut entries = Vec::with_capacity(alloc, count)?;
     let mut rest = directory;

@@ -1,10 +1,10 @@
 //! Records written as frames.
-ghost use Rattle.std.specs.Prelude.{◌≡◌, ◌+◌, ◌*◌, ◌++◌, ◌≤◌, min, length, map, OnOk, OnErr, IfErr, Some, None, if◌then◌else◌, nat_le, IsTrue};
+ghost use Rattle.std.specs.Prelude.{◌≡◌, ◌+◌, ◌*◌, ◌++◌, ◌≤◌, min, length, map, OnOk, OnErr, IfErr, Some, None, if◌then◌else◌, IsTrue};
 ghost use Rattle.std.specs.List.{list_all, flat_map};
 ghost use Rattle.marc_leader.specs.Codes.{are_printable};
 ghost use Rattle.union_base.specs.Fields.{spelled};
-ghost use Rattle.marc_fields.specs.Spelling.{stored, is_short, longest_frame, entry_bytes, entries_from, leader_bytes, frame_size, spelling, Spells, record_of, borrowed_record};
-ghost use Rattle.marc_fields.specs.Appending.{Appends, too_long, IsCause};
+ghost use Rattle.marc_fields.specs.Spelling.{stored, is_short, entry_bytes, leader_bytes, frame_size, spelling, Spells, HasSpelling, directory_of, record_of, borrowed_record};
+ghost use Rattle.marc_fields.specs.Appending.{Appends, counted_bytes, frame_within, too_long, IsCause};
 
 use crate::has_field::HasField;
 use marc_leader::codes::LeaderCodes;
@@ -47,8 +47,7 @@ pub fn stored_size(body: &Body) -> usize
 
 /// How many bytes the fields have, at most one more than a frame may have; None where a field is too long.
 fn data_size<F: HasField>(fields: &[F]) -> Option<usize>
-    ensures { result ≡ (if list_all is_short (map F.field fields.now) then Some
-        (min (length (flat_map stored (map F.field fields.now))) 100000) else None) }
+    ensures { result ≡ counted_bytes (map F.field fields.now) }
 {
     let mut size = 0;
     for each in fields {
@@ -63,8 +62,7 @@ fn data_size<F: HasField>(fields: &[F]) -> Option<usize>
 
 /// The size of a frame with `entries` entries and `bytes` bytes of data; None where it is more than a frame may have.
 fn counted_size(entries: usize, bytes: usize) -> Option<usize>
-    ensures { result ≡ (if nat_le (26 + 12 * entries + bytes) longest_frame then Some
-        (26 + 12 * entries + bytes) else None) }
+    ensures { result ≡ frame_within (26 + 12 * entries + bytes) }
 {
     if entries > LONGEST_FRAME || bytes > LONGEST_FRAME {
         return None;
@@ -112,7 +110,7 @@ fn append_entries<F: HasField>(fields: &[F], into: &mut Vec<u8>) -> Result<(), A
     requires short { IsTrue (list_all is_short (map F.field fields.now)) }
     requires few { length (flat_map stored (map F.field fields.now)) ≤ 99999 }
     ensures { Appends result into.old.items into.new.items
-        (flat_map entry_bytes (entries_from 0 (map F.field fields.now))) }
+        (directory_of (map F.field fields.now)) }
 {
     let mut start = 0;
     for each in fields {
@@ -184,8 +182,7 @@ fn encode_all<F: HasField>(
 ) -> Result<(), EncodeRefusal>
     ensures written { OnOk result (into.new.items ≡ into.old.items
         ++ spelling (record_of codes (map F.field fields.now))) }
-    ensures spells { OnOk result (Spells (spelling (record_of codes (map F.field fields.now)))
-        (record_of codes (map F.field fields.now))) }
+    ensures spells { OnOk result (HasSpelling (record_of codes (map F.field fields.now))) }
     ensures written_exactly { OnOk result
         (too_long (record_of codes (map F.field fields.now)) ≡ None) }
     ensures refused_exactly { IfErr result (λ refusal. IsCause refusal
@@ -232,8 +229,7 @@ pub fn encode_fields(
 ) -> Result<(), EncodeRefusal>
     ensures written { OnOk result (into.new.items ≡ into.old.items
         ++ spelling (borrowed_record codes fields.now)) }
-    ensures spells { OnOk result (Spells (spelling (borrowed_record codes fields.now))
-        (borrowed_record codes fields.now)) }
+    ensures spells { OnOk result (HasSpelling (borrowed_record codes fields.now)) }
     ensures written_exactly { OnOk result (too_long (borrowed_record codes fields.now) ≡ None) }
     ensures refused_exactly { IfErr result (λ refusal. IsCause refusal
         (too_long (borrowed_record codes fields.now))) }

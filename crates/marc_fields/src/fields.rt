@@ -3,11 +3,10 @@
 ghost use Rattle.std.specs.Prelude.{⊤, ◌≡◌, ◌≤◌, true, IfOk, length, None};
 ghost use Rattle.std.specs.List.{list_all};
 ghost use Rattle.marc_leader.specs.declared.entry.Entry.{Entry};
-ghost use Rattle.marc_fields.specs.Directories.{is_formed};
+ghost use Rattle.marc_fields.specs.Directories.{LieAt, is_formed};
 ghost use Rattle.marc_fields.specs.Rows.{Answers, Checks, least_where_not};
 ghost use Rattle.marc_fields.specs.Rules.{is_tile, text_of, is_control_shaped, is_data_shaped, shape_failure};
 ghost use Rattle.marc_fields.specs.Shapes.{are_coded, ends_no_record, has_shape};
-ghost use Rattle.marc_fields.specs.Spelling.{AreEntriesOf};
 ghost use Rattle.marc_fields.specs.declared.rules.Rule.TheVariants.{DataShape};
 
 use crate::decoding::DecodeRefusal;
@@ -127,7 +126,7 @@ pub fn read_fields(alloc: Global, entries: &[Entry], bytes: &[u8]) -> Result<Vec
     requires formed { list_all is_formed entries.now ≡ true }
     requires inner { ends_no_record bytes.now ≡ true }
     requires shaped { shape_failure bytes.now entries.now ≡ None }
-    ensures { IfOk result (λ fields. AreEntriesOf bytes.now entries.now fields.items) }
+    ensures { IfOk result (LieAt bytes.now entries.now) }
 {
     let mut fields = Vec::with_capacity(alloc, entries.len())?;
     for entry in entries {
@@ -147,7 +146,7 @@ pub fn check_fields(
     requires formed { list_all is_formed entries.now ≡ true }
     requires inner { ends_no_record bytes.now ≡ true }
     ensures { Answers result (shape_failure bytes.now entries.now)
-        (λ fields. AreEntriesOf bytes.now entries.now fields.items) }
+        (LieAt bytes.now entries.now) }
 {
     match check_shapes(entries, bytes) {
         Ok(()) => Ok(read_fields(alloc, entries, bytes)?),

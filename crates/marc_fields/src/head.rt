@@ -2,7 +2,7 @@
 ghost use Rattle.std.specs.Prelude.{◌≡◌, ◌+◌, ◌≤◌, true, length, Some, None, Ok, Err, if◌then◌else◌};
 ghost use Rattle.marc_leader.specs.Leader.{length_place, base_place, misfit};
 ghost use Rattle.marc_leader.specs.Numeral.{are_digits};
-ghost use Rattle.marc_fields.specs.Fronts.{IsFront, IsCounted};
+ghost use Rattle.marc_fields.specs.Fronts.{IsFrontOf, IsCounted};
 ghost use Rattle.marc_fields.specs.Rows.{Checks, fails};
 ghost use Rattle.marc_fields.specs.Rules.{leader_of_frame, is_base, has_base, base_in, head_failure, leader_failure};
 ghost use Rattle.marc_fields.specs.declared.rules.Rule.TheVariants.{LeaderCounts};
@@ -77,7 +77,7 @@ fn check_leader(leader: &[u8], frame: &[u8]) -> Result<Front, Failure>
     requires size { length leader.now ≡ 24 }
     requires long { 26 ≤ length frame.now }
     ensures { Checks result (leader_failure leader.now frame.now)
-        (λ front. IsFront leader.now frame.now front.codes front.base) }
+        (IsFrontOf leader.now frame.now) }
 {
     let Some(size) = digits(&leader[..5]) else {
         return Err(Failure {
@@ -107,7 +107,7 @@ fn check_leader(leader: &[u8], frame: &[u8]) -> Result<Front, Failure>
 /// Takes no memory.
 pub fn check_head(frame: &[u8]) -> Result<Front, Failure>
     ensures { Checks result (head_failure frame.now)
-        (λ front. IsFront (leader_of_frame frame.now) frame.now front.codes front.base) }
+        (IsFrontOf (leader_of_frame frame.now) frame.now) }
 {
     if frame.len() < SMALLEST_FRAME {
         return Err(Failure {

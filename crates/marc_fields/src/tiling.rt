@@ -2,11 +2,11 @@
 //! other in the order of the directory, as they do in nearly all frames, partition it if each ends in a terminator and the
 //! data have no more of them. Else each byte of the data is marked as it finds its entry, and the first entry that meets a
 //! mark is refused. The work is linear in the data.
-ghost use Rattle.std.specs.Prelude.{⊤, ◌≡◌, ◌+◌, ◌≤◌, ℕ, ◌||◌, ◌&&◌, [], not, false, true, nat_le, nat_lt, length, take, drop, Some, None, slice_index_or};
+ghost use Rattle.std.specs.Prelude.{⊤, ◌≡◌, ◌+◌, ◌≤◌, ◌&&◌, [], false, true, length, Some, None};
 ghost use Rattle.std.specs.List.{list_any, list_all};
 ghost use Rattle.marc_fields.specs.Rows.{Answers, Checks};
 ghost use Rattle.marc_fields.specs.Rules.{is_tile, tiling_from, tiling_failure};
-ghost use Rattle.marc_fields.specs.Tilings.{AreOwners, is_marked, end_in_order, lie_in_order};
+ghost use Rattle.marc_fields.specs.Tilings.{AreMarkedFrom, AreOwners, is_free, is_marked, end_in_order, lie_in_order};
 
 use crate::counting::count_of;
 use crate::decoding::DecodeRefusal;
@@ -34,7 +34,7 @@ fn are_marked(marks: &[bool]) -> bool
 fn is_free_tile(entry: &Entry, marks: &[bool], bytes: &[u8]) -> bool
     requires { length marks.now ≡ length bytes.now }
     ensures { result ≡ (is_tile bytes.now entry.now
-        && not (list_any is_marked (take entry.now.length (drop entry.now.start marks.now)))) }
+        && is_free marks.now entry.now) }
 {
     let start = entry.start as usize;
     let size = entry.length as usize;
@@ -51,8 +51,7 @@ fn is_free_tile(entry: &Entry, marks: &[bool], bytes: &[u8]) -> bool
 /// Marks `size` bytes from `start` on.
 fn mark(marks: &mut [bool], start: usize, size: usize)
     requires { start + size ≤ length marks.old }
-    ensures { (k : ℕ) → slice_index_or marks.new k false
-        ≡ (slice_index_or marks.old k false || (nat_le start k && nat_lt k (start + size))) }
+    ensures { AreMarkedFrom marks.old marks.new start size }
 {
     for at in start..start + size {
         marks[at] = true;
