@@ -1,5 +1,5 @@
 -- The content of one record.
-use Rattle.std.specs.Prelude.{ℕ, Bool, not, ◌||◌, List, [], ◌∷◌, refl, codes, filter, find}
+use Rattle.std.specs.Prelude.{◌↔◌, ℕ, Bool, not, ◌||◌, IsTrue, Contains, List, [], ◌∷◌, refl, codes, filter, find}
 use Rattle.std.specs.Option.{option_map, unwrap_or}
 use Rattle.union_base.specs.SortedLists.{set_of}
 use Rattle.union_base.specs.FieldOrder.{field_cmp}
@@ -79,3 +79,11 @@ content prefer library r = record {
   united = set_of field_cmp (filter is_united r.fields);
   kept = kept-one (contributor library r) (filter is_united r.fields);
 }
+
+-- it holds of each record, in whatever library, and its content, by whatever preference
+abbrev pub OfEachRecord : (Record → Content → Type 0) → Type 0
+OfEachRecord Holds = (prefer : List (List ℕ)) (library : List ℕ) (r : Record) → Holds r (content prefer library r)
+
+-- the fields are those of the others that are united
+abbrev pub AreUnitedOf : List Field → List Field → Type 0
+AreUnitedOf fields united = (field : Field) → Contains united field ↔ (Contains fields field × IsTrue (is_united field))

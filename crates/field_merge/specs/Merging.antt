@@ -1,4 +1,5 @@
 -- What two contents merge to.
+use Rattle.std.specs.Prelude.{◌↔◌, ◌⊎◌, List, Contains}
 use Rattle.std.specs.declared.cmp.Ordering.{Ordering}
 use Rattle.std.specs.Ordering.{match_ordering}
 use Rattle.std.specs.Option.{option_cmp}
@@ -28,3 +29,7 @@ join a b = record {
   united = union field_cmp a.united b.united;
   kept = kept-union a.contributors b.contributors a.united b.united a.kept b.kept;
 }
+
+-- the members of the list are those of the two others
+abbrev pub AreThoseOf : {A : Type 0} → List A → List A → List A → Type 0
+AreThoseOf {A} one other both = (x : A) → Contains both x ↔ (Contains one x ⊎ Contains other x)

@@ -55,3 +55,7 @@ pub record ArePartsOf (rank : Rank) (fields : List Field) (parts : SlotFields) :
   pub f240 : parts.f240 ≡ option_map (slot rank) (first_under (codes "240") fields)
   pub f245 : parts.f245 ≡ option_map (slot rank) (first_under (codes "245") fields)
   pub united : parts.united.items ≡ filter is_united fields
+
+-- the field is put to the parts of whatever fields stood before it
+abbrev pub AddsPart : Rank → Field → SlotFields → SlotFields → Type 0
+AddsPart rank field old new = (fields : List Field) → ArePartsOf rank fields old → ArePartsOf rank (fields ++ field ∷ []) new

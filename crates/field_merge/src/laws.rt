@@ -2,26 +2,21 @@
 //! Each function here does nothing when it runs: its contract is the law.
 //!
 //! So what holds of the fields of every loaded record holds of the fields of whatever their contents merge to.
-ghost use Rattle.std.specs.Prelude.{◌≡◌, ◌↔◌, ◌⊎◌, ℕ, List, IfSome, IsTrue, Contains};
-ghost use Rattle.union_base.specs.declared.record_id.RecordId.{RecordId};
-ghost use Rattle.union_base.specs.declared.field.Field.{Field};
-ghost use Rattle.marc_parts.specs.declared.marc_record.Record.{Record};
+ghost use Rattle.std.specs.Prelude.{◌≡◌, ◌⊎◌, IfSome, IsTrue, Contains};
 ghost use Rattle.marc_parts.specs.Loads.{is_loadable};
-ghost use Rattle.field_merge.specs.Contents.{is_united, content};
-ghost use Rattle.field_merge.specs.Merging.{join};
+ghost use Rattle.field_merge.specs.Contents.{AreUnitedOf, OfEachRecord};
+ghost use Rattle.field_merge.specs.Merging.{AreThoseOf, join};
 ghost use Rattle.field_merge.specs.declared.content.Content.{Content};
 
 /// The contributors of a merge are those of its two sides.
 pub fn contributors_of_a_merge()
-    ensures { (a b : Content) (id : RecordId)
-        → Contains (join a b).contributors id ↔ (Contains a.contributors id
-        ⊎ Contains b.contributors id) }
+    ensures { (a b : Content)
+        → AreThoseOf a.contributors b.contributors (join a b).contributors }
 {}
 
 /// The united fields of a merge are those of its two sides.
 pub fn united_fields_of_a_merge()
-    ensures { (a b : Content) (field : Field)
-        → Contains (join a b).united field ↔ (Contains a.united field ⊎ Contains b.united field) }
+    ensures { (a b : Content) → AreThoseOf a.united b.united (join a b).united }
 {}
 
 /// The fixed part and each slot of a merge is that of one of its two sides.
@@ -37,23 +32,16 @@ pub fn slots_of_a_merge()
 
 /// The united fields of a record's content are those of the record's fields that are united.
 pub fn united_fields_of_a_record()
-    ensures { (prefer : List (List ℕ)) (library : List ℕ) (r : Record) (field : Field)
-        → Contains (content prefer library r).united field
-        ↔ (Contains r.fields field × IsTrue (is_united field)) }
+    ensures { OfEachRecord (λ r made. AreUnitedOf r.fields made.united) }
 {}
 
 /// The fields in the slots of a record's content are fields of the record; the title too, where the record can be loaded.
 pub fn slots_of_a_record()
-    ensures f005 { (prefer : List (List ℕ)) (library : List ℕ) (r : Record)
-        → IfSome (content prefer library r).f005 (λ s. Contains r.fields s.field) }
-    ensures f010 { (prefer : List (List ℕ)) (library : List ℕ) (r : Record)
-        → IfSome (content prefer library r).f010 (λ s. Contains r.fields s.field) }
-    ensures f040 { (prefer : List (List ℕ)) (library : List ℕ) (r : Record)
-        → IfSome (content prefer library r).f040 (λ s. Contains r.fields s.field) }
-    ensures f1xx { (prefer : List (List ℕ)) (library : List ℕ) (r : Record)
-        → IfSome (content prefer library r).f1xx (λ s. Contains r.fields s.field) }
-    ensures f240 { (prefer : List (List ℕ)) (library : List ℕ) (r : Record)
-        → IfSome (content prefer library r).f240 (λ s. Contains r.fields s.field) }
-    ensures f245 { (prefer : List (List ℕ)) (library : List ℕ) (r : Record) → IsTrue (is_loadable r)
-        → Contains r.fields (content prefer library r).f245.field }
+    ensures f005 { OfEachRecord (λ r made. IfSome made.f005 (λ s. Contains r.fields s.field)) }
+    ensures f010 { OfEachRecord (λ r made. IfSome made.f010 (λ s. Contains r.fields s.field)) }
+    ensures f040 { OfEachRecord (λ r made. IfSome made.f040 (λ s. Contains r.fields s.field)) }
+    ensures f1xx { OfEachRecord (λ r made. IfSome made.f1xx (λ s. Contains r.fields s.field)) }
+    ensures f240 { OfEachRecord (λ r made. IfSome made.f240 (λ s. Contains r.fields s.field)) }
+    ensures f245 { OfEachRecord (λ r made. IsTrue (is_loadable r)
+        → Contains r.fields made.f245.field) }
 {}

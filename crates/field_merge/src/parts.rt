@@ -3,11 +3,10 @@
 //!
 //! Cost: no field is copied. The walk takes one block of memory, for the united fields, and the rank gains an owner for each slot
 //! that is filled.
-ghost use Rattle.std.specs.Prelude.{◌≡◌, List, [], ◌∷◌, ◌++◌, IfOk, OnOk, Some};
+ghost use Rattle.std.specs.Prelude.{◌≡◌, IfOk, OnOk, Some};
 ghost use Rattle.std.specs.Option.{option_or};
-ghost use Rattle.union_base.specs.declared.field.Field.{Field};
 ghost use Rattle.field_merge.specs.Contents.{is_main_entry, is_united, slot};
-ghost use Rattle.field_merge.specs.Parts.{IsPart, IsPut, ArePartsOf};
+ghost use Rattle.field_merge.specs.Parts.{AddsPart, IsPart, IsPut, ArePartsOf};
 
 use crate::rank::Rank;
 use crate::slot::Slot;
@@ -70,8 +69,7 @@ pub fn parts_of(alloc: Global, rank: &Rank, fields: Vec<Field>) -> Result<SlotFi
 impl SlotFields {
     /// One field more was seen. Returns `Memory` if allocation fails.
     fn add(&mut self, rank: &Rank, field: Field) -> Result<(), Memory>
-        ensures { OnOk result ((fields : List Field) → ArePartsOf rank.now fields self.old
-            → ArePartsOf rank.now (fields ++ field ∷ []) self.new) }
+        ensures { OnOk result (AddsPart rank.now field self.old self.new) }
     {
         self.put(part_of(&field), rank, field)
     }
