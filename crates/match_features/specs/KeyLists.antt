@@ -9,13 +9,21 @@ use Rattle.match_features.specs.declared.keys.FeatureKey.{FeatureKey}
 use Rattle.match_features.specs.declared.keys.FeatureKey.TheVariants.{Control, Isbn, Issn, Title, Description, TitleOfMany}
 use Rattle.match_features.specs.Posted.{has_few}
 
+-- a title and a date with each name
+abbrev pub keys_with : List ℕ → List ℕ → List (List ℕ) → List FeatureKey
+keys_with title date names = map (λ name. Description (title, date, name)) names
+
 -- a title with each date and each name
 abbrev pub dated_keys : List ℕ → List (List ℕ) → List (List ℕ) → List FeatureKey
-dated_keys title dates names = flat_map (λ date. map (λ name. Description (title, date, name)) names) dates
+dated_keys title dates names = flat_map (λ date. keys_with title date names) dates
 
 -- each title with each date and each name
 abbrev pub description_keys : List (List ℕ) → List (List ℕ) → List (List ℕ) → List FeatureKey
 description_keys titles dates names = flat_map (λ title. dated_keys title dates names) titles
+
+-- each title of the features with each date and each name
+abbrev pub all_description_keys : Features → List FeatureKey
+all_description_keys x = description_keys x.titles x.dates x.names
 
 -- each control pair, each ISBN, each ISSN
 abbrev pub number_keys : Features → List FeatureKey

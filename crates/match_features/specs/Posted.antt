@@ -5,7 +5,7 @@
 -- common too. So features with few titles, dates and names are posted under each title with each date and each name, and seek
 -- these. Features with many are posted under each title as that of many, which the others seek too, and seek all that have one
 -- of their titles.
-use Rattle.std.specs.Prelude.{Bool, nat_le, not, ◌&&◌, IsTrue, ◌*◌, if◌then◌else◌, List, length, Contains}
+use Rattle.std.specs.Prelude.{ℕ, Bool, nat_le, not, ◌&&◌, IsTrue, ◌*◌, if◌then◌else◌, List, length, Contains}
 use Rattle.std.specs.declared.cmp.Ordering.{Ordering}
 use Rattle.std.specs.List.{list_all}
 use Rattle.union_base.specs.SortedLists.{has}
@@ -14,6 +14,10 @@ use Rattle.match_features.specs.declared.features.Features.{Features}
 use Rattle.match_features.specs.declared.keys.FeatureKey.{FeatureKey}
 use Rattle.match_features.specs.declared.keys.FeatureKey.TheVariants.{Control, Isbn, Issn, Title, Description, TitleOfMany}
 use Rattle.match_features.specs.Keys.{HasKey}
+
+-- how many triples of a title, a date and a name there are
+abbrev pub triples_of : Features → ℕ
+triples_of x = length x.titles * length x.dates * length x.names
 
 -- at most 64 triples of a title, a date and a name
 abbrev pub has_few : Features → Bool
@@ -72,3 +76,7 @@ has_keys_of x y =
     && has_each texts_cmp x.titles y.titles
     && has_each texts_cmp x.dates y.dates
     && has_each texts_cmp x.names y.names
+
+-- the index has x under each key under which it has y
+abbrev pub IsPostedAs : Features → Features → Type 0
+IsPostedAs x y = (k : FeatureKey) → IsPosted y k → IsPosted x k

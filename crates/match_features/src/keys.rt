@@ -3,11 +3,12 @@
 //! Guarantee: each call answers exactly the keys that the definition names. The order is fixed for `posted_keys` and
 //! `sought_keys` alone, by `specs/KeyLists.antt`. Cost: each key is made once; memory for all of them is taken at once where
 //! their number is known before.
-ghost use Rattle.std.specs.Prelude.{◌≡◌, ◌≢◌, ◌↔◌, ◌++◌, IfOk, IfSome, OnOk, IsTrue, is_some, false, Contains, AllPairs, map, min, length, ◌*◌, ◌-◌, ◌^◌, []};
+ghost use Rattle.std.specs.Prelude.{◌≡◌, ◌≢◌, ◌↔◌, ◌++◌, IfOk, IfSome, OnOk, IsTrue, is_some, Contains, AllPairs, map, min, ◌-◌, ◌^◌, []};
+ghost use Rattle.merge_laws.specs.Candidates.{AreKeysBeside, FindsBeside};
 ghost use Rattle.match_features.specs.Meeting.{meet};
 ghost use Rattle.match_features.specs.Keys.{HasKey};
-ghost use Rattle.match_features.specs.Posted.{has_few, IsPosted, Seeks, SeeksBeside, are_alike, has_keys_of};
-ghost use Rattle.match_features.specs.KeyLists.{number_keys, description_keys, dated_keys, posted, posted_by_title, sought, sought_by_title, title_alone};
+ghost use Rattle.match_features.specs.Posted.{has_few, IsPosted, IsPostedAs, Seeks, SeeksBeside, are_alike, has_keys_of, triples_of};
+ghost use Rattle.match_features.specs.KeyLists.{number_keys, all_description_keys, description_keys, dated_keys, keys_with, posted, posted_by_title, sought, sought_by_title, title_alone};
 ghost use Rattle.match_features.specs.KeyLists.{numbers_beside, descriptions_beside, beside_by_title};
 
 use crate::beside::{has_each_of, values_beside};
@@ -190,10 +191,9 @@ pub fn posted_beside(
     base: &Features,
 ) -> Result<Option<Vec<FeatureKey>>, Memory>
     ensures told { IfOk result (λ found. is_some found ≡ has_keys_of features.now base.now) }
-    ensures kept { IfOk result (λ found. IfSome found (λ keys. (k : FeatureKey)
-        → IsPosted base.now k → IsPosted features.now k)) }
-    ensures had { IfOk result (λ found. IfSome found (λ keys. (k : FeatureKey)
-        → Contains keys.items k ↔ (IsPosted features.now k × (IsPosted base.now k → ⊥)))) }
+    ensures kept { IfOk result (λ found. IfSome found (λ _. IsPostedAs features.now base.now)) }
+    ensures had { IfOk result (λ o. IfSome o (λ keys. AreKeysBeside IsPosted features.now base.now
+        keys.items)) }
     ensures once { IfOk result (λ found. IfSome found (λ keys. AllPairs (λ j k. j ≢ k) keys.items)) }
 {
     if has_keys_of(features, base) {
@@ -212,10 +212,9 @@ pub fn sought_beside(
     features: &Features,
     base: &Features,
 ) -> Result<Vec<FeatureKey>, Memory>
-    ensures sought { IfOk result (λ found. (k : FeatureKey)
-        → Contains found.items k ↔ SeeksBeside features.now base.now k) }
-    ensures whole { IfOk result (λ found. (x : Features) → IsTrue (meet features.now x)
-        → meet base.now x ≡ false → (k : FeatureKey) × Contains found.items k × IsPosted x k) }
+    ensures sought { IfOk result (λ keys. (k : FeatureKey)
+        → Contains keys.items k ↔ SeeksBeside features.now base.now k) }
+    ensures whole { IfOk result (λ keys. FindsBeside meet IsPosted features.now base.now keys.items) }
 {
     let control = values_beside(alloc, &features.control, &base.control)?;
     let mut found = Vec::new(alloc);
@@ -257,8 +256,8 @@ fn keys_beside(
     base: &Features,
 ) -> Result<Vec<FeatureKey>, Memory>
     requires { IsTrue (has_keys_of features.now base.now) }
-    ensures had { IfOk result (λ found. (k : FeatureKey) → Contains found.items k
-        ↔ (IsPosted features.now k × (IsPosted base.now k → ⊥))) }
+    ensures had { IfOk result (λ found. AreKeysBeside IsPosted features.now base.now
+        found.items) }
     ensures once { IfOk result (λ found. AllPairs (λ j k. j ≢ k) found.items) }
 {
     let titles = values_beside(alloc, &features.titles, &base.titles)?;
@@ -357,8 +356,7 @@ fn has_few(features: &Features) -> bool
 
 /// How many triples of a title, a date and a name there are, or the greatest number where that is more.
 fn triples(features: &Features) -> usize
-    ensures { result ≡ min (length features.now.titles * length features.now.dates
-        * length features.now.names) (2 ^ 64 - 1) }
+    ensures { result ≡ min (triples_of features.now) (2 ^ 64 - 1) }
 {
     let titles = features.titles.as_slice().len();
     let dates = features.dates.as_slice().len();
@@ -493,7 +491,7 @@ fn push_description_keys(
     features: &Features,
 ) -> Result<(), Memory>
     ensures { OnOk result (found.new.items ≡ found.old.items
-        ++ description_keys features.now.titles features.now.dates features.now.names) }
+        ++ all_description_keys features.now) }
 {
     let dates = features.dates.as_slice();
     let names = features.names.as_slice();
@@ -543,7 +541,7 @@ fn push_keys_with(
     names: &[Bytes],
 ) -> Result<(), Memory>
     ensures { OnOk result (found.new.items ≡ found.old.items
-        ++ map (λ name. FeatureKey.Description (title.now, date.now, name)) names.now) }
+        ++ keys_with title.now date.now names.now) }
 {
     for name in names {
         let key = DescriptionKey::of(alloc, title.bytes(), date, name.bytes())?;
