@@ -6,7 +6,8 @@ use Rattle.std.specs.Map.{remove_entry}
 use Rattle.union_base.specs.SortedLists.{has}
 use Rattle.union_base.specs.declared.record_id.RecordId.{RecordId}
 use Rattle.union_base.specs.RecordIds.{id_cmp}
-use Rattle.record_homes.specs.Maps.{MapOf, at_id, has_value, change_at}
+use Rattle.record_homes.specs.Maps.{Homes, MapOf, at_id, has_value, change_at, with_block, with_place}
+use Rattle.record_homes.specs.TouchedIds.{TouchedIds}
 use Rattle.record_homes.specs.declared.home.Home.{Home}
 use Rattle.record_homes.specs.declared.place.Place.{Place}
 
@@ -39,13 +40,17 @@ taken_back homes (id ∷ ids) = remove_entry (is_at (id_cmp id)) (taken_back hom
 
 -- with the place under the id, or without the id where there is none
 abbrev pub moved : MapOf Home → RecordId × Option Place → MapOf Home
-moved homes (id, Some place) = change_at id (λ home. record { place = place; block = home.block }) homes
+moved homes (id, Some place) = change_at id (with_place place) homes
 moved homes (id, None) = remove_entry (is_at (id_cmp id)) homes
 
 -- with that number under each of the ids
 abbrev pub housed : ℕ → MapOf Home → List RecordId → MapOf Home
-housed number homes ids = fold (λ all id. change_at id (λ home. record { place = home.place; block = number }) all) homes ids
+housed number homes ids = fold (λ all id. change_at id (with_block number) all) homes ids
 
 -- the homes of the ids that are in both lists have that number already
 pub record StayAt (number : ℕ) (homes : MapOf Home) (before ids : List RecordId) : Type 0 where
   pub each : (id : RecordId) (home : Home) → IsTrue (has id_cmp before id) → IsTrue (has id_cmp ids id) → at_id homes id ≡ Some home → home.block ≡ number
+
+-- of what a turn touched, the ids that are not new
+abbrev pub others_in : Homes → TouchedIds → MapOf (Option Place)
+others_in homes touched = others homes.entries touched.entries

@@ -11,7 +11,7 @@
 //! Cost: `admit` searches the table once for each id that is current after the turn, `move_all` once for each touched id that is
 //! not new, and `house_newcomers` once for each id that is not in the other list. It walks along both lists once.
 ghost use Rattle.std.specs.Prelude.{◌≡◌, map, fold, IfOk, OnOk, OnErr};
-ghost use Rattle.record_homes.specs.Moves.{is_new, admitted, others, taken_back, moved, housed, StayAt};
+ghost use Rattle.record_homes.specs.Moves.{is_new, admitted, others_in, taken_back, moved, housed, StayAt};
 
 use crate::ascending_ids::AscendingIds;
 use crate::home::Home;
@@ -62,7 +62,7 @@ fn let_in<'a>(
     ensures admitted { OnOk result (homes.new.entries
         ≡ fold admitted homes.old.entries touched.now.entries) }
     ensures others { IfOk result (λ rest. map (λ t. (t.0.now, t.1)) rest.items
-        ≡ others homes.old.entries touched.now.entries) }
+        ≡ others_in homes.old touched.now) }
     ensures back { taken_back homes.new.entries (map (λ id. id.now) came.new.items)
         ≡ taken_back homes.old.entries (map (λ id. id.now) came.old.items) }
 {
@@ -96,7 +96,7 @@ pub fn admit<'a>(
     ensures admitted { OnOk result (homes.new.entries
         ≡ fold admitted homes.old.entries touched.now.entries) }
     ensures others { IfOk result (λ rest. map (λ t. (t.0.now, t.1)) rest.items
-        ≡ others homes.old.entries touched.now.entries) }
+        ≡ others_in homes.old touched.now) }
     ensures kept { OnErr result (homes.new.entries ≡ homes.old.entries) }
 {
     let mut came = Vec::with_capacity(alloc, touched.entries().len())?;

@@ -1,12 +1,11 @@
 //! The homes of all current records.
-ghost use Rattle.std.specs.Prelude.{◌≡◌, [], None, Some, length, if◌then◌else◌, is_some, unwrap_or, not, IfOk, OnOk, OnErr};
-ghost use Rattle.std.specs.BTreeMap.{is_at, insert_entry};
+ghost use Rattle.std.specs.Prelude.{◌≡◌, [], None, length, is_some, not, IfOk, OnOk, OnErr};
+ghost use Rattle.std.specs.BTreeMap.{is_at};
 ghost use Rattle.std.specs.Map.{remove_entry};
-ghost use Rattle.std.specs.Option.{option_map};
 ghost use Rattle.union_base.specs.declared.record_id.RecordId.{RecordId as RecordModel};
 ghost use Rattle.union_base.specs.RecordIds.{id_cmp};
-ghost use Rattle.record_homes.specs.Maps.{at_id, change_at, moved_to};
-ghost use Rattle.record_homes.specs.Libraries.{home_at, AreInOrder};
+ghost use Rattle.record_homes.specs.Maps.{at_id, change_at, entered, with_block, with_place};
+ghost use Rattle.record_homes.specs.Libraries.{home_at, AreInOrder, MovesHome, PutsHome, SetsHome};
 
 use crate::home::Home;
 use crate::library_homes::LibraryHomes;
@@ -84,7 +83,7 @@ impl HomeTable {
     pub fn add(&mut self, alloc: Global, id: RecordId, home: Home) -> Result<bool, Memory>
         ensures new { IfOk result (λ new. new ≡ not (is_some (at_id self.old.entries id))) }
         ensures added { IfOk result (λ new. self.new.entries
-            ≡ (if new then insert_entry id_cmp self.old.entries id home else self.old.entries)) }
+            ≡ entered new self.old.entries id home) }
         ensures kept { OnErr result (self.new.entries ≡ self.old.entries) }
     {
         if self.count == u64::MAX {
@@ -108,16 +107,14 @@ impl HomeTable {
 
     /// Has the home under the id, where there is one, say that the record was loaded at that place. Takes no memory.
     pub fn set_place(&mut self, id: &RecordId, place: Place)
-        ensures { self.new.entries ≡ change_at id.now
-            (λ home. record { place = place; block = home.block }) self.old.entries }
+        ensures { self.new.entries ≡ change_at id.now (with_place place) self.old.entries }
     {
         change(&mut self.libraries, id, MoveTo::Place(place));
     }
 
     /// Has the home under the id, where there is one, say that the record is in the block under that number. Takes no memory.
     pub fn set_block(&mut self, id: &RecordId, number: u64)
-        ensures { self.new.entries ≡ change_at id.now
-            (λ home. record { place = home.place; block = number }) self.old.entries }
+        ensures { self.new.entries ≡ change_at id.now (with_block number) self.old.entries }
     {
         change(&mut self.libraries, id, MoveTo::Block(number));
     }
@@ -134,9 +131,7 @@ fn put(
 ) -> Result<bool, Memory>
     ensures ordered { AreInOrder libraries.new.entries }
     ensures new { IfOk result (λ new. new ≡ not (is_some (home_at libraries.old.entries id))) }
-    ensures set { OnOk result ((q : RecordModel) → home_at libraries.new.entries q
-        ≡ (if is_at (id_cmp id) q then Some (unwrap_or (home_at libraries.old.entries id) home)
-        else home_at libraries.old.entries q)) }
+    ensures set { OnOk result (PutsHome libraries.old.entries libraries.new.entries id home) }
     ensures kept { OnErr result ((q : RecordModel)
         → home_at libraries.new.entries q ≡ home_at libraries.old.entries q) }
 {
@@ -156,8 +151,7 @@ fn put(
 fn take(libraries: &mut BTreeMap<LibraryCode, LibraryHomes>, id: &RecordId) -> bool
     ensures ordered { AreInOrder libraries.new.entries }
     ensures was { result ≡ is_some (home_at libraries.old.entries id.now) }
-    ensures set { (q : RecordModel) → home_at libraries.new.entries q
-        ≡ (if is_at (id_cmp id.now) q then None else home_at libraries.old.entries q) }
+    ensures set { SetsHome libraries.old.entries libraries.new.entries id.now None }
 {
     match libraries.get_mut(&id.library) {
         Some(homes) => homes.take(&id.control),
@@ -168,10 +162,7 @@ fn take(libraries: &mut BTreeMap<LibraryCode, LibraryHomes>, id: &RecordId) -> b
 /// Moves the home under the id, where there is one. Takes no memory.
 fn change(libraries: &mut BTreeMap<LibraryCode, LibraryHomes>, id: &RecordId, to: MoveTo)
     ensures ordered { AreInOrder libraries.new.entries }
-    ensures set { (q : RecordModel) → home_at libraries.new.entries q
-        ≡ (if is_at (id_cmp id.now) q then option_map (moved_to to)
-        (home_at libraries.old.entries id.now)
-        else home_at libraries.old.entries q) }
+    ensures set { MovesHome libraries.old.entries libraries.new.entries id.now to }
 {
     if let Some(homes) = libraries.get_mut(&id.library) {
         homes.change(&id.control, to);
