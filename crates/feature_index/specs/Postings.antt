@@ -1,5 +1,5 @@
 -- A map from keys to lists of numbers, as the list of its entries. Keys are told apart by a test.
-use Rattle.std.specs.Prelude.{◌≡◌, ◌≢◌, ℕ, ◌<◌, ◌↔◌, ◌⊎◌, Bool, List, [], Option, Some, Contains, AllPairs, slice_get, unwrap_or}
+use Rattle.std.specs.Prelude.{◌≡◌, ◌≢◌, ℕ, ◌+◌, ◌<◌, ◌≤◌, ◌↔◌, ◌⊎◌, Bool, false, List, [], Option, Some, Contains, AllPairs, slice_get, unwrap_or}
 use Rattle.std.specs.Map.{keys_of, lookup}
 
 -- each number is less than those after it
@@ -42,3 +42,25 @@ key_at entries place = slice_get (keys_of entries) place
 -- each row that there was stays at its place, under its key
 abbrev pub KeepsRows : {K : Type 0} → List (K × Posting) → List (K × Posting) → Type 0
 KeepsRows {K} old new = (place : ℕ) (k : K) → key_at old place ≡ Some k → key_at new place ≡ Some k
+
+-- the number is put under the key of the row
+abbrev pub GainsAt : {K : Type 0} → (K → K → Bool) → List (K × Posting) → List (K × Posting) → ℕ → ℕ → Type 0
+GainsAt {K} eq old new place number = (k : K) → key_at old place ≡ Some k → Gains (numbers_of eq old k) (numbers_of eq new k) number
+
+-- the number is taken from under the key of the row
+abbrev pub LosesAt : {K : Type 0} → (K → K → Bool) → List (K × Posting) → List (K × Posting) → ℕ → ℕ → Type 0
+LosesAt {K} eq old new place number = (k : K) → key_at old place ≡ Some k → Loses (numbers_of eq old k) (numbers_of eq new k) number
+
+-- under the key of the row the second number takes the place of the first
+abbrev pub ExchangesAt : {K : Type 0} → (K → K → Bool) → List (K × Posting) → List (K × Posting) → ℕ → ℕ → ℕ → Type 0
+ExchangesAt {K} eq old new place from to =
+    (k : K) → key_at old place ≡ Some k → Exchanges (numbers_of eq old k) (numbers_of eq new k) from to
+
+-- under the key of the row there is room for one number more
+abbrev pub GainsSpareAt : {K : Type 0} → (K → K → Bool) → List (K × Posting) → List (K × Posting) → ℕ → Type 0
+GainsSpareAt {K} eq old new place = (k : K) → key_at old place ≡ Some k → spare_of eq old k + 1 ≤ spare_of eq new k
+
+-- under all other keys than that of the row nothing changes
+abbrev pub KeepsOthers : {K : Type 0} → (K → K → Bool) → List (K × Posting) → List (K × Posting) → ℕ → Type 0
+KeepsOthers {K} eq old new place =
+    (j k : K) → key_at old place ≡ Some j → eq j k ≡ false → posting_of eq new k ≡ posting_of eq old k

@@ -1,7 +1,7 @@
 //! Postings: the numbers under each key.
-ghost use Rattle.std.specs.Prelude.{◌≡◌, ◌+◌, ◌<◌, ◌≤◌, [], Some, true, false, IsSome, IfOk, OnOk, OnErr, Contains, count_by, if◌then◌else◌};
+ghost use Rattle.std.specs.Prelude.{◌≡◌, ◌+◌, ◌<◌, ◌≤◌, [], Some, true, IsSome, IfOk, OnOk, OnErr, Contains, count_by, if◌then◌else◌};
 ghost use Rattle.std.specs.Map.{keys_of};
-ghost use Rattle.feature_index.specs.Postings.{Ascends, Exchanges, Gains, KeepsRows, Loses, key_at, posting_of, numbers_of, spare_of};
+ghost use Rattle.feature_index.specs.Postings.{Ascends, ExchangesAt, GainsAt, GainsSpareAt, KeepsOthers, KeepsRows, LosesAt, key_at, posting_of, numbers_of, spare_of};
 
 use crate::row::Row;
 use indexmap::IndexMap;
@@ -89,8 +89,7 @@ impl<K: Eq + Hash + Drop> Postings<K> {
         requires { IsSome (key_at self.old place) }
         ensures numbers { (k : K) → numbers_of K.eq self.new k ≡ numbers_of K.eq self.old k }
         ensures kept { (k : K) → spare_of K.eq self.old k ≤ spare_of K.eq self.new k }
-        ensures room { OnOk result ((k : K) → key_at self.old place ≡ Some k
-            → spare_of K.eq self.old k + 1 ≤ spare_of K.eq self.new k) }
+        ensures room { OnOk result (GainsSpareAt K.eq self.old self.new place) }
         ensures rows { KeepsRows self.old self.new }
     {
         let (_, found) = self.rows.pair_mut(place);
@@ -104,12 +103,10 @@ impl<K: Eq + Hash + Drop> Postings<K> {
         requires spare { (k : K) → key_at self.old place ≡ Some k → 0 < spare_of K.eq self.old k }
         requires absent { (k : K) → key_at self.old place ≡ Some k
             → Contains (numbers_of K.eq self.old k) number → ⊥ }
-        ensures numbers { (k : K) → key_at self.old place ≡ Some k
-            → Gains (numbers_of K.eq self.old k) (numbers_of K.eq self.new k) number }
+        ensures numbers { GainsAt K.eq self.old self.new place number }
         ensures used { (k : K) → key_at self.old place ≡ Some k
             → spare_of K.eq self.new k + 1 ≡ spare_of K.eq self.old k }
-        ensures others { (j k : K) → key_at self.old place ≡ Some j → K.eq j k ≡ false
-            → posting_of K.eq self.new k ≡ posting_of K.eq self.old k }
+        ensures others { KeepsOthers K.eq self.old self.new place }
         ensures rows { KeepsRows self.old self.new }
     {
         let (_, found) = self.rows.pair_mut(place);
@@ -122,12 +119,10 @@ impl<K: Eq + Hash + Drop> Postings<K> {
         requires row { IsSome (key_at self.old place) }
         requires present { (k : K) → key_at self.old place ≡ Some k
             → Contains (numbers_of K.eq self.old k) number }
-        ensures numbers { (k : K) → key_at self.old place ≡ Some k
-            → Loses (numbers_of K.eq self.old k) (numbers_of K.eq self.new k) number }
+        ensures numbers { LosesAt K.eq self.old self.new place number }
         ensures spare { (k : K) → key_at self.old place ≡ Some k
             → spare_of K.eq self.new k ≡ spare_of K.eq self.old k }
-        ensures others { (j k : K) → key_at self.old place ≡ Some j → K.eq j k ≡ false
-            → posting_of K.eq self.new k ≡ posting_of K.eq self.old k }
+        ensures others { KeepsOthers K.eq self.old self.new place }
         ensures rows { KeepsRows self.old self.new }
     {
         let (_, found) = self.rows.pair_mut(place);
@@ -142,12 +137,10 @@ impl<K: Eq + Hash + Drop> Postings<K> {
             → Contains (numbers_of K.eq self.old k) from }
         requires absent { (k : K) → key_at self.old place ≡ Some k
             → Contains (numbers_of K.eq self.old k) to → ⊥ }
-        ensures numbers { (k : K) → key_at self.old place ≡ Some k
-            → Exchanges (numbers_of K.eq self.old k) (numbers_of K.eq self.new k) from to }
+        ensures numbers { ExchangesAt K.eq self.old self.new place from to }
         ensures spare { (k : K) → key_at self.old place ≡ Some k
             → spare_of K.eq self.new k ≡ spare_of K.eq self.old k }
-        ensures others { (j k : K) → key_at self.old place ≡ Some j → K.eq j k ≡ false
-            → posting_of K.eq self.new k ≡ posting_of K.eq self.old k }
+        ensures others { KeepsOthers K.eq self.old self.new place }
         ensures rows { KeepsRows self.old self.new }
     {
         let (_, found) = self.rows.pair_mut(place);
