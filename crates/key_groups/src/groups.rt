@@ -4,9 +4,9 @@
 //! groups share a key, and a stranger shares none with any other value. The values of a group have keys of one hash, directly or through
 //! others: keys that differ and have one hash count as one key here, which can only make a group larger. Cost: that of the labels, and
 //! three walks over them. Values are moved and never copied, and the room of each group is reserved once.
-ghost use Rattle.std.specs.Prelude.{◌≡◌, ◌≤◌, ◌↔◌, ◌<◌, ◌++◌, ℕ, ◌∷◌, [], length, map, replicate, set, slice_index_or, IfOk, OnOk, Contains};
-ghost use Rattle.key_groups.specs.Groups.{JoinsByKeys, AreLinks, AreSized, AreAlike, AreCutApart, AreJoined, together};
-ghost use Rattle.key_groups.specs.Notes.{hash_by, HasHash};
+ghost use Rattle.std.specs.Prelude.{◌≡◌, ◌≤◌, ◌<◌, ℕ, [], length, replicate, IfOk, OnOk};
+ghost use Rattle.key_groups.specs.Groups.{AreLabels, AreLinks, AreSized, AreAlike, AreCutApart, AreJoinedIn, AreMembers, lists_of, put_at};
+ghost use Rattle.key_groups.specs.Notes.{Hashes};
 
 use crate::labels::labels_by_keys;
 use key_hashing::hashing::Hashing;
@@ -39,7 +39,7 @@ fn sizes_of(alloc: Global, labels: &[usize]) -> Result<Vec<usize>, Memory>
 
 /// An empty group for each size, with room for as many values where these are more than one. Returns `Memory` if allocation fails.
 fn rooms<R: Drop>(alloc: Global, sizes: &[usize]) -> Result<Vec<Vec<R>>, Memory>
-    ensures { IfOk result (λ groups. map (λ group. group.items) groups.items
+    ensures { IfOk result (λ groups. lists_of groups.items
         ≡ replicate (length sizes.now) []) }
 {
     let mut groups = Vec::with_capacity(alloc, sizes.len())?;
@@ -53,9 +53,7 @@ fn rooms<R: Drop>(alloc: Global, sizes: &[usize]) -> Result<Vec<Vec<R>>, Memory>
 /// Puts the value last in the group at the place. Returns `Memory` if allocation fails.
 fn put<R: Drop>(groups: &mut [Vec<R>], place: usize, value: R) -> Result<(), Memory>
     requires { place < length groups.old }
-    ensures { OnOk result (map (λ group. group.items) groups.new
-        ≡ set (map (λ group. group.items) groups.old) place
-        (slice_index_or (map (λ group. group.items) groups.old) place [] ++ value ∷ [])) }
+    ensures { OnOk result (lists_of groups.new ≡ put_at (lists_of groups.old) place value) }
 {
     groups[place].push(value)?;
     Ok(())
@@ -71,15 +69,12 @@ fn grouped<R: Resolvable>(
 ) -> Result<(Vec<R>, Vec<Vec<R>>), Memory>
     requires labels { length labels.now ≡ length list.items }
     requires links { AreLinks labels.now }
-    requires joined { JoinsByKeys R.has_key list.items (λ i. slice_index_or labels.now i 0) }
+    requires joined { AreLabels R.has_key list.items labels.now }
     requires sizes { length sizes.now ≡ length list.items }
     requires sized { AreSized sizes.now labels.now }
-    ensures apart { IfOk result (λ cut. AreCutApart R.has_key cut.0.items
-        (map (λ group. group.items) cut.1.items)) }
-    ensures alike { IfOk result (λ cut. AreAlike list.items labels.now
-        (map (λ group. group.items) cut.1.items)) }
-    ensures members { IfOk result (λ cut. (x : R) → Contains list.items x
-        ↔ Contains (cut.0.items ++ together (map (λ group. group.items) cut.1.items)) x) }
+    ensures apart { IfOk result (λ cut. AreCutApart R.has_key cut.0.items (lists_of cut.1.items)) }
+    ensures alike { IfOk result (λ cut. AreAlike list.items labels.now (lists_of cut.1.items)) }
+    ensures members { IfOk result (λ cut. AreMembers list.items cut.0.items (lists_of cut.1.items)) }
 {
     let mut strangers = Vec::with_capacity(alloc, list.len())?;
     let mut groups = rooms(alloc, sizes)?;
@@ -110,13 +105,10 @@ where
     R::Key: Send,
     requires some { 1 ≤ workers }
     requires most { workers ≤ 64 }
-    ensures apart { IfOk result (λ cut. AreCutApart R.has_key cut.0.items
-        (map (λ group. group.items) cut.1.items)) }
-    ensures joined { IfOk result (λ cut. AreJoined
-        (HasHash R.has_key (hash_by R.Key.hash_input hashing)) list.items
-        (map (λ group. group.items) cut.1.items)) }
-    ensures members { IfOk result (λ cut. (x : R) → Contains list.items x
-        ↔ Contains (cut.0.items ++ together (map (λ group. group.items) cut.1.items)) x) }
+    ensures apart { IfOk result (λ cut. AreCutApart R.has_key cut.0.items (lists_of cut.1.items)) }
+    ensures joined { IfOk result (λ cut. AreJoinedIn
+        (Hashes R.has_key R.Key.hash_input hashing) list.items cut.1) }
+    ensures members { IfOk result (λ cut. AreMembers list.items cut.0.items (lists_of cut.1.items)) }
 {
     let alloc = *list.allocator();
     let (list, labels) = labels_by_keys(rt, hashing, list, workers)?;

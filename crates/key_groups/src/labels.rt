@@ -3,9 +3,9 @@
 //! Guarantee: values have one label exactly where they have keys of one hash, directly or through others, so those that share a key have
 //! one label. Cost: the keys of each value are made and hashed once, and their hashes are sorted in parts, by several workers; then the
 //! pairs of places that these join are united, by one.
-ghost use Rattle.std.specs.Prelude.{◌≡◌, ◌<◌, ◌≤◌, ◌^◌, ℕ, length, slice_index_or, IfOk};
-ghost use Rattle.key_groups.specs.Groups.{AreLinks, Follows, JoinsByKeys};
-ghost use Rattle.key_groups.specs.Notes.{hash_by, HasHash};
+ghost use Rattle.std.specs.Prelude.{◌≡◌, ◌<◌, ◌≤◌, ◌^◌, length, IfOk};
+ghost use Rattle.key_groups.specs.Groups.{AreLabels, AreLinks, JoinNoMore};
+ghost use Rattle.key_groups.specs.Notes.{Hashes};
 
 use crate::links::labels_by_pairs;
 use crate::notes::notes_by;
@@ -43,12 +43,10 @@ where
     ensures list { IfOk result (λ both. both.0.items ≡ list.items) }
     ensures length { IfOk result (λ both. length both.1.items ≡ length list.items) }
     ensures links { IfOk result (λ both. AreLinks both.1.items) }
-    ensures joined { IfOk result (λ both. JoinsByKeys
-        (HasHash R.has_key (hash_by R.Key.hash_input hashing)) list.items
-        (λ i. slice_index_or both.1.items i 0)) }
-    ensures only { IfOk result (λ both. (label : ℕ → ℕ) → JoinsByKeys
-        (HasHash R.has_key (hash_by R.Key.hash_input hashing)) list.items label
-        → Follows both.1.items label) }
+    ensures joined { IfOk result (λ both. AreLabels
+        (Hashes R.has_key R.Key.hash_input hashing) list.items both.1.items) }
+    ensures only { IfOk result (λ both. JoinNoMore
+        (Hashes R.has_key R.Key.hash_input hashing) list.items both.1.items) }
 {
     let alloc = *list.allocator();
     let parts = part_count(list.len());

@@ -4,8 +4,9 @@
 //! Keys of one hash are so noted in one part. Cost: the keys of each value are made once, and each is hashed once and dropped; a note has
 //! 16 bytes. By several workers, each notes its share of the list, and the parts of two shares are put together by moves.
 ghost use Rattle.std.specs.Thread.{IsSync, IsSend};
-ghost use Rattle.std.specs.Prelude.{◌*◌, ◌/◌, ◌++◌, ◌≤◌, ◌≡◌, ◌+◌, ◌^◌, ◌<◌, [], length, map, replicate, IfOk, OnOk, Contains};
-ghost use Rattle.key_groups.specs.Notes.{hash_by, HasHash, HashIsAmong, GetNotes, AreNoted, AreAdded};
+ghost use Rattle.std.specs.Prelude.{◌*◌, ◌/◌, ◌++◌, ◌≤◌, ◌≡◌, ◌+◌, ◌^◌, ◌<◌, [], length, replicate, IfOk, OnOk, Contains};
+ghost use Rattle.key_groups.specs.Groups.{lists_of};
+ghost use Rattle.key_groups.specs.Notes.{hash_by, Hashes, HashesAmong, GainNotes, AreNotes, AreAdded};
 
 use crate::shares::share;
 use key_hashing::hashing::Hashing;
@@ -32,8 +33,7 @@ fn hash_of<K: Hash + Drop>(hashing: Hashing, key: K) -> u64
 /// Notes the place under the hash, in the part of the hash. Returns `Memory` if allocation fails.
 fn note(parts: &mut [Vec<Noted>], noted: Noted) -> Result<(), Memory>
     requires { 0 < length parts.old }
-    ensures { OnOk result (GetNotes (map (λ part. part.items) parts.old)
-        (map (λ part. part.items) parts.new) (λ h. noted.hash ≡ h) noted.place) }
+    ensures { OnOk result (GainNotes parts.old parts.new (λ h. noted.hash ≡ h) noted.place) }
 {
     let part = noted.hash as usize % parts.len();
     parts[part].push(noted)?;
@@ -48,9 +48,8 @@ fn note_all<K: Hash + Drop>(
     place: usize,
 ) -> Result<(), Memory>
     requires { 0 < length parts.old }
-    ensures { OnOk result (GetNotes (map (λ part. part.items) parts.old)
-        (map (λ part. part.items) parts.new)
-        (HashIsAmong (hash_by K.hash_input hashing) keys.items) place) }
+    ensures { OnOk result (GainNotes parts.old parts.new
+        (HashesAmong K.hash_input hashing keys.items) place) }
 {
     for key in keys {
         let hash = hash_of(hashing, key);
@@ -62,7 +61,7 @@ fn note_all<K: Hash + Drop>(
 /// As many empty parts. Returns `Memory` if allocation fails.
 fn empty_parts(alloc: Global, count: usize) -> Result<Vec<Vec<Noted>>, Memory>
     ensures count { IfOk result (λ parts. length parts.items ≡ count) }
-    ensures empty { IfOk result (λ parts. map (λ part. part.items) parts.items
+    ensures empty { IfOk result (λ parts. lists_of parts.items
         ≡ replicate count []) }
 {
     let mut parts = Vec::with_capacity(alloc, count)?;
@@ -83,9 +82,8 @@ fn notes_of<R: Resolvable>(
     requires some { 0 < count }
     requires room { first + length list.now < 2 ^ 64 }
     ensures count { IfOk result (λ parts. length parts.items ≡ count) }
-    ensures noted { IfOk result (λ parts. AreNoted
-        (HasHash R.has_key (hash_by R.Key.hash_input hashing)) list.now first (length list.now)
-        (map (λ part. part.items) parts.items)) }
+    ensures noted { IfOk result (AreNotes (Hashes R.has_key R.Key.hash_input hashing)
+        list.now first) }
 {
     let mut parts = empty_parts(alloc, count)?;
     for (place, value) in list.iter().enumerate() {
@@ -102,8 +100,8 @@ fn notes_of<R: Resolvable>(
 /// Adds to each part the notes of the part at its place in `more`. Returns `Memory` if allocation fails.
 fn add_parts(parts: &mut [Vec<Noted>], more: Vec<Vec<Noted>>) -> Result<(), Memory>
     requires { length more.items ≡ length parts.old }
-    ensures { OnOk result (AreAdded (map (λ part. part.items) parts.old)
-        (map (λ part. part.items) more.items) (map (λ part. part.items) parts.new)) }
+    ensures { OnOk result (AreAdded (lists_of parts.old) (lists_of more.items)
+        (lists_of parts.new)) }
 {
     let mut place = 0;
     for notes in more {
@@ -133,9 +131,8 @@ where
     requires most { workers ≤ 64 }
     ensures list { IfOk result (λ both. both.0.items ≡ list.items) }
     ensures count { IfOk result (λ both. length both.1.items ≡ count) }
-    ensures noted { IfOk result (λ both. AreNoted
-        (HasHash R.has_key (hash_by R.Key.hash_input hashing)) list.items first
-        (length list.items) (map (λ part. part.items) both.1.items)) }
+    ensures noted { IfOk result (λ both. AreNotes
+        (Hashes R.has_key R.Key.hash_input hashing) list.items first both.1) }
 {
     if workers == 1 {
         let parts = notes_of(*list.allocator(), hashing, list.as_slice(), first, count)?;
@@ -151,17 +148,15 @@ where
         requires { IsSync Rt.row × IsSend R.row × IsSend R.Key.row × (0 < count) × (first + length front.items < 2 ^ 64) × (1 ≤ fewer) × (fewer ≤ 64) }
         ensures list { IfOk result (λ both. both.0.items ≡ front.items) }
         ensures count { IfOk result (λ both. length both.1.items ≡ count) }
-        ensures noted { IfOk result (λ both. AreNoted
-            (HasHash R.has_key (hash_by R.Key.hash_input hashing)) front.items first
-            (length front.items) (map (λ part. part.items) both.1.items)) }
+        ensures noted { IfOk result (λ both. AreNotes
+            (Hashes R.has_key R.Key.hash_input hashing) front.items first both.1) }
     { notes_by(rt, hashing, front, first, count, fewer) };
     let note_back = move || -> Result<(Vec<R>, Vec<Vec<Noted>>), Memory>
         requires { IsSync Rt.row × IsSend R.row × IsSend R.Key.row × (0 < count) × (second + length back.items < 2 ^ 64) × (1 ≤ others) × (others ≤ 64) }
         ensures list { IfOk result (λ both. both.0.items ≡ back.items) }
         ensures count { IfOk result (λ both. length both.1.items ≡ count) }
-        ensures noted { IfOk result (λ both. AreNoted
-            (HasHash R.has_key (hash_by R.Key.hash_input hashing)) back.items second
-            (length back.items) (map (λ part. part.items) both.1.items)) }
+        ensures noted { IfOk result (λ both. AreNotes
+            (Hashes R.has_key R.Key.hash_input hashing) back.items second both.1) }
     { notes_by(rt, hashing, back, second, count, others) };
     let (one, other) = join(rt, note_front, note_back);
     let (mut whole, mut parts) = one?;

@@ -3,10 +3,11 @@
 //! Guarantee: a labelling that gives the two places of each pair one label gives one label to all places that are noted under one hash,
 //! and each pair is of two such places. Cost: the notes of each part are sorted by their hashes; there are fewer pairs than notes. By
 //! several workers, each takes its share of the parts.
-ghost use Rattle.std.specs.Prelude.{◌≡◌, ◌+◌, ◌<◌, ◌≤◌, ◌⊎◌, ℕ, length, map, slice_index_or, IfOk, OnOk, Contains};
+ghost use Rattle.std.specs.Prelude.{◌≡◌, ◌+◌, ◌<◌, ◌≤◌, length, IfOk, OnOk};
 ghost use Rattle.std.specs.List.Sorted.{IsNonDecreasingBy, IsPermutation};
 ghost use Rattle.std.specs.Thread.{IsSync};
-ghost use Rattle.key_groups.specs.Notes.{JoinsPairs, JoinsPlaces, ArePaired, ArePairs};
+ghost use Rattle.key_groups.specs.Groups.{lists_of};
+ghost use Rattle.key_groups.specs.Notes.{AddPaired, ArePairs, JoinAlso};
 
 use crate::notes::Noted;
 use crate::shares::share;
@@ -31,10 +32,8 @@ fn sorted(notes: Vec<Noted>) -> Vec<Noted>
 /// Adds a pair for each two notes of one hash, one after the other. Returns `Memory` if allocation fails.
 fn add_neighbours(sorted: &[Noted], pairs: &mut Vec<(usize, usize)>) -> Result<(), Memory>
     requires { IsNonDecreasingBy (λ note. note.hash) sorted.now }
-    ensures joined { OnOk result ((label : ℕ → ℕ) → JoinsPairs pairs.new.items label
-        → JoinsPairs pairs.old.items label × JoinsPlaces sorted.now label) }
-    ensures own { OnOk result ((p : ℕ × ℕ) → Contains pairs.new.items p
-        → Contains pairs.old.items p ⊎ ArePaired sorted.now p) }
+    ensures joined { OnOk result (JoinAlso pairs.old.items pairs.new.items sorted.now) }
+    ensures own { OnOk result (AddPaired pairs.old.items pairs.new.items sorted.now) }
 {
     for next in 1..sorted.len() {
         let one = sorted[next - 1];
@@ -48,8 +47,7 @@ fn add_neighbours(sorted: &[Noted], pairs: &mut Vec<(usize, usize)>) -> Result<(
 
 /// The pairs of the parts. Returns `Memory` if allocation fails.
 fn pairs_of(alloc: Global, parts: Vec<Vec<Noted>>) -> Result<Vec<(usize, usize)>, Memory>
-    ensures { IfOk result (λ pairs. ArePairs (map (λ part. part.items) parts.items)
-        pairs.items) }
+    ensures { IfOk result (λ pairs. ArePairs (lists_of parts.items) pairs.items) }
 {
     let mut pairs = Vec::new(alloc);
     for part in parts {
@@ -68,8 +66,7 @@ pub(crate) fn pairs_by<Rt: Threads + Sync>(
 ) -> Result<Vec<(usize, usize)>, Memory>
     requires least { 1 ≤ workers }
     requires most { workers ≤ 64 }
-    ensures { IfOk result (λ pairs. ArePairs (map (λ part. part.items) parts.items)
-        pairs.items) }
+    ensures { IfOk result (λ pairs. ArePairs (lists_of parts.items) pairs.items) }
 {
     if workers == 1 {
         return pairs_of(*parts.allocator(), parts);
@@ -80,13 +77,11 @@ pub(crate) fn pairs_by<Rt: Threads + Sync>(
     let back = front.split_off(share(front.len(), fewer, workers))?;
     let pair_front = move || -> Result<Vec<(usize, usize)>, Memory>
         requires { IsSync Rt.row × (1 ≤ fewer) × (fewer ≤ 64) }
-        ensures { IfOk result (λ pairs. ArePairs (map (λ part. part.items) front.items)
-            pairs.items) }
+        ensures { IfOk result (λ pairs. ArePairs (lists_of front.items) pairs.items) }
     { pairs_by(rt, front, fewer) };
     let pair_back = move || -> Result<Vec<(usize, usize)>, Memory>
         requires { IsSync Rt.row × (1 ≤ others) × (others ≤ 64) }
-        ensures { IfOk result (λ pairs. ArePairs (map (λ part. part.items) back.items)
-            pairs.items) }
+        ensures { IfOk result (λ pairs. ArePairs (lists_of back.items) pairs.items) }
     { pairs_by(rt, back, others) };
     let (one, other) = join(rt, pair_front, pair_back);
     let mut pairs = one?;
