@@ -1,4 +1,5 @@
 pub mod Tables
+pub mod Posted
 pub mod Changes
 pub mod Looks
 pub mod Insertions

@@ -36,6 +36,14 @@ pub record IsOnBase {R K : Type 0} (has_key : R → K → Type 0) (merge : R →
   pub keeps : IfSome base (λ b. (k : K) → has_key b.value k → has_key value k)
   pub absorbs : IfSome base (λ b. merge b.value value ≡ value)
 
+-- each of the entries has all keys of its base, and all that its base has
+abbrev pub AreOnBases : {R P K : Type 0} → (R → K → Type 0) → (R → R → R) → List (Entry R P) → Type 0
+AreOnBases {R} {P} has_key merge entries = (e : Entry R P) → Contains entries e → IsOnBase has_key merge e.value e.base
+
+-- the second value has all that the first has
+abbrev pub HasIn : {R : Type 0} → (R → R → R) → R → R → Type 0
+HasIn merge part whole = merge part whole ≡ whole
+
 -- the keys are these, each once
 pub record AreKeys {K : Type 0} (is_key : K → Type 0) (keys : List K) : Type 0 where
   pub members : (k : K) → Contains keys k ↔ is_key k
@@ -76,6 +84,10 @@ standings_of {R} entries = map {B = R × Option (Base R)} (λ e. (e.value, e.bas
 abbrev pub value_at : {R K : Type 0} → List (Option (Entry R K)) → ℕ → Option R
 value_at blocks n = option_map (λ e. e.value) (block_at blocks n)
 
+-- under the number stands a block that has the key
+abbrev pub IsBlockWith : {R P K : Type 0} → (R → K → Type 0) → List (Option (Entry R P)) → K → ℕ → Type 0
+IsBlockWith {R} {P} has_key blocks k n = (e : Entry R P) × (block_at blocks n ≡ Some e) × has_key e.value k
+
 -- the places of the keys of the block under a number: none where no block stands there
 abbrev pub places_at : {R K : Type 0} → List (Option (Entry R K)) → ℕ → List K
 places_at blocks n = unwrap_or (option_map (λ e. e.keys) (block_at blocks n)) []
@@ -96,6 +108,11 @@ keys_at postings places = filter_map (key_at postings) places
 pub record IsPlaced {K : Type 0} (is_key : K → Type 0) (postings : List (K × Posting)) (places : List ℕ) : Type 0 where
   pub rows : (place : ℕ) → Contains places place → IsSome (key_at postings place)
   pub keys : AreKeys is_key (keys_at postings places)
+
+-- the block under the number, where one stands there, has the places of the rows of its keys
+abbrev pub IsPlacedAt : {R K : Type 0} → (R → K → Type 0) → List (K × Posting) → List (Option (Entry R ℕ)) → ℕ → Type 0
+IsPlacedAt {R} has_key postings blocks number =
+    (e : Entry R ℕ) → block_at blocks number ≡ Some e → IsPlaced (has_key e.value) postings e.keys
 
 -- each of the entries has the places of the rows of its keys
 abbrev pub ArePlaced : {R K : Type 0} → (Entry R ℕ → K → Type 0) → List (K × Posting) → List (Entry R ℕ) → Type 0

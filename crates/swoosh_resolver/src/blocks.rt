@@ -1,7 +1,7 @@
 //! Blocks under numbers.
-ghost use Rattle.std.specs.Prelude.{◌≡◌, ◌↔◌, ℕ, [], Some, Contains, length, map, option_copied, option_map, IfOk};
+ghost use Rattle.std.specs.Prelude.{◌≡◌, ◌↔◌, ℕ, [], Contains, length, map, option_copied, IfOk};
 ghost use Rattle.feature_index.specs.Postings.{Ascends};
-ghost use Rattle.swoosh_resolver.specs.Tables.{Entry, block_at, blocks_in, values_of};
+ghost use Rattle.swoosh_resolver.specs.Tables.{IsBlockWith, blocks_in, value_at, values_of};
 ghost use Rattle.swoosh_resolver.specs.Changes.{Fits, without};
 
 use crate::change::Change;
@@ -99,16 +99,14 @@ impl<R: Resolvable> Blocks<R> {
     pub fn with_key(&self, key: &R::Key) -> &[u64]
         ensures ascending { Ascends result.now }
         ensures members { (n : ℕ) → Contains result.now n
-            ↔ ((e : Entry R ℕ) × (block_at self.now.blocks n ≡ Some e)
-            × R.is_posted e.value key.now) }
+            ↔ IsBlockWith R.is_posted self.now.blocks key.now n }
     {
         self.postings.of(key)
     }
 
     /// The block under the number. None exactly where no block has it. Takes no memory.
     pub fn block(&self, number: u64) -> Option<&R>
-        ensures { option_copied result ≡ option_map (λ e. e.value)
-            (block_at self.now.blocks number) }
+        ensures { option_copied result ≡ value_at self.now.blocks number }
     {
         match self.blocks.get(number as usize) {
             Some(Some(placed)) => Some(&placed.value),
@@ -118,8 +116,7 @@ impl<R: Resolvable> Blocks<R> {
 
     /// The block under the number, where this is none of the closed numbers. Takes no memory.
     pub(crate) fn open_block(&self, closed: &[u64], number: u64) -> Option<&R>
-        ensures { option_copied result ≡ option_map (λ e. e.value)
-            (block_at (without self.now.blocks closed.now) number) }
+        ensures { option_copied result ≡ value_at (without self.now.blocks closed.now) number }
     {
         if closed.contains(&number) {
             None

@@ -1,6 +1,6 @@
 //! Changes of blocks, on their way.
-ghost use Rattle.std.specs.Prelude.{◌≡◌, ◌++◌, ◌∷◌, ◌⊎◌, ℕ, [], None, IfOk};
-ghost use Rattle.swoosh_resolver.specs.Tables.{Entry};
+ghost use Rattle.std.specs.Prelude.{IfOk};
+ghost use Rattle.swoosh_resolver.specs.Insertions.{OpensLast};
 
 use crate::keyed::{Placed, Seeker};
 use crate::opened::Opened;
@@ -18,9 +18,7 @@ pub struct Change<R: Resolvable> {
 impl<R: Resolvable> Change<R> {
     /// The change that opens the value last too, on its base or on none. Returns `Memory` if allocation fails.
     pub(crate) fn with_last(self, alloc: Global, value: Seeker<R>) -> Result<Change<R>, Memory>
-        ensures { IfOk result (λ new. (new.closed.items ≡ self.closed.items)
-            × ((e : Entry R ℕ) × (new.opened.items ≡ self.opened.items ++ e ∷ [])
-            × (e.value ≡ value.value) × ((e.base ≡ None) ⊎ (e.base ≡ value.base)))) }
+        ensures { IfOk result (OpensLast self value.value value.base) }
     {
         let keyed = value.keyed(alloc)?;
         let Change { closed, opened } = self;

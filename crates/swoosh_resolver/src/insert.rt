@@ -1,12 +1,14 @@
 //! The insertion of a value.
-ghost use Rattle.std.specs.Prelude.{◌≡◌, ◌+◌, ◌<◌, ◌≤◌, ◌++◌, ◌↔◌, ◌⊎◌, ℕ, [], ◌∷◌, Some, false, is_some, if◌then◌else◌};
-ghost use Rattle.std.specs.Prelude.{IfOk, IfSome, IfNone, OnOk, All, List, Contains, count_by};
-ghost use Rattle.merge_laws.specs.Resolution.{IsResolution, IsDominated};
-ghost use Rattle.merge_laws.specs.Reach.{near, reach};
-ghost use Rattle.swoosh_resolver.specs.Tables.{Base, Entry, Has, IsOnBase, block_at, blocks_in};
-ghost use Rattle.swoosh_resolver.specs.Changes.{without, view_of, CanStand, Fits};
-ghost use Rattle.swoosh_resolver.specs.Looks.{IsLook, IsUnder};
-ghost use Rattle.swoosh_resolver.specs.Insertions.{passes, IsMatchAt, Merges, Inserts};
+ghost use Rattle.std.specs.Prelude.{◌≡◌, ◌+◌, ◌<◌, ◌≤◌, ◌++◌, ◌⊎◌, [], ◌∷◌, Some, is_some, if◌then◌else◌};
+ghost use Rattle.std.specs.Prelude.{IfOk, IfSome, IfNone, OnOk};
+ghost use Rattle.merge_laws.specs.Resolution.{IsResolution};
+ghost use Rattle.merge_laws.specs.Reach.{near};
+ghost use Rattle.merge_laws.specs.Reaches.{IsWithinReach};
+ghost use Rattle.swoosh_resolver.specs.Tables.{Base, Has, IsOnBase, block_at};
+ghost use Rattle.swoosh_resolver.specs.Changes.{Fits, MatchesNoEntry, MayStand, found_in, kept_in, view_in, without};
+ghost use Rattle.swoosh_resolver.specs.Looks.{AreInBoth, IsLook, IsUnder};
+ghost use Rattle.swoosh_resolver.specs.Insertions.{InsertsIn, IsKeptMatch, Joins, MatchesNotAt, base_at};
+ghost use Rattle.swoosh_resolver.specs.Insertions.{StaysPastAll, StaysPastKept, StaysPastOpened};
 
 use crate::blocks::Blocks;
 use crate::change::Change;
@@ -21,8 +23,7 @@ use union_base::memory::Memory;
 
 /// Those of the numbers that are closed, in their order. Returns `Memory` if allocation fails.
 fn closed_among(alloc: Global, closed: &[u64], numbers: &[u64]) -> Result<Vec<u64>, Memory>
-    ensures { IfOk result (λ shut. (n : ℕ) → Contains shut.items n
-        ↔ (Contains numbers.now n × Contains closed.now n)) }
+    ensures { IfOk result (λ shut. AreInBoth numbers.now closed.now shut.items) }
 {
     let mut shut = Vec::new(alloc);
     for number in numbers.iter() {
@@ -40,10 +41,10 @@ impl<R: Resolvable> Blocks<R> {
         value: &Seeker<R>,
         steps: &mut Steps<L>,
     ) -> Option<&R>
-        ensures some { IfSome result (λ b. IsMatchAt R.meets (without self.now.blocks closed.now)
+        ensures some { IfSome result (λ b. IsKeptMatch R.meets self.now.blocks closed.now
             value.now.value number b.now) }
-        ensures none { IfNone result (passes (λ e. R.meets value.now.value e.value) (block_at
-            (without self.now.blocks closed.now) number) ≡ false) }
+        ensures none { IfNone result (MatchesNotAt R.meets self.now.blocks closed.now value.now.value
+            number) }
         ensures cost { steps.new ≤ steps.old + (if is_some
             (block_at (without self.now.blocks closed.now) number) then 1 else 0) }
     {
@@ -75,14 +76,13 @@ impl<R: Resolvable> Blocks<R> {
         requires look { IsLook (IsUnder (Has R.is_posted) value.now.keys) self.now.blocks
             numbers.now }
         requires beside { (b : Base R) → value.now.base ≡ Some b
-            → All (λ e. R.meets b.value e.value ≡ false) (blocks_in
-            (without self.now.blocks closed.now)) }
-        ensures found { IfSome result (λ p. IsMatchAt R.meets
-            (without self.now.blocks closed.now) value.now.value p.0 p.1.now) }
-        ensures none { IfNone result (All (λ e. R.meets value.now.value e.value ≡ false) (blocks_in
-            (without self.now.blocks closed.now))) }
-        ensures cost { steps.new ≤ steps.old + count_by (λ e. R.is_found e.value value.now.value)
-            (blocks_in (without self.now.blocks closed.now)) }
+            → MatchesNoEntry R.meets b.value (kept_in self.now.blocks closed.now) }
+        ensures found { IfSome result (λ p. IsKeptMatch R.meets self.now.blocks closed.now
+            value.now.value p.0 p.1.now) }
+        ensures none { IfNone result (MatchesNoEntry R.meets value.now.value
+            (kept_in self.now.blocks closed.now)) }
+        ensures cost { steps.new ≤ steps.old + found_in R.is_found
+            (kept_in self.now.blocks closed.now) value.now.value }
     {
         let _ = &value.sought;
         for number in numbers.iter() {
@@ -141,10 +141,8 @@ impl<R: Resolvable> Blocks<R> {
         value: &Seeker<R>,
     ) -> Result<Seeker<R>, Memory>
         ensures value { IfOk result (λ s. s.value ≡ R.join block.now value.now.value) }
-        ensures base { IfOk result (λ s. (s.base ≡ Some (record {
-          number = number;
-          value = block.now;
-        })) ⊎ (s.base ≡ value.now.base)) }
+        ensures base { IfOk result (λ s. (s.base ≡ base_at number block.now)
+            ⊎ (s.base ≡ value.now.base)) }
     {
         let base = block.copied(alloc)?;
         self.merged(alloc, block, Some(Standing { number, base }), value)
@@ -181,25 +179,20 @@ impl<R: Resolvable> Blocks<R> {
     ) -> Result<Option<Seeker<R>>, Memory>
         requires fits { Fits R.meets self.now.blocks change.old.closed.items
             change.old.opened.items }
-        requires stands { CanStand R.meets self.now.blocks change.old.closed.items
-            change.old.opened.items value.now.base }
+        requires stands { MayStand R.meets self.now.blocks change.old value.now }
         requires look { IsLook (IsUnder (Has R.is_posted) value.now.keys) self.now.blocks
             numbers.now }
         ensures merged { IfOk result (λ o. IfSome o
-            (λ merged. Merges R.meets R.join self.now.blocks change.old.closed.items
-            change.old.opened.items value.now.value change.new.closed.items change.new.opened.items
-            merged.value)) }
+            (Joins R.meets R.join self.now.blocks value.now
+            change.old change.new)) }
         ensures fits { OnOk result (Fits R.meets self.now.blocks change.new.closed.items
             change.new.opened.items) }
-        ensures stands { IfOk result (λ o. IfSome o (λ merged. CanStand R.meets self.now.blocks
-            change.new.closed.items change.new.opened.items merged.base)) }
+        ensures stands { IfOk result (λ o. IfSome o (MayStand R.meets self.now.blocks change.new)) }
         ensures none { IfOk result (λ o. IfNone o
-            ((change.new.closed.items ≡ change.old.closed.items)
-            × (change.new.opened.items ≡ change.old.opened.items)
-            × All (λ e. R.meets value.now.value e.value ≡ false) (blocks_in
-            (without self.now.blocks change.old.closed.items)))) }
-        ensures cost { steps.new ≤ steps.old + count_by (λ e. R.is_found e.value value.now.value)
-            (blocks_in (without self.now.blocks change.old.closed.items)) }
+            (StaysPastKept R.meets self.now.blocks value.now
+            change.old change.new)) }
+        ensures cost { steps.new ≤ steps.old + found_in R.is_found
+            (kept_in self.now.blocks change.old.closed.items) value.now.value }
     {
         match self.first_kept(change.closed.as_slice(), numbers, value, steps) {
             Some((number, block)) => {
@@ -223,24 +216,19 @@ impl<R: Resolvable> Blocks<R> {
     ) -> Result<Option<Seeker<R>>, Memory>
         requires fits { Fits R.meets self.now.blocks change.old.closed.items
             change.old.opened.items }
-        requires stands { CanStand R.meets self.now.blocks change.old.closed.items
-            change.old.opened.items value.now.base }
+        requires stands { MayStand R.meets self.now.blocks change.old value.now }
         requires look { IsLook (IsUnder (Has R.is_posted) value.now.keys) self.now.blocks
             numbers.now }
         ensures merged { IfOk result (λ o. IfSome o
-            (λ merged. Merges R.meets R.join self.now.blocks change.old.closed.items
-            change.old.opened.items value.now.value change.new.closed.items change.new.opened.items
-            merged.value)) }
+            (Joins R.meets R.join self.now.blocks value.now
+            change.old change.new)) }
         ensures fits { OnOk result (Fits R.meets self.now.blocks change.new.closed.items
             change.new.opened.items) }
-        ensures stands { IfOk result (λ o. IfSome o (λ merged. CanStand R.meets self.now.blocks
-            change.new.closed.items change.new.opened.items merged.base)) }
+        ensures stands { IfOk result (λ o. IfSome o (MayStand R.meets self.now.blocks change.new)) }
         ensures none { IfOk result (λ o. IfNone o
-            ((change.new.closed.items ≡ change.old.closed.items)
-            × (change.new.opened.items ≡ change.old.opened.items)
-            × All (λ e. R.meets value.now.value e.value ≡ false) change.old.opened.items)) }
-        ensures cost { steps.new ≤ steps.old + count_by (λ e. R.is_found e.value value.now.value)
-            change.old.opened.items }
+            (StaysPastOpened R.meets value.now change.old change.new)) }
+        ensures cost { steps.new ≤ steps.old + found_in R.is_found change.old.opened.items
+            value.now.value }
     {
         let _ = &value.sought;
         let shut = closed_among(alloc, change.closed.as_slice(), numbers)?;
@@ -267,23 +255,17 @@ impl<R: Resolvable> Blocks<R> {
     ) -> Result<Option<Seeker<R>>, Memory>
         requires fits { Fits R.meets self.now.blocks change.old.closed.items
             change.old.opened.items }
-        requires stands { CanStand R.meets self.now.blocks change.old.closed.items
-            change.old.opened.items value.now.base }
+        requires stands { MayStand R.meets self.now.blocks change.old value.now }
         ensures merged { IfOk result (λ o. IfSome o
-            (λ merged. Merges R.meets R.join self.now.blocks change.old.closed.items
-            change.old.opened.items value.now.value change.new.closed.items change.new.opened.items
-            merged.value)) }
+            (Joins R.meets R.join self.now.blocks value.now
+            change.old change.new)) }
         ensures fits { OnOk result (Fits R.meets self.now.blocks change.new.closed.items
             change.new.opened.items) }
-        ensures stands { IfOk result (λ o. IfSome o (λ merged. CanStand R.meets self.now.blocks
-            change.new.closed.items change.new.opened.items merged.base)) }
+        ensures stands { IfOk result (λ o. IfSome o (MayStand R.meets self.now.blocks change.new)) }
         ensures none { IfOk result (λ o. IfNone o
-            ((change.new.closed.items ≡ change.old.closed.items) ×
-            (change.new.opened.items ≡ change.old.opened.items)
-            × All (λ w. R.meets value.now.value w ≡ false)
-            (view_of self.now.blocks change.old.closed.items change.old.opened.items))) }
-        ensures cost { steps.new ≤ steps.old + near R.is_found
-            (view_of self.now.blocks change.old.closed.items change.old.opened.items)
+            (StaysPastAll R.meets self.now.blocks value.now
+            change.old change.new)) }
+        ensures cost { steps.new ≤ steps.old + near R.is_found (view_in self.now.blocks change.old)
             value.now.value }
     {
         let numbers = self.under(alloc, value.sought.as_slice())?;
@@ -307,16 +289,11 @@ impl<R: Resolvable> Blocks<R> {
         ensures fits { IfOk result (λ new. Fits R.meets self.now.blocks new.closed.items
             new.opened.items) }
         ensures resolved { IfOk result (λ new. IsResolution R.meets R.join
-            (view_of self.now.blocks change.closed.items change.opened.items ++ value ∷ [])
-            (view_of self.now.blocks new.closed.items new.opened.items)) }
+            (view_in self.now.blocks change ++ value ∷ []) (view_in self.now.blocks new)) }
         ensures inserts { IfOk result
-            (λ new. Inserts R.meets R.join self.now.blocks change.closed.items change.opened.items
-            value new.closed.items new.opened.items) }
-        ensures cost { (all : List R) (x : R) → IsResolution R.meets R.join
-            (view_of self.now.blocks change.closed.items change.opened.items ++ value ∷ []) all
-            → Contains all x → IsDominated R.meets R.join value x
-            → steps.new ≤ steps.old + reach R.meets R.is_found
-            (view_of self.now.blocks change.closed.items change.opened.items) x }
+            (InsertsIn R.meets R.join self.now.blocks change value) }
+        ensures cost { IsWithinReach R.meets R.join R.is_found (view_in self.now.blocks change)
+            value steps.old steps.new }
     {
         let mut change = change;
         let mut value = Seeker::of(alloc, value)?;

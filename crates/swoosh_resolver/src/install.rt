@@ -1,13 +1,14 @@
 //! Changes take effect.
-ghost use Rattle.std.specs.Prelude.{◌≡◌, ◌≢◌, ◌+◌, ◌<◌, ◌≤◌, ◌++◌, ◌⊎◌, ℕ, Some, None, IsSome, IfOk};
-ghost use Rattle.std.specs.Prelude.{OnOk, List, AllPairs, Contains, drop, take, length, map, slice_index, slice_index_or, slice_set, vec_capacity};
-ghost use Rattle.std.specs.Prelude.{count_by};
+ghost use Rattle.std.specs.Prelude.{◌≡◌, ◌≢◌, ◌+◌, ◌<◌, ◌≤◌, ◌++◌, ℕ, Some, None, IsSome, IfOk};
+ghost use Rattle.std.specs.Prelude.{OnOk, AllPairs, Contains, drop, take, length, map, slice_index, slice_set, vec_capacity};
 ghost use Rattle.std.specs.List.Sorted.{IsPermutation};
 ghost use Rattle.feature_index.specs.Postings.{KeepsRows, numbers_of, posting_of, spare_of};
-ghost use Rattle.swoosh_resolver.specs.Tables.{Entry, ArePlaced, ArePosted, Has, HasOwn, IsOnBase, IsPlaced, at_rows};
-ghost use Rattle.swoosh_resolver.specs.Tables.{block_at, blocks_in, keys_at, places_at, standings_of, values_of};
-ghost use Rattle.swoosh_resolver.specs.Changes.{AreMoved, AreNumbers, AreOpened, AreSeated, Fits, HasRoom};
-ghost use Rattle.swoosh_resolver.specs.Changes.{added, base_places, keys_in, view_of, whole_at, without};
+ghost use Rattle.swoosh_resolver.specs.Posted.{HaveSpare, Spends};
+ghost use Rattle.swoosh_resolver.specs.Tables.{AreOnBases, ArePlaced, ArePosted, Has, HasOwn, IsPlaced, IsPlacedAt, at_rows};
+ghost use Rattle.swoosh_resolver.specs.Tables.{block_at, blocks_in, places_at, standings_of, values_of};
+ghost use Rattle.swoosh_resolver.specs.Changes.{AreNumbersOf, AreOpened, ArePlacesBelow, AreSeated, AreUntaken, AreWhole, Fits};
+ghost use Rattle.swoosh_resolver.specs.Changes.{HasRoomFor, KeepsBlocks, StartAsKept};
+ghost use Rattle.swoosh_resolver.specs.Changes.{added, base_places, further_keys, keys_in, view_of, whole_at, without};
 
 use crate::blocks::Blocks;
 use crate::change::{Change, Ready};
@@ -107,20 +108,17 @@ fn put<R: Resolvable>(
     requires place { number < vec_capacity blocks.old }
     requires starts { places_at blocks.old.items number
         ≡ take (length (places_at blocks.old.items number)) placed.keys }
-    requires room { (k : R.Key) → count_by (R.Key.eq k) (keys_at postings.old
-        (drop (length (places_at blocks.old.items number)) placed.keys))
-        ≤ spare_of R.Key.eq postings.old k }
+    requires room { HaveSpare R.Key.eq postings.old
+        (further_keys postings.old blocks.old.items number placed.keys) }
     requires posted { ArePosted R.Key.eq (Has R.is_posted) blocks.old.items postings.old }
-    requires standing { (e : Entry R ℕ) → block_at blocks.old.items number ≡ Some e
-        → IsPlaced (R.is_posted e.value) postings.old e.keys }
+    requires standing { IsPlacedAt R.is_posted postings.old blocks.old.items number }
     requires placed { IsPlaced (R.is_posted placed.value) postings.old placed.keys }
     ensures here { block_at blocks.new.items number ≡ Some placed }
     ensures others { (n : ℕ) → n ≢ number → block_at blocks.new.items n
         ≡ block_at blocks.old.items n }
     ensures posted { ArePosted R.Key.eq (Has R.is_posted) blocks.new.items postings.new }
-    ensures spares { (k : R.Key) → spare_of R.Key.eq postings.old k
-        ≤ spare_of R.Key.eq postings.new k + count_by (R.Key.eq k) (keys_at postings.old
-        (drop (length (places_at blocks.old.items number)) placed.keys)) }
+    ensures spares { Spends R.Key.eq postings.old postings.new
+        (further_keys postings.old blocks.old.items number placed.keys) }
     ensures rows { KeepsRows postings.old postings.new }
     ensures capacity { vec_capacity blocks.old ≤ vec_capacity blocks.new }
 {
@@ -140,13 +138,9 @@ fn put_all<R: Resolvable>(
     requires distinct { AllPairs (λ m n. m ≢ n) numbers.now }
     requires each { length numbers.now ≡ length opened.items }
     requires within { (n : ℕ) → Contains numbers.now n → n < vec_capacity blocks.old }
-    requires starts { (i : ℕ) (e : Entry R ℕ) → i < length opened.items
-        → slice_index_or opened.items i e ≡ e
-        → places_at blocks.old.items (slice_index numbers.now i)
-        ≡ take (length (places_at blocks.old.items (slice_index numbers.now i))) e.keys }
-    requires room { (k : R.Key) → count_by (R.Key.eq k)
-        (keys_in postings.old (added blocks.old.items opened.items numbers.now))
-        ≤ spare_of R.Key.eq postings.old k }
+    requires starts { StartAsKept blocks.old.items numbers.now opened.items }
+    requires room { HaveSpare R.Key.eq postings.old
+        (keys_in postings.old (added blocks.old.items opened.items numbers.now)) }
     requires posted { ArePosted R.Key.eq (Has R.is_posted) blocks.old.items postings.old }
     requires standing { ArePlaced (Has R.is_posted) postings.old (blocks_in blocks.old.items) }
     requires placed { ArePlaced (Has R.is_posted) postings.old opened.items }
@@ -170,8 +164,8 @@ fn make_room_for_all<R: Resolvable>(
     requires { ArePlaced (HasOwn R.is_posted) postings.old opened.now }
     ensures numbers { (k : R.Key) → numbers_of R.Key.eq postings.new k
         ≡ numbers_of R.Key.eq postings.old k }
-    ensures room { OnOk result ((k : R.Key) → count_by (R.Key.eq k)
-        (keys_in postings.old (map (λ e. e.keys) opened.now)) ≤ spare_of R.Key.eq postings.new k) }
+    ensures room { OnOk result (HaveSpare R.Key.eq postings.new
+        (keys_in postings.old (map (λ e. e.keys) opened.now))) }
     ensures rows { KeepsRows postings.old postings.new }
 {
     for fresh in opened.iter() {
@@ -198,8 +192,7 @@ fn moved_all<R: Resolvable>(
     values: Vec<Fresh<R>>,
     rows: &[usize],
 ) -> Result<Vec<Fresh<R>>, Memory>
-    requires { (e : Entry R ℕ) → Contains values.items e → (place : ℕ) → Contains e.keys place
-        → place < length rows.now }
+    requires { ArePlacesBelow (length rows.now) values.items }
     ensures { IfOk result (λ moved. moved.items ≡ map (at_rows rows.now) values.items) }
 {
     let mut moved = Vec::with_capacity(alloc, values.len())?;
@@ -230,8 +223,7 @@ fn moved<R: Resolvable>(
         ≡ standings_of opened.items) }
     ensures placed { IfOk result (λ moved. ArePlaced (HasOwn R.is_posted) postings.new
         moved.items) }
-    ensures based { IfOk result (λ moved. (e : Entry R ℕ) → Contains moved.items e
-        → IsOnBase R.is_posted R.join e.value e.base) }
+    ensures based { IfOk result (λ moved. AreOnBases R.is_posted R.join moved.items) }
     ensures postings { (k : R.Key) → posting_of R.Key.eq postings.new k
         ≡ posting_of R.Key.eq postings.old k }
     ensures rows { KeepsRows postings.old postings.new }
@@ -312,9 +304,8 @@ fn placed_in<R: Resolvable>(
     postings: &mut Postings<R::Key>,
     opened: Opened<R>,
 ) -> Result<Vec<Placed<R>>, Memory>
-    ensures moved { IfOk result (λ whole. (moved : List (Entry R ℕ))
-        × AreMoved R.Key.eq R.is_posted R.join opened.items postings.new moved
-        × (whole.items ≡ map (whole_at blocks.now) moved)) }
+    ensures moved { IfOk result (λ all. AreWhole R.Key.eq R.is_posted R.join opened.items
+        postings.new blocks.now all.items) }
     ensures numbers { (k : R.Key) → numbers_of R.Key.eq postings.new k
         ≡ numbers_of R.Key.eq postings.old k }
     ensures rows { KeepsRows postings.old postings.new }
@@ -337,14 +328,12 @@ impl<R: Resolvable> Blocks<R> {
             ≡ values_of change.opened.items) }
         ensures fits { IfOk result (λ ready. Fits R.meets self.new.blocks ready.closed.items
             ready.opened.items) }
-        ensures room { IfOk result (λ ready. HasRoom R.Key.eq R.is_posted self.new
-            ready.closed.items ready.opened.items ready.numbers.items ready.vacated.items) }
-        ensures numbers { IfOk result (λ ready. AreNumbers ready.closed.items
-            (length self.old.blocks) (length ready.opened.items) ready.numbers.items) }
+        ensures room { IfOk result (HasRoomFor R.Key.eq R.is_posted self.new) }
+        ensures numbers { IfOk result (λ ready. AreNumbersOf ready (length self.old.blocks)) }
         ensures seated { IfOk result (λ ready. AreSeated change.opened.items ready.numbers.items) }
         ensures distinct { IfOk result (λ ready. AllPairs (λ m n. m ≢ n) ready.numbers.items) }
-        ensures free { IfOk result (λ ready. (n : ℕ) → Contains ready.numbers.items n
-            → Contains ready.closed.items n ⊎ (block_at self.old.blocks n ≡ None)) }
+        ensures free { IfOk result (λ ready. AreUntaken self.old.blocks ready.closed.items
+            ready.numbers.items) }
     {
         let Change { closed, opened } = change;
         self.blocks.reserve(opened.len())?;
@@ -363,11 +352,8 @@ impl<R: Resolvable> Blocks<R> {
     /// under the numbers that `make_room` answered. No other change may have been installed since. Takes no memory.
     pub fn install(&mut self, ready: Ready<R>)
         requires fits { Fits R.meets self.old.blocks ready.closed.items ready.opened.items }
-        requires room { HasRoom R.Key.eq R.is_posted self.old ready.closed.items
-            ready.opened.items ready.numbers.items ready.vacated.items }
-        ensures kept { (n : ℕ) (e : Entry R ℕ) → block_at self.old.blocks n ≡ Some e
-            → (Contains ready.closed.items n
-            → ⊥) → block_at self.new.blocks n ≡ Some e }
+        requires room { HasRoomFor R.Key.eq R.is_posted self.old ready }
+        ensures kept { KeepsBlocks self.old.blocks ready.closed.items self.new.blocks }
         ensures opened { AreOpened (without self.old.blocks ready.closed.items) ready.numbers.items
             ready.opened.items self.new.blocks }
         ensures view { IsPermutation (view_of self.old.blocks ready.closed.items

@@ -1,6 +1,6 @@
 //! Values with the keys under which an index has them, with the places of these keys in an index, or with the keys that they seek.
 ghost use Rattle.std.specs.Prelude.{◌≡◌, ◌⊎◌, Some, None, IfOk, IfSome};
-ghost use Rattle.swoosh_resolver.specs.Tables.{AreKeys, AreSought, Base, IsOnBase, OwnKey};
+ghost use Rattle.swoosh_resolver.specs.Tables.{AreKeys, AreSought, Base, HasIn, IsOnBase, OwnKey};
 
 use merge_laws::resolvable::Resolvable;
 use std::alloc::Global;
@@ -181,8 +181,8 @@ impl<R: Resolvable> Seeker<R> {
         other: &R,
         standing: Option<Standing<R>>,
     ) -> Result<Seeker<R>, Memory>
-        requires { IfSome standing (λ b. R.join b.value (R.join other.now self.now.value)
-            ≡ R.join other.now self.now.value) }
+        requires { IfSome standing (λ b. HasIn R.join b.value
+            (R.join other.now self.now.value)) }
         ensures value { IfOk result (λ s. s.value ≡ R.join other.now self.now.value) }
         ensures base { IfOk result (λ s. s.base ≡ standing) }
     {

@@ -1,10 +1,12 @@
 //! The opened values of a change.
-ghost use Rattle.std.specs.Prelude.{◌≡◌, ◌≢◌, ◌⊎◌, ℕ, ◌+◌, ◌<◌, ◌≤◌, ◌↔◌, ◌++◌, ◌∷◌, [], Some, None, true, false, IsTrue, is_some, map, if◌then◌else◌};
-ghost use Rattle.std.specs.Prelude.{IfOk, IfSome, IfNone, All, Contains, length, slice_index_or, swap_remove, count_by};
-ghost use Rattle.feature_index.specs.Postings.{KeepsRows, numbers_of};
-ghost use Rattle.swoosh_resolver.specs.Tables.{AreFree, AreListedAt, ArePlaced, Base, Entry, HasOwn, IsOnBase, IsPlaced, block_at};
-ghost use Rattle.swoosh_resolver.specs.Looks.{IsFound, IsLook, StandsOn};
-ghost use Rattle.swoosh_resolver.specs.Insertions.{passes, MergesMatch, TakesMatch};
+ghost use Rattle.std.specs.Prelude.{◌≡◌, ℕ, ◌+◌, ◌<◌, ◌≤◌, [], Some, None, true, false, is_some, map, if◌then◌else◌};
+ghost use Rattle.std.specs.Prelude.{IfOk, IfSome, IfNone, length, slice_index_or, swap_remove};
+ghost use Rattle.feature_index.specs.Postings.{KeepsRows};
+ghost use Rattle.swoosh_resolver.specs.Posted.{ExchangesUnder, LosesUnder, StandsUnderAll, StandsUnderNone};
+ghost use Rattle.swoosh_resolver.specs.Tables.{AreFree, AreListedAt, AreOnBases, ArePlaced, Entry, HasOwn, IsOnBase, IsPlaced, block_at};
+ghost use Rattle.swoosh_resolver.specs.Changes.{MatchesNoEntry, found_in};
+ghost use Rattle.swoosh_resolver.specs.Looks.{AreSeen, BasesAreUnder, IsFound, IsLookIn, StandsOn};
+ghost use Rattle.swoosh_resolver.specs.Insertions.{passes, AddsLast, MatchesEntryAt, MatchesNoFound, MergesMatch, TakesMatch};
 ghost use Rattle.swoosh_resolver.specs.Splits.{Opens};
 
 use crate::keyed::{Fresh, Keyed, Seeker};
@@ -40,11 +42,10 @@ impl<R: Resolvable> Model for Opened<R> {
 /// Takes the place from under each of the value's own keys. Takes no memory.
 fn unpost_fresh<R: Resolvable>(postings: &mut Postings<R::Key>, fresh: &Fresh<R>, place: u64)
     requires placed { IsPlaced (HasOwn R.is_posted fresh.now) postings.old fresh.now.keys }
-    requires present { (k : R.Key) → HasOwn R.is_posted fresh.now k
-        → Contains (numbers_of R.Key.eq postings.old k) place }
-    ensures numbers { (k : R.Key) (n : ℕ) → Contains (numbers_of R.Key.eq postings.new k) n
-        ↔ (Contains (numbers_of R.Key.eq postings.old k) n
-        × (HasOwn R.is_posted fresh.now k → n ≢ place)) }
+    requires present { StandsUnderAll R.Key.eq (HasOwn R.is_posted fresh.now)
+        postings.old place }
+    ensures numbers { LosesUnder R.Key.eq (HasOwn R.is_posted fresh.now)
+        postings.old postings.new place }
     ensures rows { KeepsRows postings.old postings.new }
 {
     unpost::<R>(postings, fresh.places.as_slice(), place);
@@ -58,14 +59,12 @@ fn repost_fresh<R: Resolvable>(
     to: u64,
 )
     requires placed { IsPlaced (HasOwn R.is_posted fresh.now) postings.old fresh.now.keys }
-    requires present { (k : R.Key) → HasOwn R.is_posted fresh.now k
-        → Contains (numbers_of R.Key.eq postings.old k) from }
-    requires absent { (k : R.Key) → HasOwn R.is_posted fresh.now k
-        → Contains (numbers_of R.Key.eq postings.old k) to → ⊥ }
-    ensures numbers { (k : R.Key) (n : ℕ) → Contains (numbers_of R.Key.eq postings.new k) n
-        ↔ ((Contains (numbers_of R.Key.eq postings.old k) n
-        × (HasOwn R.is_posted fresh.now k → n ≢ from))
-        ⊎ (HasOwn R.is_posted fresh.now k × (n ≡ to))) }
+    requires present { StandsUnderAll R.Key.eq (HasOwn R.is_posted fresh.now)
+        postings.old from }
+    requires absent { StandsUnderNone R.Key.eq (HasOwn R.is_posted fresh.now)
+        postings.old to }
+    ensures numbers { ExchangesUnder R.Key.eq (HasOwn R.is_posted fresh.now)
+        postings.old postings.new from to }
     ensures rows { KeepsRows postings.old postings.new }
 {
     repost::<R>(postings, fresh.places.as_slice(), from, to);
@@ -139,8 +138,7 @@ impl<R: Resolvable> Opened<R> {
     pub(crate) fn into_parts(self) -> (Vec<Fresh<R>>, Postings<R::Key>)
         ensures values { result.0.items ≡ self.items }
         ensures placed { ArePlaced (HasOwn R.is_posted) result.1 self.items }
-        ensures based { (e : Entry R ℕ) → Contains self.items e
-            → IsOnBase R.is_posted R.join e.value e.base }
+        ensures based { AreOnBases R.is_posted R.join self.items }
     {
         let Opened { values, postings } = self;
         (values, postings)
@@ -148,8 +146,7 @@ impl<R: Resolvable> Opened<R> {
 
     /// The values, and the given one last. Its keys are moved into the index. Returns `Memory` if allocation fails.
     pub fn with_last(self, alloc: Global, keyed: Keyed<R>) -> Result<Opened<R>, Memory>
-        ensures { IfOk result (λ o. (e : Entry R ℕ) × (o.items ≡ self.items ++ e ∷ [])
-            × (e.value ≡ keyed.value) × (e.base ≡ keyed.base)) }
+        ensures { IfOk result (λ o. AddsLast self.items keyed.value keyed.base o.items) }
     {
         let Opened { values, postings } = self;
         let mut values = values;
@@ -188,9 +185,8 @@ impl<R: Resolvable> Opened<R> {
     /// The places of the values that stand on one of the numbers. Where there are no numbers, nothing is looked through. Returns
     /// `Memory` if allocation fails.
     fn standing_on(&self, alloc: Global, numbers: &[u64]) -> Result<Vec<u64>, Memory>
-        ensures { IfOk result (λ places. (n : ℕ) → Contains places.items n
-            ↔ ((e : Entry R ℕ) × (block_at (map Some self.now.items) n ≡ Some e)
-            × StandsOn numbers.now e)) }
+        ensures { IfOk result (λ places. AreSeen (StandsOn numbers.now)
+            (map Some self.now.items) places.items) }
     {
         let mut places = Vec::new(alloc);
         if numbers.is_empty() {
@@ -207,10 +203,9 @@ impl<R: Resolvable> Opened<R> {
     /// The places of the values that have one of the keys, which their base has not, or that stand on one of the numbers. Returns
     /// `Memory` if allocation fails.
     fn found(&self, alloc: Global, keys: &[R::Key], numbers: &[u64]) -> Result<Vec<u64>, Memory>
-        ensures look { IfOk result (λ places. IsLook (IsFound R.is_posted keys.now numbers.now)
-            (map Some self.now.items) places.items) }
-        ensures based { IfOk result (λ places. (e : Entry R ℕ) → Contains self.now.items e
-            → IsOnBase R.is_posted R.join e.value e.base) }
+        ensures look { IfOk result (λ at. IsLookIn (IsFound R.is_posted keys.now numbers.now)
+            self.now.items at.items) }
+        ensures based { IfOk result (λ places. AreOnBases R.is_posted R.join self.now.items) }
     {
         let standing = self.standing_on(alloc, numbers)?;
         candidates::<R>(alloc, &self.postings, keys, standing)
@@ -225,17 +220,14 @@ impl<R: Resolvable> Opened<R> {
         value: &Seeker<R>,
         steps: &mut Steps<L>,
     ) -> Result<Option<usize>, Memory>
-        requires led { (e : Entry R ℕ) (b : Base R) → Contains self.now.items e → e.base ≡ Some b
-            → Contains numbers.now b.number
-            → (k : R.Key) × Contains value.now.keys k × R.is_posted b.value k }
+        requires led { BasesAreUnder R.is_posted self.now.items numbers.now value.now.keys }
         ensures within { IfOk result (λ o. IfSome o (λ i. i < length self.now.items)) }
         ensures found { IfOk result (λ o. IfSome o
-            (λ i. (d : Entry R ℕ) → IsTrue (R.meets value.now.value
-            (slice_index_or self.now.items i d).value))) }
-        ensures none { IfOk result (λ o. IfNone o (All (λ e. IsFound R.is_posted value.now.keys
-            numbers.now e → R.meets value.now.value e.value ≡ false) self.now.items)) }
-        ensures cost { steps.new ≤ steps.old + count_by (λ e. R.is_found e.value value.now.value)
-            self.now.items }
+            (MatchesEntryAt R.meets value.now.value
+            self.now.items)) }
+        ensures none { IfOk result (λ o. IfNone o (MatchesNoFound R.meets R.is_posted value.now
+            numbers.now self.now.items)) }
+        ensures cost { steps.new ≤ steps.old + found_in R.is_found self.now.items value.now.value }
     {
         let places = self.found(alloc, value.sought.as_slice(), numbers)?;
         for place in places.iter() {
@@ -256,18 +248,14 @@ impl<R: Resolvable> Opened<R> {
         value: &Seeker<R>,
         steps: &mut Steps<L>,
     ) -> Result<Option<Fresh<R>>, Memory>
-        requires led { (e : Entry R ℕ) (b : Base R) → Contains self.old.items e → e.base ≡ Some b
-            → Contains numbers.now b.number
-            → (k : R.Key) × Contains value.now.keys k × R.is_posted b.value k }
+        requires led { BasesAreUnder R.is_posted self.old.items numbers.now value.now.keys }
         ensures taken { IfOk result (λ o. IfSome o (TakesMatch R.meets self.old.items
             value.now.value self.new.items)) }
         ensures based { IfOk result (λ o. IfSome o (λ by. IsOnBase R.is_posted R.join by.value
             by.base)) }
         ensures none { IfOk result (λ o. IfNone o ((self.new.items ≡ self.old.items)
-            × All (λ e. IsFound R.is_posted value.now.keys numbers.now e
-            → R.meets value.now.value e.value ≡ false) self.old.items)) }
-        ensures cost { steps.new ≤ steps.old + count_by (λ e. R.is_found e.value value.now.value)
-            self.old.items }
+            × MatchesNoFound R.meets R.is_posted value.now numbers.now self.old.items)) }
+        ensures cost { steps.new ≤ steps.old + found_in R.is_found self.old.items value.now.value }
     {
         match self.first_match(alloc, numbers, value, steps)? {
             Some(place) => Ok(Some(self.swap_remove(place))),
@@ -285,12 +273,11 @@ impl<R: Resolvable> Opened<R> {
     ) -> Result<Option<R>, Memory>
         requires free { AreFree self.old.items }
         requires whole { value.now.base ≡ None }
-        ensures merged { IfOk result (λ o. IfSome o (λ merged. MergesMatch R.meets R.join
-            self.old.items value.now.value self.new.items merged)) }
+        ensures merged { IfOk result (λ o. IfSome o (MergesMatch R.meets R.join self.old.items
+            value.now.value self.new.items)) }
         ensures none { IfOk result (λ o. IfNone o ((self.new.items ≡ self.old.items)
-            × All (λ e. R.meets value.now.value e.value ≡ false) self.old.items)) }
-        ensures cost { steps.new ≤ steps.old + count_by (λ e. R.is_found e.value value.now.value)
-            self.old.items }
+            × MatchesNoEntry R.meets value.now.value self.old.items)) }
+        ensures cost { steps.new ≤ steps.old + found_in R.is_found self.old.items value.now.value }
     {
         match self.take_match(alloc, &[], value, steps)? {
             Some(other) => Ok(Some(other.value.joined(alloc, &value.value)?)),

@@ -1,6 +1,8 @@
 //! The postings of one block, and the blocks under some keys.
-ghost use Rattle.std.specs.Prelude.{◌≡◌, ◌≢◌, ◌+◌, ◌≤◌, ◌↔◌, ◌⊎◌, ◌++◌, ◌∷◌, [], ℕ, true, false, List, Some, IsSome, map, IfOk, OnOk, AllPairs, Contains, count_by};
+ghost use Rattle.std.specs.Prelude.{◌≡◌, ◌≢◌, ◌↔◌, ◌++◌, ◌∷◌, [], ℕ, true, false, Some, IsSome, map, IfOk, OnOk, AllPairs, Contains};
 ghost use Rattle.feature_index.specs.Postings.{Ascends, KeepsRows, key_at, numbers_of, posting_of, spare_of};
+ghost use Rattle.swoosh_resolver.specs.Posted.{AddsUnder, ExchangesUnder, GainsSpare, GainsUnder, HaveSpare, LosesUnder};
+ghost use Rattle.swoosh_resolver.specs.Posted.{Spends, StandsUnderAll, StandsUnderNone};
 ghost use Rattle.swoosh_resolver.specs.Tables.{IsOnBase, IsPlaced, OwnKey, keys_at};
 
 use crate::keyed::{Fresh, Keyed};
@@ -13,16 +15,13 @@ use union_base::memory::Memory;
 pub(crate) fn post<R: Resolvable>(postings: &mut Postings<R::Key>, places: &[usize], number: u64)
     requires rows { (place : ℕ) → Contains places.now place → IsSome (key_at postings.old place) }
     requires once { AllPairs (λ j k. j ≢ k) (keys_at postings.old places.now) }
-    requires room { (k : R.Key) → count_by (R.Key.eq k) (keys_at postings.old places.now)
-        ≤ spare_of R.Key.eq postings.old k }
-    requires absent { (k : R.Key) → Contains (keys_at postings.old places.now) k
-        → Contains (numbers_of R.Key.eq postings.old k) number → ⊥ }
-    ensures numbers { (k : R.Key) (n : ℕ) → Contains (numbers_of R.Key.eq postings.new k) n
-        ↔ (Contains (numbers_of R.Key.eq postings.old k) n
-        ⊎ (Contains (keys_at postings.old places.now) k × (n ≡ number))) }
-    ensures spares { (k : R.Key) → spare_of R.Key.eq postings.old k
-        ≤ spare_of R.Key.eq postings.new k + count_by
-        (R.Key.eq k) (keys_at postings.old places.now) }
+    requires room { HaveSpare R.Key.eq postings.old (keys_at postings.old places.now) }
+    requires absent { StandsUnderNone R.Key.eq (Contains (keys_at postings.old places.now))
+        postings.old number }
+    ensures numbers { GainsUnder R.Key.eq (Contains (keys_at postings.old places.now))
+        postings.old postings.new number }
+    ensures spares { Spends R.Key.eq postings.old postings.new
+        (keys_at postings.old places.now) }
     ensures rows { KeepsRows postings.old postings.new }
 {
     for place in places.iter() {
@@ -34,11 +33,10 @@ pub(crate) fn post<R: Resolvable>(postings: &mut Postings<R::Key>, places: &[usi
 pub(crate) fn unpost<R: Resolvable>(postings: &mut Postings<R::Key>, places: &[usize], number: u64)
     requires rows { (place : ℕ) → Contains places.now place → IsSome (key_at postings.old place) }
     requires once { AllPairs (λ j k. j ≢ k) (keys_at postings.old places.now) }
-    requires present { (k : R.Key) → Contains (keys_at postings.old places.now) k
-        → Contains (numbers_of R.Key.eq postings.old k) number }
-    ensures numbers { (k : R.Key) (n : ℕ) → Contains (numbers_of R.Key.eq postings.new k) n
-        ↔ (Contains (numbers_of R.Key.eq postings.old k) n
-        × (Contains (keys_at postings.old places.now) k → n ≢ number)) }
+    requires present { StandsUnderAll R.Key.eq (Contains (keys_at postings.old places.now))
+        postings.old number }
+    ensures numbers { LosesUnder R.Key.eq (Contains (keys_at postings.old places.now))
+        postings.old postings.new number }
     ensures spares { (k : R.Key) → spare_of R.Key.eq postings.new k
         ≡ spare_of R.Key.eq postings.old k }
     ensures rows { KeepsRows postings.old postings.new }
@@ -57,14 +55,12 @@ pub(crate) fn repost<R: Resolvable>(
 )
     requires rows { (place : ℕ) → Contains places.now place → IsSome (key_at postings.old place) }
     requires once { AllPairs (λ j k. j ≢ k) (keys_at postings.old places.now) }
-    requires present { (k : R.Key) → Contains (keys_at postings.old places.now) k
-        → Contains (numbers_of R.Key.eq postings.old k) from }
-    requires absent { (k : R.Key) → Contains (keys_at postings.old places.now) k
-        → Contains (numbers_of R.Key.eq postings.old k) to → ⊥ }
-    ensures numbers { (k : R.Key) (n : ℕ) → Contains (numbers_of R.Key.eq postings.new k) n
-        ↔ ((Contains (numbers_of R.Key.eq postings.old k) n
-        × (Contains (keys_at postings.old places.now) k → n ≢ from))
-        ⊎ (Contains (keys_at postings.old places.now) k × (n ≡ to))) }
+    requires present { StandsUnderAll R.Key.eq (Contains (keys_at postings.old places.now))
+        postings.old from }
+    requires absent { StandsUnderNone R.Key.eq (Contains (keys_at postings.old places.now))
+        postings.old to }
+    ensures numbers { ExchangesUnder R.Key.eq (Contains (keys_at postings.old places.now))
+        postings.old postings.new from to }
     ensures rows { KeepsRows postings.old postings.new }
 {
     for place in places.iter() {
@@ -82,9 +78,8 @@ pub(crate) fn make_room_for<R: Resolvable>(
     requires { (place : ℕ) → Contains places.now place → IsSome (key_at postings.old place) }
     ensures numbers { (k : R.Key) → numbers_of R.Key.eq postings.new k
         ≡ numbers_of R.Key.eq postings.old k }
-    ensures room { OnOk result ((k : R.Key) → spare_of R.Key.eq postings.old k
-        + count_by (R.Key.eq k) (keys_at postings.old places.now)
-        ≤ spare_of R.Key.eq postings.new k) }
+    ensures room { OnOk result (GainsSpare R.Key.eq postings.old postings.new
+        (keys_at postings.old places.now)) }
     ensures rows { KeepsRows postings.old postings.new }
 {
     for place in places.iter() {
@@ -176,9 +171,8 @@ pub(crate) fn candidates<R: Resolvable>(
     given: Vec<u64>,
 ) -> Result<Vec<u64>, Memory>
     ensures ascending { IfOk result (λ numbers. Ascends numbers.items) }
-    ensures members { IfOk result (λ numbers. (n : ℕ) → Contains numbers.items n
-        ↔ (Contains given.items n ⊎ ((k : R.Key) × Contains keys.now k
-        × Contains (numbers_of R.Key.eq postings.now k) n))) }
+    ensures members { IfOk result (λ numbers. AddsUnder R.Key.eq postings.now keys.now
+        given.items numbers.items) }
 {
     let mut numbers = given;
     for key in keys.iter() {

@@ -1,9 +1,9 @@
 //! The taking apart of a member of the view.
-ghost use Rattle.std.specs.Prelude.{◌≡◌, ◌∷◌, ◌++◌, IsSome, IfOk, IfSome, option_copied, option_map};
+ghost use Rattle.std.specs.Prelude.{◌≡◌, ◌∷◌, ◌++◌, IsSome, IfOk, IfSome, option_copied};
 ghost use Rattle.std.specs.List.Sorted.{IsPermutation};
 ghost use Rattle.merge_laws.specs.Resolution.{AreApart};
-ghost use Rattle.swoosh_resolver.specs.Changes.{Fits, view_of};
-ghost use Rattle.swoosh_resolver.specs.Splits.{Splits, member_at, others_of, opened_after, closed_after};
+ghost use Rattle.swoosh_resolver.specs.Changes.{Fits, view_in};
+ghost use Rattle.swoosh_resolver.specs.Splits.{SplitsIn, member_at, member_in, others_in, opened_after, closed_after};
 
 use crate::blocks::Blocks;
 use crate::change::{Change, Place};
@@ -15,11 +15,9 @@ use union_base::memory::Memory;
 impl<R: Resolvable> Blocks<R> {
     /// The member of the view at the place. None exactly where none stands there. Takes no memory.
     pub fn member<'a>(&'a self, change: &'a Change<R>, at: Place) -> Option<&'a R>
-        ensures value { option_copied result ≡ option_map (λ e. e.value) (member_at self.now.blocks
-            change.now.closed.items change.now.opened.items at) }
-        ensures others { IfSome result (λ member. IsPermutation (view_of self.now.blocks
-            change.now.closed.items change.now.opened.items) (member.now ∷ others_of self.now.blocks
-            change.now.closed.items change.now.opened.items at)) }
+        ensures value { option_copied result ≡ member_in self.now.blocks change.now at }
+        ensures others { IfSome result (λ member. IsPermutation (view_in self.now.blocks change.now)
+            (member.now ∷ others_in self.now.blocks change.now at)) }
     {
         match at {
             Place::Kept(number) => self.open_block(change.closed.as_slice(), number),
@@ -63,18 +61,12 @@ impl<R: Resolvable> Blocks<R> {
         requires fits { Fits R.meets self.now.blocks change.closed.items change.opened.items }
         requires stands { IsSome (member_at self.now.blocks change.closed.items change.opened.items
             at) }
-        requires apart { AreApart R.meets (others_of self.now.blocks change.closed.items
-            change.opened.items at
-            ++ parts.items) }
+        requires apart { AreApart R.meets (others_in self.now.blocks change at ++ parts.items) }
         ensures fits { IfOk result (λ new. Fits R.meets self.now.blocks new.closed.items
             new.opened.items) }
         ensures view { IfOk result (λ new. IsPermutation
-            (others_of self.now.blocks change.closed.items
-            change.opened.items at ++ parts.items) (view_of self.now.blocks new.closed.items
-            new.opened.items)) }
-        ensures splits { IfOk result (λ new. Splits change.closed.items change.opened.items at
-            parts.items
-            new.closed.items new.opened.items) }
+            (others_in self.now.blocks change at ++ parts.items) (view_in self.now.blocks new)) }
+        ensures splits { IfOk result (SplitsIn change at parts.items) }
     {
         let Change { closed, opened } = self.taken_out(change, at)?;
         let opened = open_values(alloc, opened, parts)?;
