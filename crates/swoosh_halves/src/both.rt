@@ -5,13 +5,12 @@
 //! list. A merge may match any value, and is tested against those of both lists that are posted under a key which it seeks. The tests
 //! are at most the reach of inserting the values of the second list into the first (specs/Reaches.antt of merge_laws); and where no two
 //! values match, at most the pairs, one value of each list, of which the second finds the first. Values are moved and never copied.
-ghost use Rattle.std.specs.Prelude.{◌≡◌, ◌≤◌, ◌+◌, ◌++◌, ◌∷◌, ℕ, [], None, false};
-ghost use Rattle.std.specs.Prelude.{IfOk, IfSome, IfNone, List, OnOk, All, Contains, count_by, sum_by};
-ghost use Rattle.merge_laws.specs.Resolution.{AreApart, IsDominated, IsResolution};
-ghost use Rattle.merge_laws.specs.Reach.{near, reach};
-ghost use Rattle.merge_laws.specs.Reaches.{IsReachOfInsertions};
+ghost use Rattle.std.specs.Prelude.{◌≡◌, ◌≤◌, ◌+◌, ◌++◌, ◌∷◌, [], None, IfOk, IfSome, IfNone, OnOk};
+ghost use Rattle.merge_laws.specs.Resolution.{AreApart, IsResolution, MatchesNone};
+ghost use Rattle.merge_laws.specs.Reach.{near};
+ghost use Rattle.merge_laws.specs.Reaches.{AreWithinReach, IsWithinReach};
 ghost use Rattle.swoosh_resolver.specs.Tables.{AreFree, values_of};
-ghost use Rattle.swoosh_resolver.specs.Insertions.{MergesMatch};
+ghost use Rattle.swoosh_halves.specs.Rows.{AreAmong, MergesWithin, NoneMatch, StaysPast, apart_in, found_met, found_pairs, held, met_in, rows};
 
 use key_hashing::hashing::Hashing;
 use merge_laws::resolvable::Resolvable;
@@ -49,9 +48,9 @@ struct Both<R: Resolvable> {
 impl<R: Resolvable> Both<R> {
     /// The values of the first list, and none of the second. Returns `Memory` if allocation fails.
     fn of(alloc: Global, hashing: Hashing, list: Vec<R>) -> Result<Both<R>, Memory>
-        ensures met { IfOk result (λ both. values_of both.met.items ≡ list.items) }
+        ensures met { IfOk result (λ both. met_in both ≡ list.items) }
         ensures apart { IfOk result (λ both. both.apart.items ≡ []) }
-        ensures free { IfOk result (λ both. AreFree (both.met.items ++ both.apart.items)) }
+        ensures free { IfOk result (λ both. AreFree (rows both)) }
     {
         let met = open_values(alloc, Opened::empty(alloc, hashing), list)?;
         Ok(Both {
@@ -68,19 +67,14 @@ impl<R: Resolvable> Both<R> {
         value: &Seeker<R>,
         steps: &mut Steps<L>,
     ) -> Result<Option<R>, Memory>
-        requires free { AreFree (self.old.met.items ++ self.old.apart.items) }
+        requires free { AreFree (rows self.old) }
         requires whole { value.now.base ≡ None }
-        ensures merged { IfOk result (λ o. IfSome o (λ merged. MergesMatch R.meets R.join
-            (self.old.met.items ++ self.old.apart.items) value.now.value
-            (self.new.met.items ++ self.new.apart.items) merged)) }
-        ensures apart { OnOk result ((x : R) → Contains (values_of self.new.apart.items) x
-            → Contains (values_of self.old.apart.items) x) }
-        ensures none { IfOk result (λ o. IfNone o ((self.new.met.items ≡ self.old.met.items)
-            × (self.new.apart.items ≡ self.old.apart.items)
-            × All (λ w. R.meets value.now.value w ≡ false)
-            (values_of (self.old.met.items ++ self.old.apart.items)))) }
-        ensures cost { steps.new ≤ steps.old + near R.is_found
-            (values_of (self.old.met.items ++ self.old.apart.items)) value.now.value }
+        ensures merged { IfOk result (λ o. IfSome o (MergesWithin R.meets R.join self.old
+            value.now.value self.new)) }
+        ensures apart { OnOk result (AreAmong (apart_in self.new) (apart_in self.old)) }
+        ensures none { IfOk result (λ o. IfNone o (StaysPast R.meets value.now.value
+            self.old self.new)) }
+        ensures cost { steps.new ≤ steps.old + near R.is_found (held self.old) value.now.value }
     {
         match self.met.merge_match(alloc, value, steps)? {
             Some(merged) => Ok(Some(merged)),
@@ -96,19 +90,14 @@ impl<R: Resolvable> Both<R> {
         merge: R,
         steps: &mut Steps<L>,
     ) -> Result<Both<R>, Memory>
-        requires apart { AreApart R.meets (values_of (self.met.items ++ self.apart.items)) }
-        requires free { AreFree (self.met.items ++ self.apart.items) }
-        ensures free { IfOk result (λ new. AreFree (new.met.items ++ new.apart.items)) }
-        ensures resolved { IfOk result (λ new. IsResolution R.meets R.join
-            (values_of (self.met.items ++ self.apart.items) ++ merge ∷ [])
-            (values_of (new.met.items ++ new.apart.items))) }
-        ensures apart { IfOk result (λ new. (x : R) → Contains (values_of new.apart.items) x
-            → Contains (values_of self.apart.items) x) }
-        ensures cost { (all : List R) (x : R) → IsResolution R.meets R.join
-            (values_of (self.met.items ++ self.apart.items) ++ merge ∷ []) all
-            → Contains all x → IsDominated R.meets R.join merge x
-            → steps.new ≤ steps.old + reach R.meets R.is_found
-            (values_of (self.met.items ++ self.apart.items)) x }
+        requires apart { AreApart R.meets (held self) }
+        requires free { AreFree (rows self) }
+        ensures free { IfOk result (λ new. AreFree (rows new)) }
+        ensures resolved { IfOk result (λ new. IsResolution R.meets R.join (held self ++ merge ∷ [])
+            (held new)) }
+        ensures apart { IfOk result (λ new. AreAmong (apart_in new) (apart_in self)) }
+        ensures cost { IsWithinReach R.meets R.join R.is_found (held self) merge steps.old
+            steps.new }
     {
         let mut both = self;
         let mut value = Seeker::of(alloc, merge)?;
@@ -128,24 +117,19 @@ impl<R: Resolvable> Both<R> {
         value: R,
         steps: &mut Steps<L>,
     ) -> Result<Both<R>, Memory>
-        requires apart { AreApart R.meets (values_of (self.met.items ++ self.apart.items)) }
-        requires unmatched { All (λ w. R.meets value w ≡ false) (values_of self.apart.items) }
-        requires free { AreFree (self.met.items ++ self.apart.items) }
-        ensures free { IfOk result (λ new. AreFree (new.met.items ++ new.apart.items)) }
-        ensures resolved { IfOk result (λ new. IsResolution R.meets R.join
-            (values_of (self.met.items ++ self.apart.items) ++ value ∷ [])
-            (values_of (new.met.items ++ new.apart.items))) }
-        ensures apart { IfOk result (λ new. (x : R) → Contains (values_of new.apart.items) x
-            → Contains (values_of self.apart.items ++ value ∷ []) x) }
-        ensures met { IfOk result (λ new. All (λ w. R.meets value w ≡ false)
-            (values_of self.met.items) → new.met.items ≡ self.met.items) }
-        ensures untested { All (λ w. R.meets value w ≡ false) (values_of self.met.items)
-            → steps.new ≤ steps.old + count_by (λ e. R.is_found e.value value) self.met.items }
-        ensures cost { (all : List R) (x : R) → IsResolution R.meets R.join
-            (values_of (self.met.items ++ self.apart.items) ++ value ∷ []) all
-            → Contains all x → IsDominated R.meets R.join value x
-            → steps.new ≤ steps.old + reach R.meets R.is_found
-            (values_of (self.met.items ++ self.apart.items)) x }
+        requires apart { AreApart R.meets (held self) }
+        requires unmatched { MatchesNone R.meets value (apart_in self) }
+        requires free { AreFree (rows self) }
+        ensures free { IfOk result (λ new. AreFree (rows new)) }
+        ensures resolved { IfOk result (λ new. IsResolution R.meets R.join (held self ++ value ∷ [])
+            (held new)) }
+        ensures apart { IfOk result (λ new. AreAmong (apart_in new) (apart_in self ++ value ∷ [])) }
+        ensures met { IfOk result (λ new. MatchesNone R.meets value (met_in self)
+            → new.met.items ≡ self.met.items) }
+        ensures untested { MatchesNone R.meets value (met_in self)
+            → steps.new ≤ steps.old + found_met R.is_found self value }
+        ensures cost { IsWithinReach R.meets R.join R.is_found (held self) value steps.old
+            steps.new }
     {
         let mut both = self;
         let seeker = Seeker::of(alloc, value)?;
@@ -162,7 +146,7 @@ impl<R: Resolvable> Both<R> {
     /// The values alone. Returns `Memory` if allocation fails.
     fn into_values(self) -> Result<Vec<R>, Memory>
         ensures { IfOk result (λ all. all.items
-            ≡ values_of (self.met.items ++ self.apart.items)) }
+            ≡ held self) }
     {
         let Both { met, apart } = self;
         let mut entries = met.into_values();
@@ -186,12 +170,10 @@ pub fn resolve_both<R: Resolvable, L: Ledger>(
     requires other { AreApart R.meets other.items }
     ensures resolved { IfOk result (λ all. IsResolution R.meets R.join
         (one.items ++ other.items) all.items) }
-    ensures cost { (number : ℕ)
-        → IsReachOfInsertions R.meets R.join R.is_found one.items other.items number
-        → steps.new ≤ steps.old + number }
-    ensures untested { ((x y : R) → Contains one.items x → Contains other.items y
-        → R.meets y x ≡ false)
-        → steps.new ≤ steps.old + sum_by (λ y. near R.is_found one.items y) other.items }
+    ensures cost { AreWithinReach R.meets R.join R.is_found one.items other.items steps.old
+        steps.new }
+    ensures untested { NoneMatch R.meets one.items other.items
+        → steps.new ≤ steps.old + found_pairs R.is_found one.items other.items }
 {
     let alloc = *one.allocator();
     let mut both = Both::of(alloc, hashing, one)?;

@@ -1,10 +1,11 @@
 //! Resolving by several workers.
 //!
 //! Guarantee: the answer is a resolution of the list. Cost: see the head of the crate.
-ghost use Rattle.std.specs.Prelude.{◌≡◌, ◌≤◌, ◌<◌, ◌↔◌, ◌+◌, ◌++◌, List, [], length, map, IfOk, Contains};
+ghost use Rattle.std.specs.Prelude.{◌≡◌, ◌≤◌, ◌<◌, ◌+◌, ◌++◌, List, length, IfOk};
 ghost use Rattle.std.specs.Thread.{IsSync, IsSend};
 ghost use Rattle.merge_laws.specs.Resolution.{IsResolution};
-ghost use Rattle.key_groups.specs.Groups.{AreCutApart, together};
+ghost use Rattle.key_groups.specs.Groups.{AreCutApart, AreMembers, lists_of, together};
+ghost use Rattle.swoosh_halves.specs.Shares.{GroupsApart};
 
 use crate::indexed::{resolve_by_halves, resolve_together};
 use key_groups::groups::grouped_by_keys;
@@ -33,9 +34,9 @@ fn resolve_each<R: Resolvable>(
     strangers: Vec<R>,
     groups: Vec<Vec<R>>,
 ) -> Result<Vec<R>, Memory>
-    requires { AreCutApart R.has_key strangers.items (map (λ group. group.items) groups.items) }
+    requires { AreCutApart R.has_key strangers.items (lists_of groups.items) }
     ensures { IfOk result (λ all. IsResolution R.meets R.join
-        (strangers.items ++ together (map (λ group. group.items) groups.items)) all.items) }
+        (strangers.items ++ together (lists_of groups.items)) all.items) }
 {
     let mut all = strangers;
     for group in groups {
@@ -82,12 +83,12 @@ where
 
 /// Groups that share no key are resolved in two shares, side by side.
 fn shares_stand_beside<R: Resolvable>()
-    ensures front { (front back : List (List R)) → AreCutApart R.has_key [] (front ++ back)
-        → AreCutApart R.has_key [] front }
-    ensures back { (front back : List (List R)) → AreCutApart R.has_key [] (front ++ back)
-        → AreCutApart R.has_key [] back }
+    ensures front { (front back : List (List R)) → GroupsApart R.has_key (front ++ back)
+        → GroupsApart R.has_key front }
+    ensures back { (front back : List (List R)) → GroupsApart R.has_key (front ++ back)
+        → GroupsApart R.has_key back }
     ensures beside { (front back : List (List R)) (one other : List R)
-        → AreCutApart R.has_key [] (front ++ back)
+        → GroupsApart R.has_key (front ++ back)
         → IsResolution R.meets R.join (together front) one
         → IsResolution R.meets R.join (together back) other
         → IsResolution R.meets R.join (together (front ++ back)) (one ++ other) }
@@ -96,10 +97,10 @@ fn shares_stand_beside<R: Resolvable>()
 /// What a list is cut into is resolved by resolving the groups, beside which the strangers stand.
 fn strangers_stand_beside<R: Resolvable>()
     ensures groups { (strangers : List R) (groups : List (List R))
-        → AreCutApart R.has_key strangers groups → AreCutApart R.has_key [] groups }
+        → AreCutApart R.has_key strangers groups → GroupsApart R.has_key groups }
     ensures beside { (list strangers all : List R) (groups : List (List R))
         → AreCutApart R.has_key strangers groups
-        → ((x : R) → Contains list x ↔ Contains (strangers ++ together groups) x)
+        → AreMembers list strangers groups
         → IsResolution R.meets R.join (together groups) all
         → IsResolution R.meets R.join list (strangers ++ all) }
 {}
@@ -128,9 +129,9 @@ fn cut_of<R: Drop>(groups: &[Vec<R>], workers: u32) -> (usize, u32)
 
 /// The resolution of the values of all groups, where these share no key, by one worker. Returns `Memory` if allocation fails.
 fn resolve_share<R: Resolvable>(hashing: Hashing, groups: Vec<Vec<R>>) -> Result<Vec<R>, Memory>
-    requires { AreCutApart R.has_key [] (map (λ group. group.items) groups.items) }
+    requires { GroupsApart R.has_key (lists_of groups.items) }
     ensures { IfOk result (λ all. IsResolution R.meets R.join
-        (together (map (λ group. group.items) groups.items)) all.items) }
+        (together (lists_of groups.items)) all.items) }
 {
     let none = Vec::new(*groups.allocator());
     resolve_each(hashing, none, groups)
@@ -146,11 +147,11 @@ fn resolve_last<Rt: Threads + Sync, R: Resolvable + Send>(
 where
     R::Key: Send,
     requires last { length groups.items < 2 }
-    requires apart { AreCutApart R.has_key [] (map (λ group. group.items) groups.items) }
+    requires apart { GroupsApart R.has_key (lists_of groups.items) }
     requires some { 1 ≤ workers }
     requires most { workers ≤ 64 }
     ensures { IfOk result (λ all. IsResolution R.meets R.join
-        (together (map (λ group. group.items) groups.items)) all.items) }
+        (together (lists_of groups.items)) all.items) }
 {
     let mut left = groups;
     match left.pop() {
@@ -170,11 +171,11 @@ fn resolve_groups<Rt: Threads + Sync, R: Resolvable + Send>(
 ) -> Result<Vec<R>, Memory>
 where
     R::Key: Send,
-    requires apart { AreCutApart R.has_key [] (map (λ group. group.items) groups.items) }
+    requires apart { GroupsApart R.has_key (lists_of groups.items) }
     requires some { 1 ≤ workers }
     requires most { workers ≤ 64 }
     ensures { IfOk result (λ all. IsResolution R.meets R.join
-        (together (map (λ group. group.items) groups.items)) all.items) }
+        (together (lists_of groups.items)) all.items) }
 {
     if workers == 1 {
         return resolve_share(hashing, groups);
@@ -205,29 +206,29 @@ fn resolve_shares<Rt: Threads + Sync, R: Resolvable + Send>(
 ) -> Result<(Vec<R>, Vec<R>), Memory>
 where
     R::Key: Send,
-    requires front { AreCutApart R.has_key [] (map (λ group. group.items) front.items) }
-    requires back { AreCutApart R.has_key [] (map (λ group. group.items) back.items) }
+    requires front { GroupsApart R.has_key (lists_of front.items) }
+    requires back { GroupsApart R.has_key (lists_of back.items) }
     requires fewer { 1 ≤ fewer }
     requires others { 1 ≤ others }
     requires most { fewer + others ≤ 64 }
     ensures front { IfOk result (λ both. IsResolution R.meets R.join
-        (together (map (λ group. group.items) front.items)) both.0.items) }
+        (together (lists_of front.items)) both.0.items) }
     ensures back { IfOk result (λ both. IsResolution R.meets R.join
-        (together (map (λ group. group.items) back.items)) both.1.items) }
+        (together (lists_of back.items)) both.1.items) }
 {
     let resolve_front = move || -> Result<Vec<R>, Memory>
         requires { IsSync Rt.row × IsSend R.row × IsSend R.Key.row
-            × AreCutApart R.has_key [] (map (λ group. group.items) front.items)
+            × GroupsApart R.has_key (lists_of front.items)
             × (1 ≤ fewer) × (fewer ≤ 64) }
         ensures { IfOk result (λ all. IsResolution R.meets R.join
-            (together (map (λ group. group.items) front.items)) all.items) }
+            (together (lists_of front.items)) all.items) }
     { resolve_groups(rt, hashing, front, fewer) };
     let resolve_back = move || -> Result<Vec<R>, Memory>
         requires { IsSync Rt.row × IsSend R.row × IsSend R.Key.row
-            × AreCutApart R.has_key [] (map (λ group. group.items) back.items)
+            × GroupsApart R.has_key (lists_of back.items)
             × (1 ≤ others) × (others ≤ 64) }
         ensures { IfOk result (λ all. IsResolution R.meets R.join
-            (together (map (λ group. group.items) back.items)) all.items) }
+            (together (lists_of back.items)) all.items) }
     { resolve_groups(rt, hashing, back, others) };
     let (one, other) = join(rt, resolve_front, resolve_back);
     Ok((one?, other?))

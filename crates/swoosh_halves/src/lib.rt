@@ -6,7 +6,8 @@
 //! which are tested against one another, and the blocks of two halves come together by an index: each block of the one is tested only
 //! against those of the other that are posted under a key that it seeks. What is known apart within a half is not tested again. The
 //! halves of a group that is large beside all others are resolved by several workers, and their blocks come together in one thread. Values
-//! are moved and never copied. The definitions are in specs/Resolution.antt of merge_laws, and in specs/Groups.antt of key_groups.
+//! are moved and never copied. The definitions are in specs/Resolution.antt of merge_laws, in specs/Groups.antt of key_groups,
+//! and in specs/Rows.antt and specs/Shares.antt.
 #![tactic(auto)]
 
 pub mod both;
