@@ -5,3 +5,4 @@ pub mod Plans
 pub mod Reaches
 pub mod PreparedReaches
 pub mod Touches
+pub mod Planning

@@ -1,14 +1,18 @@
 -- How many match tests the turn of a prepared batch may take.
-use Rattle.std.specs.Prelude.{◌≡◌, ℕ, Bool, ◌+◌, ◌⊎◌, true, false, List, [], ◌∷◌, fold}
+use Rattle.std.specs.Prelude.{◌≡◌, ℕ, Bool, ◌+◌, ◌≤◌, ◌⊎◌, true, false, List, [], ◌∷◌, fold}
 use Rattle.std.specs.BTreeMap.{is_at}
 use Rattle.std.specs.Map.{remove_entry, values_of}
 use Rattle.union_base.specs.RecordIds.{id_cmp}
 use Rattle.merge_laws.specs.Reaches.{IsReachOfInsertions}
-use Rattle.turn_plans.specs.Histories.{MapOf, id_of, is_current}
+use Rattle.turn_plans.specs.Histories.{MapOf, id_of, is_current, current}
 use Rattle.turn_plans.specs.Reaches.{IsReachOfWithdrawal}
 use Rattle.catalogue_editions.specs.Joining.{join}
 use Rattle.catalogue_editions.specs.Matching.{match, is_found}
+use Rattle.catalogue_editions.specs.Net.{net}
+use Rattle.catalogue_editions.specs.Resolutions.{IsOrderedResolution}
+use Rattle.catalogue_editions.specs.declared.batch.Batch.{Batch}
 use Rattle.catalogue_editions.specs.declared.edition.Edition.{Edition}
+use Rattle.catalogue_editions.specs.declared.history_entry.HistoryEntry.{HistoryEntry}
 use Rattle.catalogue_editions.specs.declared.op.Op.{Op}
 use Rattle.catalogue_editions.specs.declared.outcome.Outcome.{Outcome}
 use Rattle.catalogue_editions.specs.declared.outcome.Outcome.TheVariants.{Added, Replaced, Removed, Absent}
@@ -50,3 +54,12 @@ pub record IsReachOfParts (library : List ℕ) (all : MapOf Edition) (ops : List
   pub withdrawals : IsReachOfLeaving library all ops leaving
   pub insertions : IsReachOfComing (values_of (without_all library all ops)) parts coming
   pub is : number ≡ leaving + coming
+
+-- the reach of a batch after that history, where its loads come to these parts
+abbrev pub IsReachOfPartsAfter : List HistoryEntry → Batch → List Edition → ℕ → Type 0
+IsReachOfPartsAfter history batch parts number = IsReachOfParts batch.library (current history) batch.ops parts number
+
+-- the match tests counted from before to after are at most the reach of the batch after that history, by what its loads come to
+abbrev pub CountsWithinParts : List HistoryEntry → Batch → ℕ → ℕ → Type 0
+CountsWithinParts history batch before after =
+    (parts : List Edition) (reach : ℕ) → IsOrderedResolution (net batch) parts → IsReachOfPartsAfter history batch parts reach → after ≤ before + reach

@@ -6,12 +6,14 @@ use Rattle.union_base.specs.declared.record_id.RecordId.{RecordId}
 use Rattle.union_base.specs.RecordIds.{id_cmp}
 use Rattle.merge_laws.specs.Reaches.{IsReachOfInsertion as IsReachOfOne}
 use Rattle.merge_laws.specs.Resolution.{IsResolution}
-use Rattle.turn_plans.specs.Histories.{MapOf, id_of, is_current, after_op}
+use Rattle.turn_plans.specs.Histories.{MapOf, id_of, is_current, after_op, current}
 use Rattle.catalogue_editions.specs.Ids.{has_contributor}
 use Rattle.catalogue_editions.specs.Ids.{least}
 use Rattle.catalogue_editions.specs.Joining.{join}
 use Rattle.catalogue_editions.specs.Matching.{match, is_found}
+use Rattle.catalogue_editions.specs.declared.batch.Batch.{Batch}
 use Rattle.catalogue_editions.specs.declared.edition.Edition.{Edition}
+use Rattle.catalogue_editions.specs.declared.history_entry.HistoryEntry.{HistoryEntry}
 use Rattle.catalogue_editions.specs.declared.op.Op.{Op}
 use Rattle.catalogue_editions.specs.declared.op.Op.TheVariants.{Load, Withdraw}
 
@@ -52,3 +54,7 @@ abbrev pub IsReachOf : List ℕ → MapOf Edition → List Op → ℕ → Type 0
 IsReachOf library all [] number = number ≡ 0
 IsReachOf library all (op ∷ ops) number =
     (first : ℕ) × (rest : ℕ) × IsReachOfOp library all op first × IsReachOf library (after_op library all op) ops rest × (number ≡ first + rest)
+
+-- the reach of a batch after that history
+abbrev pub IsReachAfter : List HistoryEntry → Batch → ℕ → Type 0
+IsReachAfter history batch number = IsReachOf batch.library (current history) batch.ops number

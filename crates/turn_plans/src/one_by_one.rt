@@ -1,20 +1,16 @@
 //! A batch planned operation by operation, over one change of the blocks: a load inserts a copy of its edition, a withdrawal takes
 //! the edition of its record apart, and a load that replaces does both. What the batch does not meet is not looked at.
 ghost use Rattle.std.specs.Prelude.{◌≡◌, ◌≤◌, ◌<◌, ◌+◌, ◌∷◌, [], ℕ, true, None, Some, IfOk};
-ghost use Rattle.swoosh_resolver.specs.Tables.{blocks_in, values_of};
 ghost use Rattle.catalogue_editions.specs.Ids.{least};
-ghost use Rattle.turn_plans.specs.Histories.{MapOf, after_op, outcome_of, after_batch, bases, current, outcomes};
-ghost use Rattle.turn_plans.specs.Homes.{AreHoused, places_in};
+ghost use Rattle.turn_plans.specs.Histories.{MapOf};
+ghost use Rattle.turn_plans.specs.Homes.{AreHoused};
 ghost use Rattle.record_homes.specs.Moves.{place_of};
 ghost use Rattle.catalogue_editions.specs.Batches.{is_own_op};
-ghost use Rattle.turn_plans.specs.Keeping.{loaded, loaded_at, batches, StandFor};
+ghost use Rattle.turn_plans.specs.Keeping.{loaded, loaded_at};
 ghost use Rattle.catalogue_editions.specs.declared.op.Op.TheVariants.{Load, Withdraw};
 ghost use Rattle.turn_plans.specs.Plans.{batches_with, IsPlannedOn};
-ghost use Rattle.turn_plans.specs.Reaches.{IsReachOfOp, IsReachOf};
 ghost use Rattle.catalogue_editions.specs.declared.edition.Edition.{Edition as EditionModel};
-ghost use Rattle.merge_laws.specs.Resolution.{IsResolution};
-ghost use Rattle.catalogue_editions.specs.Joining.{join};
-ghost use Rattle.catalogue_editions.specs.Matching.{match as edition_match};
+ghost use Rattle.turn_plans.specs.Planning.{current_after, outcomes_on, AreFound, AreResolved, IsPlanAfter, IsOutcomeOn, CountsWithin, IsReachOn, IsReachOfTurn};
 
 use crate::context::Context;
 use crate::plan::Plan;
@@ -46,16 +42,10 @@ fn plan_load<L: Ledger>(
     requires planned { (all : MapOf EditionModel) × IsPlannedOn context.now all plan }
     requires own { edition.now.content.contributors ≡ least edition.now ∷ [] }
     requires loads { loaded_at (batches_with context.now) place ≡ Some edition.now }
-    ensures planned { IfOk result (λ next. (all : MapOf EditionModel)
-        → IsPlannedOn context.now all plan
-        → IsPlannedOn context.now (after_op context.now.batch.now.library all (Load edition.now))
-        next.0) }
-    ensures outcome { IfOk result (λ next. (all : MapOf EditionModel)
-        → IsPlannedOn context.now all plan
-        → next.1 ≡ outcome_of context.now.batch.now.library all (Load edition.now)) }
-    ensures cost { (all : MapOf EditionModel) (number : ℕ) → IsPlannedOn context.now all plan
-        → IsReachOfOp context.now.batch.now.library all (Load edition.now) number
-        → steps.new ≤ steps.old + number }
+    ensures planned { IfOk result (λ next. IsPlanAfter context.now (Load edition.now) plan next.0) }
+    ensures outcome { IfOk result (λ next. IsOutcomeOn context.now plan (Load edition.now) next.1) }
+    ensures cost { CountsWithin context.now plan (IsReachOn context.now
+        (Load edition.now)) steps.old steps.new }
 {
     let id = edition.least();
     match place_of(context.homes, &plan.touched, id) {
@@ -82,16 +72,12 @@ fn plan_withdrawal<L: Ledger>(
 ) -> Result<(Plan, Outcome), Memory>
     requires housed { AreHoused context.now.blocks.now.blocks context.now.homes.now.entries }
     requires planned { (all : MapOf EditionModel) × IsPlannedOn context.now all plan }
-    ensures planned { IfOk result (λ next. (all : MapOf EditionModel)
-        → IsPlannedOn context.now all plan
-        → IsPlannedOn context.now (after_op context.now.batch.now.library all
-        (Withdraw control.now)) next.0) }
-    ensures outcome { IfOk result (λ next. (all : MapOf EditionModel)
-        → IsPlannedOn context.now all plan
-        → next.1 ≡ outcome_of context.now.batch.now.library all (Withdraw control.now)) }
-    ensures cost { (all : MapOf EditionModel) (number : ℕ) → IsPlannedOn context.now all plan
-        → IsReachOfOp context.now.batch.now.library all (Withdraw control.now) number
-        → steps.new ≤ steps.old + number }
+    ensures planned { IfOk result (λ next. IsPlanAfter context.now
+        (Withdraw control.now) plan next.0) }
+    ensures outcome { IfOk result (λ next. IsOutcomeOn context.now plan
+        (Withdraw control.now) next.1) }
+    ensures cost { CountsWithin context.now plan (IsReachOn context.now
+        (Withdraw control.now)) steps.old steps.new }
 {
     let id = RecordId {
         library: context.batch.library,
@@ -120,15 +106,10 @@ fn plan_op<L: Ledger>(
     requires planned { (all : MapOf EditionModel) × IsPlannedOn context.now all plan }
     requires own { is_own_op context.now.batch.now.library op.now ≡ true }
     requires loads { loaded_at (batches_with context.now) place ≡ loaded op.now }
-    ensures planned { IfOk result (λ next. (all : MapOf EditionModel)
-        → IsPlannedOn context.now all plan
-        → IsPlannedOn context.now (after_op context.now.batch.now.library all op.now) next.0) }
-    ensures outcome { IfOk result (λ next. (all : MapOf EditionModel)
-        → IsPlannedOn context.now all plan
-        → next.1 ≡ outcome_of context.now.batch.now.library all op.now) }
-    ensures cost { (all : MapOf EditionModel) (number : ℕ) → IsPlannedOn context.now all plan
-        → IsReachOfOp context.now.batch.now.library all op.now number
-        → steps.new ≤ steps.old + number }
+    ensures planned { IfOk result (λ next. IsPlanAfter context.now op.now plan next.0) }
+    ensures outcome { IfOk result (λ next. IsOutcomeOn context.now plan op.now next.1) }
+    ensures cost { CountsWithin context.now plan
+        (IsReachOn context.now op.now) steps.old steps.new }
 {
     match op {
         Op::Load(edition) => plan_load(alloc, context, plan, place, edition, steps),
@@ -142,18 +123,13 @@ pub fn planned<L: Ledger>(
     context: &Context<'_>,
     steps: &mut Steps<L>,
 ) -> Result<(Plan, Vec<Outcome>), Memory>
-    requires current { StandFor (batches context.now.history.now)
-        (places_in context.now.homes.now.entries) (current context.now.history.now) }
-    requires resolved { IsResolution edition_match join (bases context.now.history.now)
-        (values_of (blocks_in context.now.blocks.now.blocks)) }
+    requires current { AreFound context.now }
+    requires resolved { AreResolved context.now }
     requires housed { AreHoused context.now.blocks.now.blocks context.now.homes.now.entries }
     ensures planned { IfOk result (λ turn. IsPlannedOn context.now
-        (after_batch (current context.now.history.now) context.now.batch.now) turn.0) }
-    ensures outcomes { IfOk result (λ turn. turn.1.items
-        ≡ outcomes context.now.batch.now.library (current context.now.history.now)
-        context.now.batch.now.ops) }
-    ensures cost { (number : ℕ) → IsReachOf context.now.batch.now.library
-        (current context.now.history.now) context.now.batch.now.ops number
+        (current_after context.now) turn.0) }
+    ensures outcomes { IfOk result (λ turn. turn.1.items ≡ outcomes_on context.now) }
+    ensures cost { (number : ℕ) → IsReachOfTurn context.now number
         → steps.new ≤ steps.old + number }
 {
     let ops = context.batch.ops.as_slice();

@@ -6,28 +6,22 @@
 //! loaded resolve among themselves.
 //!
 //! Cost: at most the reach of the parts in match tests (specs/PreparedReaches.antt).
-ghost use Rattle.std.specs.Prelude.{◌≡◌, ◌≤◌, ◌+◌, ◌++◌, ◌∷◌, [], ℕ, List, true, false, is_some, unwrap_or, IfOk, OnOk};
+ghost use Rattle.std.specs.Prelude.{◌≡◌, ◌≤◌, ◌+◌, ◌++◌, ℕ, List, true, is_some, unwrap_or, IfOk, OnOk, ◌∷◌, []};
 ghost use Rattle.std.specs.List.{list_any};
-ghost use Rattle.std.specs.BTreeMap.{is_at};
-ghost use Rattle.std.specs.Map.{remove_entry, values_of};
 ghost use Rattle.std.specs.Option.{option_map};
-ghost use Rattle.union_base.specs.RecordIds.{id_cmp};
 ghost use Rattle.merge_laws.specs.Resolution.{IsResolution};
 ghost use Rattle.swoosh_resolver.specs.Changes.{Fits, view_of};
-ghost use Rattle.swoosh_resolver.specs.Tables.{blocks_in, values_of as values_of_blocks};
 ghost use Rattle.catalogue_editions.specs.Batches.{is_own_op};
-ghost use Rattle.turn_plans.specs.Histories.{MapOf, id_of, is_current, after_op, outcome_of, outcomes, after_batch, bases, current};
-ghost use Rattle.turn_plans.specs.Homes.{AreHoused, places_in};
+ghost use Rattle.turn_plans.specs.Histories.{MapOf, id_of, outcomes};
+ghost use Rattle.turn_plans.specs.Homes.{AreHoused};
 ghost use Rattle.catalogue_editions.specs.Joining.{join};
-ghost use Rattle.turn_plans.specs.Keeping.{batches, loaded, loaded_at, StandFor};
 ghost use Rattle.catalogue_editions.specs.Matching.{match as edition_match};
 ghost use Rattle.catalogue_editions.specs.Net.{net};
-ghost use Rattle.turn_plans.specs.Plans.{batches_with, IsPlannedOn};
-ghost use Rattle.turn_plans.specs.PreparedReaches.{leaves, without_named, without_all, IsReachOfLeaving, IsReachOfComing, IsReachOfParts};
-ghost use Rattle.turn_plans.specs.Reaches.{IsReachOfWithdrawal};
-ghost use Rattle.turn_plans.specs.Touches.{IsTouched};
+ghost use Rattle.turn_plans.specs.Plans.{IsPlannedOn};
+ghost use Rattle.turn_plans.specs.PreparedReaches.{leaves, IsReachOfComing};
+ghost use Rattle.turn_plans.specs.Touches.{FollowsOp, IsOutcomeBy};
 ghost use Rattle.catalogue_editions.specs.declared.edition.Edition.{Edition as EditionModel};
-ghost use Rattle.catalogue_editions.specs.declared.batch.Batch.{Batch as BatchModel};
+ghost use Rattle.turn_plans.specs.Planning.{current_after, current_without, outcomes_on, AreFound, AreResolved, IsTouchedOn, named_on, IsPlanWithout, CountsNoneIfAbsent, CountsWithdrawalIfCurrent, IsReachOfTurnOf, IsReachOfNamed};
 
 use crate::context::Context;
 use crate::plan::Plan;
@@ -76,14 +70,9 @@ fn withdraw_current<L: Ledger>(
 ) -> Result<Plan, Memory>
     requires housed { AreHoused context.now.blocks.now.blocks context.now.homes.now.entries }
     requires planned { (all : MapOf EditionModel) × IsPlannedOn context.now all plan }
-    ensures planned { IfOk result (λ next. (all : MapOf EditionModel)
-        → IsPlannedOn context.now all plan
-        → IsPlannedOn context.now (remove_entry (is_at (id_cmp id.now)) all) next) }
-    ensures free { (all : MapOf EditionModel) → IsPlannedOn context.now all plan
-        → is_current all id.now ≡ false → steps.new ≤ steps.old }
-    ensures cost { (all : MapOf EditionModel) (number : ℕ) → IsPlannedOn context.now all plan
-        → is_current all id.now ≡ true → IsReachOfWithdrawal (values_of all) id.now number
-        → steps.new ≤ steps.old + number }
+    ensures planned { IfOk result (λ next. IsPlanWithout context.now id.now plan next) }
+    ensures free { CountsNoneIfAbsent context.now plan id.now steps.old steps.new }
+    ensures cost { CountsWithdrawalIfCurrent context.now plan id.now steps.old steps.new }
 {
     match place_of(context.homes, &plan.touched, id) {
         Some(_) => withdraw(alloc, context, plan, id, steps),
@@ -102,16 +91,12 @@ fn withdraw_named<L: Ledger>(
 ) -> Result<Plan, Memory>
     requires housed { AreHoused context.now.blocks.now.blocks context.now.homes.now.entries }
     requires planned { (all : MapOf EditionModel) × IsPlannedOn context.now all plan }
-    ensures planned { IfOk result (λ next. (all : MapOf EditionModel)
-        → IsPlannedOn context.now all plan
-        → IsPlannedOn context.now (without_named context.now.batch.now.library all op.now) next) }
-    ensures free { (all : MapOf EditionModel) → IsPlannedOn context.now all plan
-        → is_current all (id_of context.now.batch.now.library op.now) ≡ false
-        → steps.new ≤ steps.old }
-    ensures cost { (all : MapOf EditionModel) (number : ℕ) → IsPlannedOn context.now all plan
-        → is_current all (id_of context.now.batch.now.library op.now) ≡ true
-        → IsReachOfWithdrawal (values_of all) (id_of context.now.batch.now.library op.now) number
-        → steps.new ≤ steps.old + number }
+    ensures planned { IfOk result (λ next. IsPlanWithout context.now
+        (named_on context.now op.now) plan next) }
+    ensures free { CountsNoneIfAbsent context.now plan
+        (named_on context.now op.now) steps.old steps.new }
+    ensures cost { CountsWithdrawalIfCurrent context.now plan
+        (named_on context.now op.now) steps.old steps.new }
 {
     match op {
         Op::Load(edition) => withdraw_current(alloc, context, plan, edition.least(), steps),
@@ -171,18 +156,13 @@ fn without_named<L: Ledger>(
     found: &[Outcome],
     steps: &mut Steps<L>,
 ) -> Result<Plan, Memory>
-    requires current { StandFor (batches context.now.history.now)
-        (places_in context.now.homes.now.entries) (current context.now.history.now) }
-    requires resolved { IsResolution edition_match join (bases context.now.history.now)
-        (values_of_blocks (blocks_in context.now.blocks.now.blocks)) }
+    requires current { AreFound context.now }
+    requires resolved { AreResolved context.now }
     requires housed { AreHoused context.now.blocks.now.blocks context.now.homes.now.entries }
-    requires found { found.now ≡ outcomes context.now.batch.now.library
-        (current context.now.history.now) context.now.batch.now.ops }
+    requires found { found.now ≡ outcomes_on context.now }
     ensures planned { IfOk result (λ plan. IsPlannedOn context.now
-        (without_all context.now.batch.now.library (current context.now.history.now)
-        context.now.batch.now.ops) plan) }
-    ensures cost { (number : ℕ) → IsReachOfLeaving context.now.batch.now.library
-        (current context.now.history.now) context.now.batch.now.ops number
+        (current_without context.now) plan) }
+    ensures cost { (number : ℕ) → IsReachOfNamed context.now number
         → steps.new ≤ steps.old + number }
 {
     let ops = context.batch.ops.as_slice();
@@ -223,14 +203,10 @@ fn touch_op(
     op: &Op,
 ) -> Result<Outcome, Memory>
     requires own { is_own_op library.now op.now ≡ true }
-    ensures touched { OnOk result ((all : List BatchModel) (editions : MapOf EditionModel)
-        → loaded_at all place ≡ loaded op.now
-        → IsTouched all homes.now.entries editions touched.old.entries
-        → IsTouched all homes.now.entries (after_op library.now editions op.now)
-        touched.new.entries) }
-    ensures outcome { IfOk result (λ found. (all : List BatchModel) (editions : MapOf EditionModel)
-        → IsTouched all homes.now.entries editions touched.old.entries
-        → found ≡ outcome_of library.now editions op.now) }
+    ensures touched { OnOk result (FollowsOp homes.now.entries library.now place op.now
+        touched.old.entries touched.new.entries) }
+    ensures outcome { IfOk result (λ found. IsOutcomeBy homes.now.entries touched.old.entries
+        library.now op.now found) }
 {
     let id = named(alloc, library, op)?;
     let home = homes.get(&id);
@@ -257,14 +233,10 @@ fn touch_op(
 /// What the batch makes of each record that it loads or withdraws, as the next turn of the history: the place at which the record
 /// was loaded, or none if it is withdrawn in the end. And what came of each operation. Returns `Memory` if allocation fails.
 fn touch_all(alloc: Global, context: &Context<'_>) -> Result<(Touched, Vec<Outcome>), Memory>
-    requires { StandFor (batches context.now.history.now) (places_in context.now.homes.now.entries)
-        (current context.now.history.now) }
-    ensures touched { IfOk result (λ turn. IsTouched (batches_with context.now)
-        context.now.homes.now.entries
-        (after_batch (current context.now.history.now) context.now.batch.now) turn.0.entries) }
-    ensures outcomes { IfOk result (λ turn. turn.1.items
-        ≡ outcomes context.now.batch.now.library (current context.now.history.now)
-        context.now.batch.now.ops) }
+    requires { AreFound context.now }
+    ensures touched { IfOk result (λ turn. IsTouchedOn context.now
+        (current_after context.now) turn.0.entries) }
+    ensures outcomes { IfOk result (λ turn. turn.1.items ≡ outcomes_on context.now) }
 {
     let ops = context.batch.ops.as_slice();
     let mut outcomes = Vec::with_capacity(alloc, ops.len())?;
@@ -293,20 +265,14 @@ pub fn planned_parts<L: Ledger>(
     parts: Vec<Edition>,
     steps: &mut Steps<L>,
 ) -> Result<(Plan, Vec<Outcome>), Memory>
-    requires current { StandFor (batches context.now.history.now)
-        (places_in context.now.homes.now.entries) (current context.now.history.now) }
-    requires resolved { IsResolution edition_match join (bases context.now.history.now)
-        (values_of_blocks (blocks_in context.now.blocks.now.blocks)) }
+    requires current { AreFound context.now }
+    requires resolved { AreResolved context.now }
     requires housed { AreHoused context.now.blocks.now.blocks context.now.homes.now.entries }
     requires parts { IsResolution edition_match join (net context.now.batch.now) parts.items }
     ensures planned { IfOk result (λ turn. IsPlannedOn context.now
-        (after_batch (current context.now.history.now) context.now.batch.now) turn.0) }
-    ensures outcomes { IfOk result (λ turn. turn.1.items
-        ≡ outcomes context.now.batch.now.library (current context.now.history.now)
-        context.now.batch.now.ops) }
-    ensures cost { (number : ℕ)
-        → IsReachOfParts context.now.batch.now.library (current context.now.history.now)
-        context.now.batch.now.ops parts.items number
+        (current_after context.now) turn.0) }
+    ensures outcomes { IfOk result (λ turn. turn.1.items ≡ outcomes_on context.now) }
+    ensures cost { (number : ℕ) → IsReachOfTurnOf context.now parts.items number
         → steps.new ≤ steps.old + number }
 {
     let (touched, outcomes) = touch_all(alloc, context)?;

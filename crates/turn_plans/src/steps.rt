@@ -3,23 +3,22 @@
 //! Cost: an insertion tests the editions that an index finds for the one that comes; a withdrawal tests the other records of its
 //! edition against one another. Looking for the edition of a record goes through what the turn opened, where the turn closed
 //! the block that the record was in.
-ghost use Rattle.std.specs.Prelude.{◌≡◌, ◌≤◌, ◌<◌, ◌+◌, ◌∷◌, [], ℕ, true, false, None, Some, filter_map, slice_get, IfOk, IfSome, IfNone, option_copied};
+ghost use Rattle.std.specs.Prelude.{◌≡◌, ◌<◌, ◌∷◌, [], true, false, None, Some, filter_map, slice_get, IfOk, IfSome, IfNone, option_copied};
 ghost use Rattle.std.specs.List.{list_any};
-ghost use Rattle.std.specs.BTreeMap.{is_at, insert_entry};
-ghost use Rattle.std.specs.Map.{remove_entry, values_of};
-ghost use Rattle.union_base.specs.RecordIds.{id_cmp};
+ghost use Rattle.std.specs.Map.{values_of};
 ghost use Rattle.swoosh_resolver.specs.Changes.{without, view_of};
 ghost use Rattle.swoosh_resolver.specs.Splits.{member_at};
 ghost use Rattle.swoosh_resolver.specs.Tables.{block_at, blocks_in};
 ghost use Rattle.catalogue_editions.specs.Ids.{least};
 ghost use Rattle.turn_plans.specs.Histories.{MapOf, is_current};
-ghost use Rattle.turn_plans.specs.Homes.{Block, AreHoused};
+ghost use Rattle.turn_plans.specs.Homes.{AreHoused};
 ghost use Rattle.catalogue_editions.specs.Ids.{has_contributor};
 ghost use Rattle.record_homes.specs.Moves.{place_of};
 ghost use Rattle.turn_plans.specs.Keeping.{loaded, loaded_at};
-ghost use Rattle.turn_plans.specs.Plans.{batches_with, IsPlannedOn, IsLeft, base_beside};
+ghost use Rattle.turn_plans.specs.Plans.{batches_with, IsPlannedOn};
 ghost use Rattle.turn_plans.specs.Reaches.{IsReachOfWithdrawal, IsReachOfInsertion};
 ghost use Rattle.catalogue_editions.specs.declared.edition.Edition.{Edition as EditionModel};
+ghost use Rattle.turn_plans.specs.Planning.{IsPlanWithout, IsPlanWith, CountsWithin, base_on, IsLeftOn, HasHolder, HaveNoHolder};
 
 use crate::context::Context;
 use crate::keeping::loaded_in;
@@ -58,9 +57,7 @@ fn base_beside<'a>(
     gone: &RecordId,
     id: &RecordId,
 ) -> Option<&'a Edition>
-    ensures { option_copied result ≡ base_beside (batches_with context.now)
-        context.now.homes.now.entries
-        touched.now.entries gone.now id.now }
+    ensures { option_copied result ≡ base_on context.now touched.now.entries gone.now id.now }
 {
     if gone.cmp(id).is_eq() {
         return None;
@@ -77,8 +74,8 @@ fn bases_beside(
     gone: &RecordId,
     ids: &[RecordId],
 ) -> Result<Vec<Edition>, Memory>
-    ensures { IfOk result (λ bases. bases.items ≡ filter_map (base_beside (batches_with context.now)
-        context.now.homes.now.entries touched.now.entries gone.now) ids.now) }
+    ensures { IfOk result (λ bases. bases.items
+        ≡ filter_map (base_on context.now touched.now.entries gone.now) ids.now) }
 {
     let mut bases = Vec::with_capacity(alloc, ids.len())?;
     for id in ids {
@@ -98,11 +95,10 @@ fn kept_holder(
     id: &RecordId,
 ) -> Option<u64>
     requires { AreHoused blocks.now.blocks homes.now.entries }
-    ensures found { IfSome result (λ number. (e : Block)
-        × (block_at (without blocks.now.blocks change.now.closed.items) number ≡ Some e)
-        × (has_contributor id.now e.value ≡ true)) }
-    ensures none { IfNone result (list_any (λ e. has_contributor id.now e.value)
-        (blocks_in (without blocks.now.blocks change.now.closed.items)) ≡ false) }
+    ensures found { IfSome result (λ number. HasHolder id.now (block_at
+        (without blocks.now.blocks change.now.closed.items) number)) }
+    ensures none { IfNone result (HaveNoHolder id.now (blocks_in
+        (without blocks.now.blocks change.now.closed.items))) }
 {
     let home = homes.get(id)?;
     match blocks.member(change, change::Place::Kept(home.block)) {
@@ -121,10 +117,8 @@ fn has_contributor(edition: &Edition, id: &RecordId) -> bool
 
 /// The place of the first of the opened values that has the contributor: None exactly where none has it. Takes no memory.
 fn opened_holder(opened: &[Fresh<Edition>], id: &RecordId) -> Option<usize>
-    ensures found { IfSome result (λ place. (e : Block) × (slice_get opened.now place ≡ Some e)
-        × (has_contributor id.now e.value ≡ true)) }
-    ensures none { IfNone result (list_any (λ e. has_contributor id.now e.value) opened.now
-        ≡ false) }
+    ensures found { IfSome result (λ place. HasHolder id.now (slice_get opened.now place)) }
+    ensures none { IfNone result (HaveNoHolder id.now opened.now) }
 {
     for (place, placed) in opened.iter().enumerate() {
         if has_contributor(&placed.value, id) {
@@ -143,9 +137,8 @@ fn holder_at(
     id: &RecordId,
 ) -> Option<change::Place>
     requires { AreHoused blocks.now.blocks homes.now.entries }
-    ensures found { IfSome result (λ at. (e : Block)
-        × (member_at blocks.now.blocks change.now.closed.items change.now.opened.items at ≡ Some e)
-        × (has_contributor id.now e.value ≡ true)) }
+    ensures found { IfSome result (λ at. HasHolder id.now
+        (member_at blocks.now.blocks change.now.closed.items change.now.opened.items at)) }
     ensures none { IfNone result (list_any (has_contributor id.now)
         (view_of blocks.now.blocks change.now.closed.items change.now.opened.items) ≡ false) }
 {
@@ -169,10 +162,7 @@ fn left_behind(
     requires housed { AreHoused context.now.blocks.now.blocks context.now.homes.now.entries }
     requires planned { (all : MapOf EditionModel) × IsPlannedOn context.now all plan.now
         × (is_current all id.now ≡ true) }
-    ensures { IfOk result (λ found. IsLeft (batches_with context.now) context.now.homes.now.entries
-        context.now.blocks.now.blocks
-        plan.now.change.closed.items plan.now.change.opened.items plan.now.touched.entries id.now
-        found.0 found.1.items) }
+    ensures { IfOk result (λ found. IsLeftOn context.now plan.now id.now found.0 found.1.items) }
 {
     let Some(at) = holder_at(context.homes, context.blocks, &plan.change, id) else {
         unreachable!()
@@ -197,11 +187,9 @@ pub fn withdraw<L: Ledger>(
     requires housed { AreHoused context.now.blocks.now.blocks context.now.homes.now.entries }
     requires planned { (all : MapOf EditionModel) × IsPlannedOn context.now all plan
         × (is_current all id.now ≡ true) }
-    ensures planned { IfOk result (λ next. (all : MapOf EditionModel)
-        → IsPlannedOn context.now all plan
-        → IsPlannedOn context.now (remove_entry (is_at (id_cmp id.now)) all) next) }
-    ensures cost { (all : MapOf EditionModel) (number : ℕ) → IsPlannedOn context.now all plan
-        → IsReachOfWithdrawal (values_of all) id.now number → steps.new ≤ steps.old + number }
+    ensures planned { IfOk result (λ next. IsPlanWithout context.now id.now plan next) }
+    ensures cost { CountsWithin context.now plan (λ all. IsReachOfWithdrawal
+        (values_of all) id.now) steps.old steps.new }
 {
     let (at, left) = left_behind(alloc, context, &plan, id)?;
     let parts = reopen(left, steps)?;
@@ -227,12 +215,9 @@ pub fn insert<L: Ledger>(
     requires planned { (all : MapOf EditionModel) × IsPlannedOn context.now all plan }
     requires own { edition.now.content.contributors ≡ least edition.now ∷ [] }
     requires loads { loaded_at (batches_with context.now) place ≡ Some edition.now }
-    ensures planned { IfOk result (λ next. (all : MapOf EditionModel)
-        → IsPlannedOn context.now all plan
-        → is_current all (least edition.now) ≡ false
-        → IsPlannedOn context.now (insert_entry id_cmp all (least edition.now) edition.now) next) }
-    ensures cost { (all : MapOf EditionModel) (number : ℕ) → IsPlannedOn context.now all plan
-        → IsReachOfInsertion (values_of all) edition.now number → steps.new ≤ steps.old + number }
+    ensures planned { IfOk result (λ next. IsPlanWith context.now edition.now plan next) }
+    ensures cost { CountsWithin context.now plan (λ all. IsReachOfInsertion
+        (values_of all) edition.now) steps.old steps.new }
 {
     let Plan {
         change,
