@@ -4,8 +4,10 @@ use Rattle.std.specs.Option.{option_map, ForSome}
 use Rattle.union_base.specs.declared.record_id.RecordId.{RecordId}
 use Rattle.work_clusters.specs.declared.change.WorkChange.{WorkChange}
 use Rattle.work_clusters.specs.Room.{WorkMap, HasRoomForPairs}
-use Rattle.work_clusters.specs.Works.{changed}
+use Rattle.work_clusters.specs.Works.{changed, works_of}
+use Rattle.record_editions.specs.EditionKeys.{work_pairs}
 use Rattle.authority_names.specs.Leads.{Table}
+use Rattle.catalogue_editions.specs.declared.edition.Edition.{Edition}
 use Rattle.edition_blocks.specs.declared.grouping.NamedWorks.{NamedWorks}
 use Rattle.edition_blocks.specs.declared.grouping.Grouping.{Grouping}
 use Rattle.edition_blocks.specs.declared.grouping.Grouping.TheVariants.{Kept, Made}
@@ -13,6 +15,10 @@ use Rattle.edition_blocks.specs.declared.grouping.Grouping.TheVariants.{Kept, Ma
 -- works: each key with its ids
 abbrev pub WorkList : Type 0
 WorkList = List (List ℕ × List RecordId)
+
+-- the works of the editions, by the table of names
+abbrev pub works_by : Table → List Edition → WorkList
+works_by names all = works_of (work_pairs names all)
 
 -- the works that a catalogue answers
 abbrev pub works_in : Grouping → WorkList

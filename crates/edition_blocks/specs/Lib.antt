@@ -1,3 +1,4 @@
 pub mod Deltas
+pub mod Editions
 pub mod Grouping
 pub mod ClosedKeys

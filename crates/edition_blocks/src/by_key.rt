@@ -1,12 +1,8 @@
 //! The editions that have an index key, as the index of the blocks finds them.
 //!
 //! What a look-up costs goes with the number of editions that it finds, and not with how many there are.
-ghost use Rattle.std.specs.Prelude.{◌≡◌, List, map, filter, IfOk};
-ghost use Rattle.std.specs.List.Sorted.{IsPermutation};
-ghost use Rattle.swoosh_resolver.specs.Tables.{blocks_in, values_of};
-ghost use Rattle.catalogue_editions.specs.declared.edition.Edition.{Edition as EditionModel};
-ghost use Rattle.catalogue_editions.specs.IndexKeys.{has_key};
-ghost use Rattle.catalogue_editions.specs.Resolutions.{IsOrderedResolution};
+ghost use Rattle.std.specs.Prelude.{IfOk};
+ghost use Rattle.edition_blocks.specs.Editions.{editions_in, AreWithKey};
 
 use crate::looking::{by_least, under_numbers};
 use catalogue_editions::edition::Edition;
@@ -22,9 +18,8 @@ pub fn with_key<'a>(
     blocks: &'a Blocks<Edition>,
     key: &FeatureKey,
 ) -> Result<Vec<&'a Edition>, Memory>
-    ensures { IfOk result (λ found. (list all : List EditionModel) → IsOrderedResolution list all
-        → IsPermutation (values_of (blocks_in blocks.now.blocks)) all
-        → map (λ e. e.now) found.items ≡ filter (has_key key.now) all) }
+    ensures { IfOk result (λ found. AreWithKey blocks.now.blocks key.now
+        (editions_in found.items)) }
 {
     let found = under_numbers(alloc, blocks, blocks.with_key(key))?;
     by_least(alloc, found)

@@ -1,10 +1,9 @@
 //! The works of a catalogue's editions, which it keeps from the moment that it is told to, and makes for whoever asks before.
 ghost use Rattle.std.specs.Prelude.{◌≡◌, IfOk};
-ghost use Rattle.work_clusters.specs.Works.{works_of};
-ghost use Rattle.edition_blocks.specs.Grouping.{works_in};
-ghost use Rattle.swoosh_resolver.specs.Tables.{blocks_in, values_of};
+ghost use Rattle.edition_blocks.specs.Grouping.{works_in, works_by};
 ghost use Rattle.record_editions.specs.EditionKeys.{work_key_by, work_pairs};
 ghost use Rattle.catalogue_editions.specs.Ids.{least};
+ghost use Rattle.edition_blocks.specs.Editions.{block_editions};
 
 use authority_names::name_table::NameTable;
 use catalogue_editions::edition::Edition;
@@ -62,7 +61,7 @@ fn pairs(
     blocks: &Blocks<Edition>,
 ) -> Result<Vec<(Bytes, RecordId)>, Memory>
     ensures { IfOk result (λ pairs. pairs.items
-        ≡ work_pairs names.now (values_of (blocks_in blocks.now.blocks))) }
+        ≡ work_pairs names.now (block_editions blocks.now.blocks)) }
 {
     let mut pairs = Vec::with_capacity(alloc, blocks.count())?;
     for edition in blocks.values(alloc)? {
@@ -74,7 +73,7 @@ fn pairs(
 /// The works of the editions by the names. Returns `Memory` if allocation fails.
 pub fn grouped(alloc: Global, names: &NameTable, blocks: &Blocks<Edition>) -> Result<Works, Memory>
     ensures { IfOk result (λ works. works.works
-        ≡ works_of (work_pairs names.now (values_of (blocks_in blocks.now.blocks)))) }
+        ≡ works_by names.now (block_editions blocks.now.blocks)) }
 {
     let mut works = Works::empty(alloc);
     let change = works.plan(Vec::new(alloc), pairs(alloc, names, blocks)?);

@@ -1,10 +1,10 @@
 //! The editions in order.
 //!
 //! Blocks are kept in no order, so they are sorted for whoever asks.
-ghost use Rattle.std.specs.Prelude.{map, IfOk};
+ghost use Rattle.std.specs.Prelude.{IfOk};
 ghost use Rattle.std.specs.List.Sorted.{IsPermutation, IsSorted};
-ghost use Rattle.swoosh_resolver.specs.Tables.{blocks_in, values_of};
 ghost use Rattle.catalogue_editions.specs.Ids.{edition_cmp};
+ghost use Rattle.edition_blocks.specs.Editions.{editions_in, block_editions};
 
 use crate::looking::by_least;
 use catalogue_editions::edition::Edition;
@@ -14,9 +14,9 @@ use union_base::memory::Memory;
 
 /// The editions among the blocks, in order of their least contributors. Returns `Memory` if allocation fails.
 pub fn in_order(alloc: Global, blocks: &Blocks<Edition>) -> Result<Vec<&Edition>, Memory>
-    ensures same { IfOk result (λ found. IsPermutation (values_of (blocks_in blocks.now.blocks))
-        (map (λ e. e.now) found.items)) }
-    ensures ascending { IfOk result (λ found. IsSorted edition_cmp (map (λ e. e.now) found.items)) }
+    ensures same { IfOk result (λ found. IsPermutation (block_editions blocks.now.blocks)
+        (editions_in found.items)) }
+    ensures ascending { IfOk result (λ found. IsSorted edition_cmp (editions_in found.items)) }
 {
     let editions = blocks.values(alloc)?;
     by_least(alloc, editions)

@@ -1,10 +1,9 @@
 //! The editions under some numbers, and editions in order of their least contributors.
-ghost use Rattle.std.specs.Prelude.{◌≡◌, map, filter_map, IfOk};
+ghost use Rattle.std.specs.Prelude.{◌≡◌, map, IfOk};
 ghost use Rattle.std.specs.List.Sorted.{IsPermutation, IsSorted};
-ghost use Rattle.std.specs.Option.{option_map};
 ghost use Rattle.std.specs.Coded.{Coded-set};
-ghost use Rattle.swoosh_resolver.specs.Tables.{block_at};
 ghost use Rattle.catalogue_editions.specs.Ids.{least, edition_cmp};
+ghost use Rattle.edition_blocks.specs.Editions.{editions_in, editions_under};
 
 use catalogue_editions::edition::Edition;
 use std::alloc::Global;
@@ -21,8 +20,8 @@ pub fn under_numbers<'a>(
     blocks: &'a Blocks<Edition>,
     numbers: &[u64],
 ) -> Result<Vec<&'a Edition>, Memory>
-    ensures { IfOk result (λ found. map (λ e. e.now) found.items
-        ≡ filter_map (λ n. option_map (λ e. e.value) (block_at blocks.now.blocks n)) numbers.now) }
+    ensures { IfOk result (λ found. editions_in found.items
+        ≡ editions_under blocks.now.blocks numbers.now) }
 {
     let mut found = Vec::with_capacity(alloc, numbers.len())?;
     for number in numbers {
@@ -54,7 +53,7 @@ impl<'a> Named<'a> {
 /// The editions in the same order, each with a copy of its least contributor. Returns `Memory` if allocation fails.
 fn all_named<'a>(alloc: Global, editions: &[&'a Edition]) -> Result<Vec<Named<'a>>, Memory>
     ensures { IfOk result (λ all. map (λ n. n.edition.now) all.items
-        ≡ map (λ e. e.now) editions.now) }
+        ≡ editions_in editions.now) }
 {
     let mut all = Vec::with_capacity(alloc, editions.len())?;
     for edition in editions {
@@ -65,7 +64,7 @@ fn all_named<'a>(alloc: Global, editions: &[&'a Edition]) -> Result<Vec<Named<'a
 
 /// The editions in the same order, without the copies of their least contributors. Returns `Memory` if allocation fails.
 fn editions_of<'a>(alloc: Global, all: &[Named<'a>]) -> Result<Vec<&'a Edition>, Memory>
-    ensures { IfOk result (λ editions. map (λ e. e.now) editions.items
+    ensures { IfOk result (λ editions. editions_in editions.items
         ≡ map (λ n. n.edition.now) all.now) }
 {
     let mut editions = Vec::with_capacity(alloc, all.len())?;
@@ -80,10 +79,10 @@ fn editions_of<'a>(alloc: Global, all: &[Named<'a>]) -> Result<Vec<&'a Edition>,
 /// Copies of the ids are sorted, each beside its edition, so that no comparison waits for memory on the way from an edition to
 /// its least contributor.
 pub fn by_least(alloc: Global, editions: Vec<&Edition>) -> Result<Vec<&Edition>, Memory>
-    ensures same { IfOk result (λ sorted. IsPermutation (map (λ e. e.now) editions.entry.items)
-        (map (λ e. e.now) sorted.items)) }
+    ensures same { IfOk result (λ sorted. IsPermutation (editions_in editions.entry.items)
+        (editions_in sorted.items)) }
     ensures ascending { IfOk result (λ sorted. IsSorted edition_cmp
-        (map (λ e. e.now) sorted.items)) }
+        (editions_in sorted.items)) }
 {
     let mut all = all_named(alloc, editions.as_slice())?;
     all.sort_by(

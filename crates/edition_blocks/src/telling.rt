@@ -1,12 +1,13 @@
 //! What a change of blocks closes and opens.
-ghost use Rattle.std.specs.Prelude.{◌≡◌, ◌↔◌, map, IfOk, IsTrue, Contains};
+ghost use Rattle.std.specs.Prelude.{◌≡◌, ◌↔◌, IfOk, IsTrue, Contains};
 ghost use Rattle.union_base.specs.SortedLists.{is_ascending};
 ghost use Rattle.merge_laws.specs.Resolution.{AreApart};
 ghost use Rattle.swoosh_resolver.specs.Changes.{Fits, view_of};
-ghost use Rattle.swoosh_resolver.specs.Tables.{blocks_in, values_of};
+ghost use Rattle.swoosh_resolver.specs.Tables.{values_of};
 ghost use Rattle.catalogue_editions.specs.Ids.{edition_cmp};
 ghost use Rattle.catalogue_editions.specs.Matching.{match as edition_match};
 ghost use Rattle.edition_blocks.specs.Deltas.{AreOnlyIn, IsDelta};
+ghost use Rattle.edition_blocks.specs.Editions.{editions_in, block_editions};
 
 use crate::delta::Delta;
 use crate::looking::{by_least, under_numbers};
@@ -24,7 +25,7 @@ fn opened_editions<'a>(
     alloc: Global,
     opened: &'a [Fresh<Edition>],
 ) -> Result<Vec<&'a Edition>, Memory>
-    ensures { IfOk result (λ found. map (λ e. e.now) found.items ≡ values_of opened.now) }
+    ensures { IfOk result (λ found. editions_in found.items ≡ values_of opened.now) }
 {
     let mut found = Vec::with_capacity(alloc, opened.len())?;
     for placed in opened {
@@ -36,9 +37,9 @@ fn opened_editions<'a>(
 /// Whether an equal edition is among the editions, which are in order of their least contributors. It is looked up by its least
 /// contributor. Returns `Memory` if allocation fails.
 pub fn is_among(alloc: Global, editions: &[&Edition], edition: &Edition) -> Result<bool, Memory>
-    requires { IsTrue (is_ascending edition_cmp (map (λ e. e.now) editions.now)) }
+    requires { IsTrue (is_ascending edition_cmp (editions_in editions.now)) }
     ensures { IfOk result (λ among. IsTrue among
-        ↔ Contains (map (λ e. e.now) editions.now) edition.now) }
+        ↔ Contains (editions_in editions.now) edition.now) }
 {
     let found = editions.binary_search_by(
         |other: &&Edition| -> Ordering
@@ -58,10 +59,10 @@ fn only_in(
     editions: &[&Edition],
     others: &[&Edition],
 ) -> Result<Vec<Edition>, Memory>
-    requires own { IsTrue (is_ascending edition_cmp (map (λ e. e.now) editions.now)) }
-    requires others { IsTrue (is_ascending edition_cmp (map (λ e. e.now) others.now)) }
-    ensures { IfOk result (λ found. AreOnlyIn (map (λ e. e.now) editions.now)
-        (map (λ e. e.now) others.now) found.items) }
+    requires own { IsTrue (is_ascending edition_cmp (editions_in editions.now)) }
+    requires others { IsTrue (is_ascending edition_cmp (editions_in others.now)) }
+    ensures { IfOk result (λ found. AreOnlyIn (editions_in editions.now)
+        (editions_in others.now) found.items) }
 {
     let mut found = Vec::new(alloc);
     for edition in editions {
@@ -82,10 +83,10 @@ pub fn delta_of(
     blocks: &Blocks<Edition>,
     change: &Change<Edition>,
 ) -> Result<Delta, Memory>
-    requires apart { AreApart edition_match (values_of (blocks_in blocks.now.blocks)) }
+    requires apart { AreApart edition_match (block_editions blocks.now.blocks) }
     requires fits { Fits edition_match blocks.now.blocks change.now.closed.items
         change.now.opened.items }
-    ensures { IfOk result (λ delta. IsDelta (values_of (blocks_in blocks.now.blocks))
+    ensures { IfOk result (λ delta. IsDelta (block_editions blocks.now.blocks)
         (view_of blocks.now.blocks change.now.closed.items change.now.opened.items)
         delta.closed.items delta.opened.items) }
 {
