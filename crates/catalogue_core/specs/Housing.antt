@@ -22,3 +22,7 @@ housed_all homes (e ∷ opened) (number ∷ numbers) = housed_all (housed number
 -- the contributors of the edition under the number, and none where no block has it
 abbrev pub contributors_at : List (Option Block) → ℕ → List RecordId
 contributors_at blocks number = unwrap_or (option_map (λ e. e.value.content.contributors) (block_at blocks number)) []
+
+-- the contributors of the edition of a block
+abbrev pub contributors : Block → List RecordId
+contributors block = block.value.content.contributors

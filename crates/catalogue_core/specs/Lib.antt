@@ -24,3 +24,4 @@ pub mod Housing
 pub mod Kept
 pub mod Preferring
 pub mod Parts
+pub mod Laws

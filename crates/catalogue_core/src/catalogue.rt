@@ -8,23 +8,18 @@
 //! Beside the history it keeps the editions in blocks under numbers, with an index of their keys, and under the id of each
 //! current record its home: where in the history it was loaded, and the number of its block. A turn counts at most the reach of
 //! its batch (`specs/Reaches.antt` there), whatever the size of the catalogue.
-ghost use Rattle.std.specs.Prelude.{◌≡◌, ◌≤◌, ◌+◌, ◌<◌, ◌^◌, ◌++◌, ◌∷◌, [], ℕ, List, length, map, filter, not, is_none, IfOk, IsTrue, OnOk, OnErr, Some, slice_get};
+ghost use Rattle.std.specs.Prelude.{◌≡◌, ◌≤◌, ◌+◌, ◌<◌, ◌^◌, ◌++◌, ◌∷◌, [], ℕ, length, not, is_none, IfOk, IsTrue, OnOk, OnErr, Some, slice_get};
 ghost use Rattle.std.specs.Option.{option_copied};
 ghost use Rattle.std.specs.Str.{is_utf8};
 ghost use Rattle.union_base.specs.Fields.{is_text};
-ghost use Rattle.catalogue_editions.specs.declared.edition.Edition.{Edition as EditionModel};
-ghost use Rattle.work_clusters.specs.Works.{works_of};
-ghost use Rattle.record_editions.specs.EditionKeys.{work_key_by, work_pairs};
+ghost use Rattle.record_editions.specs.EditionKeys.{work_key_by};
 ghost use Rattle.catalogue_core.specs.Catalogues.{by_names, empty_catalogue};
-ghost use Rattle.edition_blocks.specs.Grouping.{works_in};
-ghost use Rattle.edition_blocks.specs.Deltas.{IsDelta};
-ghost use Rattle.turn_plans.specs.Histories.{current, bases, at_id, is_current, outcomes, AreEditionsOf};
-ghost use Rattle.catalogue_editions.specs.IndexKeys.{has_key};
-ghost use Rattle.catalogue_editions.specs.Net.{net};
-ghost use Rattle.turn_plans.specs.PreparedReaches.{IsReachOfParts};
-ghost use Rattle.turn_plans.specs.Reaches.{IsReachOf};
-ghost use Rattle.catalogue_editions.specs.Resolutions.{IsOrderedResolution};
-ghost use Rattle.catalogue_core.specs.Walks.{holder_of};
+ghost use Rattle.edition_blocks.specs.Grouping.{works_in, works_by};
+ghost use Rattle.turn_plans.specs.Histories.{current, bases, at_id, is_current, ForEditionsOf, outcomes_after};
+ghost use Rattle.turn_plans.specs.PreparedReaches.{CountsWithinParts};
+ghost use Rattle.turn_plans.specs.Reaches.{IsReachAfter};
+ghost use Rattle.catalogue_core.specs.Walks.{holder_of, AreEditionsWith, IsDeltaOf};
+ghost use Rattle.edition_blocks.specs.Editions.{editions_in};
 
 use crate::installing::install;
 use authority_names::name_table::NameTable;
@@ -143,10 +138,9 @@ impl Catalogue {
             ++ record { pass = number; batch = batch } ∷ []) }
         ensures names { self.new.names ≡ self.old.names }
         ensures outcomes { IfOk result (λ found. found.items
-            ≡ outcomes batch.library (current self.old.history) batch.ops) }
+            ≡ outcomes_after self.old.history batch) }
         ensures kept { OnErr result (self.new ≡ self.old) }
-        ensures reach { (number : ℕ) → IsReachOf batch.library (current self.old.history) batch.ops
-            number
+        ensures reach { (number : ℕ) → IsReachAfter self.old.history batch number
             → steps.new ≤ steps.old + number }
     {
         let context = Context {
@@ -188,14 +182,10 @@ impl Catalogue {
             ++ record { pass = number; batch = batch } ∷ []) }
         ensures names { self.new.names ≡ self.old.names }
         ensures outcomes { IfOk result (λ told. told.0.items
-            ≡ outcomes batch.library (current self.old.history) batch.ops) }
-        ensures delta { IfOk result (λ told. (before after : List EditionModel)
-            → AreEditionsOf self.old.history before
-            → AreEditionsOf self.new.history after → IsDelta before after told.1.closed.items
-            told.1.opened.items) }
+            ≡ outcomes_after self.old.history batch) }
+        ensures delta { IfOk result (λ told. IsDeltaOf self.old.history self.new.history told.1) }
         ensures kept { OnErr result (self.new ≡ self.old) }
-        ensures reach { (number : ℕ) → IsReachOf batch.library (current self.old.history) batch.ops
-            number
+        ensures reach { (number : ℕ) → IsReachAfter self.old.history batch number
             → steps.new ≤ steps.old + number }
     {
         let context = Context {
@@ -238,12 +228,9 @@ impl Catalogue {
             ++ record { pass = number; batch = prepared } ∷ []) }
         ensures names { self.new.names ≡ self.old.names }
         ensures outcomes { IfOk result (λ found. found.items
-            ≡ outcomes prepared.library (current self.old.history) prepared.ops) }
+            ≡ outcomes_after self.old.history prepared) }
         ensures kept { OnErr result (self.new ≡ self.old) }
-        ensures reach { (parts : List EditionModel) (reach : ℕ)
-            → IsOrderedResolution (net prepared) parts
-            → IsReachOfParts prepared.library (current self.old.history) prepared.ops parts reach
-            → steps.new ≤ steps.old + reach }
+        ensures reach { CountsWithinParts self.old.history prepared steps.old steps.new }
     {
         let (batch, parts) = prepared.into_parts();
         let context = Context {
@@ -273,16 +260,16 @@ impl Catalogue {
     ///
     /// Returns `Memory` if allocation fails.
     pub fn editions(&self, alloc: Global) -> Result<Vec<&Edition>, Memory>
-        ensures { (all : List EditionModel) × AreEditionsOf self.now.history all
-            × IfOk result (λ found. map (λ e. e.now) found.items ≡ all) }
+        ensures { ForEditionsOf self.now.history (λ all. IfOk result
+            (λ found. editions_in found.items ≡ all)) }
     {
         in_order(alloc, &self.blocks)
     }
 
     /// The edition that the record of that id is a contributor of: None exactly where it is not current. Takes no memory.
     pub fn holder(&self, id: &RecordId) -> Option<&Edition>
-        ensures holder { (all : List EditionModel) × AreEditionsOf self.now.history all
-            × (option_copied result ≡ holder_of all id.now) }
+        ensures holder { ForEditionsOf self.now.history (λ all. option_copied result
+            ≡ holder_of all id.now) }
         ensures none { is_none result ≡ not (is_current (current self.now.history) id.now) }
     {
         match self.homes.get(id) {
@@ -296,9 +283,8 @@ impl Catalogue {
     ///
     /// Returns `Memory` if allocation fails.
     pub fn with_key(&self, alloc: Global, key: &FeatureKey) -> Result<Vec<&Edition>, Memory>
-        ensures { IfOk result (λ found. (all : List EditionModel)
-            × AreEditionsOf self.now.history all
-            × (map (λ e. e.now) found.items ≡ filter (has_key key.now) all)) }
+        ensures { IfOk result (λ found. AreEditionsWith self.now.history key.now
+            (editions_in found.items)) }
     {
         by_key::with_key(alloc, &self.blocks, key)
     }
@@ -315,8 +301,7 @@ impl Catalogue {
 
     /// How many editions there are. Takes no memory.
     pub fn edition_count(&self) -> u64
-        ensures { (all : List EditionModel) × AreEditionsOf self.now.history all
-            × (result ≡ length all) }
+        ensures { ForEditionsOf self.now.history (λ all. result ≡ length all) }
     {
         self.blocks.count() as u64
     }
@@ -333,9 +318,8 @@ impl Catalogue {
     ///
     /// Returns `Memory` if allocation fails.
     pub fn works(&self, alloc: Global) -> Result<Grouping<'_>, Memory>
-        ensures { (all : List EditionModel) × AreEditionsOf self.now.history all
-            × IfOk result (λ grouping. works_in grouping
-            ≡ works_of (work_pairs self.now.names all)) }
+        ensures { ForEditionsOf self.now.history (λ all. IfOk result (λ g. works_in g
+            ≡ works_by self.now.names all)) }
     {
         match &self.works.works {
             Some(works) => Ok(Grouping::Kept(works)),
@@ -368,9 +352,8 @@ impl Catalogue {
     ///
     /// Returns `Memory` if allocation fails.
     pub fn work_count(&self, alloc: Global) -> Result<u64, Memory>
-        ensures { IfOk result (λ count. (all : List EditionModel)
-            × AreEditionsOf self.now.history all
-            × (count ≡ length (works_of (work_pairs self.now.names all)))) }
+        ensures { IfOk result (λ n. ForEditionsOf self.now.history (λ all. n
+            ≡ length (works_by self.now.names all))) }
     {
         Ok(self.works(alloc)?.works().count())
     }

@@ -9,7 +9,7 @@ ghost use Rattle.std.specs.Prelude.{◌≡◌, ◌≤◌, length};
 ghost use Rattle.merge_laws.specs.Resolution.{AreApart};
 ghost use Rattle.swoosh_resolver.specs.Tables.{values_of};
 ghost use Rattle.record_homes.specs.Moves.{housed, StayAt};
-ghost use Rattle.catalogue_core.specs.Housing.{housed_all, contributors_at, AreStillHoused};
+ghost use Rattle.catalogue_core.specs.Housing.{housed_all, contributors_at, AreStillHoused, contributors};
 ghost use Rattle.catalogue_editions.specs.Matching.{match as edition_match};
 
 use catalogue_editions::edition::Edition;
@@ -38,9 +38,9 @@ fn house_block(
     number: u64,
 )
     requires { StayAt number homes.old.entries (contributors_at blocks.now.blocks number)
-        placed.now.value.content.contributors }
+        (contributors placed.now) }
     ensures { homes.new.entries
-        ≡ housed number homes.old.entries placed.now.value.content.contributors }
+        ≡ housed number homes.old.entries (contributors placed.now) }
 {
     let before = contributors_at(blocks, number);
     let ids = placed.value.contributors().as_slice();

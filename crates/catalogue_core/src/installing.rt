@@ -5,10 +5,7 @@
 //! refused.
 ghost use Rattle.std.specs.Prelude.{◌≡◌, ◌++◌, ◌∷◌, [], OnOk, OnErr};
 ghost use Rattle.edition_blocks.specs.Grouping.{kept_works};
-ghost use Rattle.turn_plans.specs.Histories.{after_batch, current};
-ghost use Rattle.turn_plans.specs.Keeping.{batches};
-ghost use Rattle.turn_plans.specs.Plans.{IsPlanned};
-ghost use Rattle.catalogue_core.specs.Kept.{IsKept};
+ghost use Rattle.catalogue_core.specs.Kept.{IsKept, IsTurnPlanned};
 
 use crate::housing::house_all;
 use catalogue_editions::edition::Edition;
@@ -35,11 +32,8 @@ pub fn install(
 ) -> Result<(), Memory>
     requires kept { IsKept history.old.items homes.old.entries blocks.old.blocks
         (kept_works works.old) }
-    requires planned { IsPlanned (batches history.old.items ++ entry.batch ∷ []) homes.old.entries
-        blocks.old.blocks
-        (after_batch (current history.old.items) entry.batch) plan.change.closed.items
-        plan.change.opened.items
-        plan.touched.entries }
+    requires planned { IsTurnPlanned history.old.items entry.batch homes.old.entries
+        blocks.old.blocks plan }
     ensures kept { IsKept history.new.items homes.new.entries blocks.new.blocks
         (kept_works works.new) }
     ensures names { works.new.names ≡ works.old.names }

@@ -1,14 +1,14 @@
 //! What holds of the editions of a catalogue. Each function here does nothing when it runs: its contract is the law.
-ghost use Rattle.std.specs.Prelude.{◌≡◌, ◌⊎◌, ℕ, false, List, [], ◌∷◌, map, Contains};
+ghost use Rattle.std.specs.Prelude.{◌≡◌, ℕ, List, [], ◌∷◌, map};
 ghost use Rattle.union_base.specs.declared.record_id.RecordId.{RecordId};
 ghost use Rattle.marc_parts.specs.declared.marc_record.Record.{Record};
 ghost use Rattle.catalogue_editions.specs.declared.edition.Edition.{Edition};
 ghost use Rattle.catalogue_editions.specs.Resolutions.{IsOrderedResolution};
-ghost use Rattle.catalogue_editions.specs.Matching.{share};
 ghost use Rattle.catalogue_editions.specs.declared.history_entry.HistoryEntry.{HistoryEntry};
 ghost use Rattle.turn_plans.specs.Histories.{AreEditionsOf};
 ghost use Rattle.catalogue_core.specs.Preferring.{editions_by, unranked};
 ghost use Rattle.turn_plans.specs.Reaches.{IsReachOfInsertion, IsReachOfWithdrawal};
+ghost use Rattle.catalogue_core.specs.Laws.{IsOneAtMost, IsStranger, IsStrangerAmong};
 
 pub use catalogue_editions::laws::{
     common_contributor_matches, ordered_resolution_is_unique, sorted_resolution_is_ordered,
@@ -17,21 +17,17 @@ pub use record_editions::laws::accepted_can_be_loaded;
 
 /// The editions of a history are one list.
 pub fn editions_of_a_history_are_unique()
-    ensures { (history : List HistoryEntry) (one other : List Edition) → AreEditionsOf history one
-        → AreEditionsOf history other
-        → one ≡ other }
+    ensures { (history : List HistoryEntry) → IsOneAtMost (AreEditionsOf history) }
 {}
 
 /// A record that shares no index key with any other costs no test where it comes, and at most one where it goes: by the clause
 /// of `catalogue::Catalogue::apply`, however many records there are.
 pub fn strangers_cost_one_test()
-    ensures comes { (list : List Edition) (e : Edition) (number : ℕ)
-        → ((x : Edition) → Contains list x → share x e ≡ false)
-        → IsReachOfInsertion list e number → number ≡ 0 }
-    ensures goes { (list : List Edition) (e : Edition) (id : RecordId) (number : ℕ)
-        → ((x : Edition) → Contains list x
-        → (x ≡ e) ⊎ (share x e ≡ false)) → e.content.contributors ≡ id ∷ []
-        → IsReachOfWithdrawal list id number → number ≡ 1 }
+    ensures comes { (all : List Edition) (e : Edition) (n : ℕ) → IsStranger all e
+        → IsReachOfInsertion all e n → n ≡ 0 }
+    ensures goes { (all : List Edition) (e : Edition) (id : RecordId) (n : ℕ)
+        → IsStrangerAmong all e → e.content.contributors ≡ id ∷ [] → IsReachOfWithdrawal all id n
+        → n ≡ 1 }
 {}
 
 /// By any two preferences the same records resolve to the same editions, place by place, but for their fixed parts and their

@@ -5,9 +5,8 @@ ghost use Rattle.catalogue_editions.specs.declared.batch.Batch.{Batch};
 ghost use Rattle.catalogue_editions.specs.declared.edition.Edition.{Edition as EditionModel};
 ghost use Rattle.catalogue_editions.specs.Matching.{match as edition_match, share};
 ghost use Rattle.merge_laws.specs.Reach.{reach};
-ghost use Rattle.turn_plans.specs.Histories.{current};
-ghost use Rattle.turn_plans.specs.PreparedReaches.{IsReachOfParts};
-ghost use Rattle.turn_plans.specs.Reaches.{IsReachOf, IsReachOfInsertion};
+ghost use Rattle.turn_plans.specs.PreparedReaches.{IsReachOfPartsAfter};
+ghost use Rattle.turn_plans.specs.Reaches.{IsReachOfInsertion, IsReachAfter};
 ghost use Rattle.catalogue_editions.specs.declared.history_entry.HistoryEntry.{HistoryEntry};
 
 use catalogue_editions::edition::Edition;
@@ -17,9 +16,9 @@ use merge_laws::laws::{reach_is_within_shared_keys, resolution_exists};
 /// prepared batch with its parts, as `apply_prepared` bounds them.
 pub fn each_batch_has_a_reach()
     ensures applied { (history : List HistoryEntry) (batch : Batch)
-        → (number : ℕ) × IsReachOf batch.library (current history) batch.ops number }
+        → (number : ℕ) × IsReachAfter history batch number }
     ensures prepared { (history : List HistoryEntry) (batch : Batch) (parts : List EditionModel)
-        → (number : ℕ) × IsReachOfParts batch.library (current history) batch.ops parts number }
+        → (number : ℕ) × IsReachOfPartsAfter history batch parts number }
 {
     resolution_exists::<Edition>();
 }
