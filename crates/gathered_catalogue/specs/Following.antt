@@ -1,5 +1,5 @@
 -- How the table of places follows a batch.
-use Rattle.std.specs.Prelude.{◌≡◌, ℕ, ◌≤◌, if◌then◌else◌, is_some, List, Option, Some, None}
+use Rattle.std.specs.Prelude.{◌≡◌, ℕ, ◌≤◌, if◌then◌else◌, is_some, List, [], ◌∷◌, ◌++◌, Option, Some, None}
 use Rattle.std.specs.Ordering.{nat_cmp}
 use Rattle.std.specs.Cmp.Lexicographic.{slice_cmp}
 use Rattle.std.specs.BTreeMap.{is_at}
@@ -15,7 +15,7 @@ use Rattle.catalogue_editions.specs.declared.op.Op.{Op}
 use Rattle.catalogue_editions.specs.declared.op.Op.TheVariants.{Load, Withdraw}
 use Rattle.catalogue_editions.specs.declared.outcome.Outcome.{Outcome}
 use Rattle.catalogue_editions.specs.declared.outcome.Outcome.TheVariants.{Added, Replaced, Removed, Absent}
-use Rattle.turn_plans.specs.Histories.{MapOf, at_id, current}
+use Rattle.turn_plans.specs.Histories.{MapOf, after_batch, at_id, current, outcomes_after}
 use Rattle.turn_plans.specs.Keeping.{batches, loaded_at}
 use Rattle.gathered_catalogue.specs.Tables.{Rows, Shelf, Libraries, row_at, place_at}
 
@@ -49,3 +49,19 @@ pub record AreCurrent (history : List HistoryEntry) (libraries : Libraries) : Ty
 -- the library has a shelf with room for so many control numbers more
 abbrev pub HasRoom : Libraries → List ℕ → ℕ → Type 0
 HasRoom libraries library count = (shelf : Shelf) × (lookup (is_at (slice_cmp nat_cmp library)) libraries ≡ Some shelf) × (count ≤ shelf.room)
+
+-- with the next rows of its library the records are found that the batch leaves current after the history, where with the rows
+-- before it those are found that the history leaves current
+abbrev pub FollowsBatch : List HistoryEntry → Batch → Rows → Rows → Type 0
+FollowsBatch history batch rows next =
+    (libraries : Libraries) → AreFoundWith (batches history) libraries batch.library rows (current history)
+    → AreFoundWith (batches history ++ batch ∷ []) libraries batch.library next (after_batch (current history) batch)
+
+-- the outcomes are those of the batch after the history, where with these rows of its library the current records are found
+abbrev pub AreOutcomesBy : List HistoryEntry → Batch → Rows → List Outcome → Type 0
+AreOutcomesBy history batch rows found =
+    (libraries : Libraries) → AreFoundWith (batches history) libraries batch.library rows (current history) → found ≡ outcomes_after history batch
+
+-- each current record is found once the batch is the last of the history, under whatever number
+abbrev pub AreCurrentAfter : List HistoryEntry → Batch → Libraries → Type 0
+AreCurrentAfter history batch libraries = (entry : HistoryEntry) → entry.batch ≡ batch → AreCurrent (history ++ entry ∷ []) libraries

@@ -4,7 +4,7 @@
 //! loaded. Both have the same history and the same outcomes, and contracts see of both the history and the table of names.
 ghost use Rattle.std.specs.Prelude.{◌≡◌, ◌<◌, ◌^◌, ◌++◌, ◌∷◌, [], length, IfOk, OnOk, OnErr};
 ghost use Rattle.catalogue_core.specs.Catalogues.{by_names};
-ghost use Rattle.turn_plans.specs.Histories.{current, outcomes};
+ghost use Rattle.turn_plans.specs.Histories.{current, outcomes, with_turn, outcomes_after};
 ghost use Rattle.gathered_catalogue.specs.Engines.{value_of};
 
 use crate::change::{Change, ChangeKind};
@@ -61,10 +61,10 @@ fn apply_standing<L: Ledger>(
     requires parts { blank.parts ≡ L.parts }
     requires some { 0 < L.parts }
     ensures names { catalogue.new.names ≡ catalogue.old.names }
-    ensures appended { OnOk result (catalogue.new.history ≡ catalogue.old.history
-        ++ record { pass = number; batch = change } ∷ []) }
+    ensures appended { OnOk result (catalogue.new.history
+        ≡ with_turn catalogue.old.history number change) }
     ensures outcomes { IfOk result (λ found. found.items
-        ≡ outcomes change.library (current catalogue.old.history) change.ops) }
+        ≡ outcomes_after catalogue.old.history change) }
     ensures kept { OnErr result (catalogue.new ≡ catalogue.old) }
 {
     let mut steps: Steps<L> = Steps::open(blank);
@@ -79,11 +79,11 @@ fn apply_standing<L: Ledger>(
 impl Kind {
     /// Applies a change under that number, and answers what came of each of its operations.
     fn apply(&mut self, alloc: Global, number: u32, change: Change) -> Result<Vec<Outcome>, Memory>
-        ensures appended { OnOk result ((value_of self.new).history ≡ (value_of self.old).history
-            ++ record { pass = number; batch = change } ∷ []) }
+        ensures appended { OnOk result ((value_of self.new).history
+            ≡ with_turn (value_of self.old).history number change) }
         ensures names { (value_of self.new).names ≡ (value_of self.old).names }
         ensures outcomes { IfOk result (λ found. found.items
-            ≡ outcomes change.library (current (value_of self.old).history) change.ops) }
+            ≡ outcomes_after (value_of self.old).history change) }
         ensures kept { OnErr result (value_of self.new ≡ value_of self.old) }
     {
         match self {

@@ -1,9 +1,9 @@
 //! The catalogue of a run when all is loaded.
 //!
 //! It takes no batch any more, and shows its editions and its turns. A standing catalogue is as it is, and a gathered one was resolved.
-ghost use Rattle.std.specs.Prelude.{◌≡◌, ◌≤◌, ◌<◌, ◌^◌, List, Some, map, length, slice_get, IfOk};
-ghost use Rattle.catalogue_editions.specs.declared.edition.Edition.{Edition as EditionModel};
-ghost use Rattle.turn_plans.specs.Histories.{AreEditionsOf};
+ghost use Rattle.std.specs.Prelude.{◌≡◌, ◌≤◌, ◌<◌, ◌^◌, Some, map, length, slice_get, IfOk};
+ghost use Rattle.turn_plans.specs.Histories.{ForEditionsOf};
+ghost use Rattle.edition_blocks.specs.Editions.{editions_in};
 
 use crate::engine::{Engine, Kind};
 use crate::resolved::Resolved;
@@ -81,8 +81,8 @@ impl Finished {
 
     /// The editions in order of their least contributors. Returns `Memory` if allocation fails.
     pub fn editions(&self, alloc: Global) -> Result<Vec<&Edition>, Memory>
-        ensures { (all : List EditionModel) × AreEditionsOf self.now.history all
-            × IfOk result (λ found. map (λ e. e.now) found.items ≡ all) }
+        ensures { ForEditionsOf self.now.history (λ all. IfOk result
+            (λ found. editions_in found.items ≡ all)) }
     {
         match &self.kind {
             FinishedKind::Standing(catalogue) => catalogue.editions(alloc),

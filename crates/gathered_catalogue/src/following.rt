@@ -2,13 +2,11 @@
 //!
 //! All memory that a batch needs is taken first: copies of its control numbers, and room in its library's places for as many. Then
 //! the places follow its operations one by one, which takes no memory and is not refused.
-ghost use Rattle.std.specs.Prelude.{◌≡◌, ◌<◌, ◌≤◌, ◌+◌, ◌++◌, ◌∷◌, [], length, map, vec_capacity, IfOk, OnOk};
+ghost use Rattle.std.specs.Prelude.{◌≡◌, ◌<◌, ◌≤◌, ◌+◌, [], length, map, vec_capacity, IfOk, OnOk};
 ghost use Rattle.union_base.specs.declared.record_id.RecordId.{RecordId as RecordModel};
-ghost use Rattle.catalogue_editions.specs.declared.history_entry.HistoryEntry.{HistoryEntry as HistoryModel};
-ghost use Rattle.turn_plans.specs.Histories.{after_batch, current, outcomes};
-ghost use Rattle.turn_plans.specs.Keeping.{batches};
-ghost use Rattle.gathered_catalogue.specs.Tables.{Libraries, Sets, place_at};
-ghost use Rattle.gathered_catalogue.specs.Following.{control_of, place_after, outcome_at, AreCurrent, AreFoundWith, HasRoom};
+ghost use Rattle.turn_plans.specs.Histories.{outcomes_after};
+ghost use Rattle.gathered_catalogue.specs.Tables.{Sets, place_at};
+ghost use Rattle.gathered_catalogue.specs.Following.{control_of, place_after, outcome_at, AreCurrent, HasRoom, FollowsBatch, AreOutcomesBy, AreCurrentAfter};
 
 use crate::library_places::LibraryPlaces;
 use catalogue_editions::batch::Batch;
@@ -108,16 +106,8 @@ fn follow_each(
     requires controls { controls.items ≡ map control_of batch.now.ops }
     requires none { found.items ≡ [] }
     requires capacity { length batch.now.ops ≤ vec_capacity found }
-    ensures places { (libraries : Libraries)
-        → AreFoundWith (batches history.now) libraries batch.now.library places.old.rows
-        (current history.now)
-        → AreFoundWith (batches history.now ++ batch.now ∷ []) libraries batch.now.library
-        places.new.rows
-        (after_batch (current history.now) batch.now) }
-    ensures outcomes { (libraries : Libraries)
-        → AreFoundWith (batches history.now) libraries batch.now.library places.old.rows
-        (current history.now)
-        → result.items ≡ outcomes batch.now.library (current history.now) batch.now.ops }
+    ensures places { FollowsBatch history.now batch.now places.old.rows places.new.rows }
+    ensures outcomes { AreOutcomesBy history.now batch.now places.old.rows result.items }
 {
     let mut found = found;
     let ops = batch.ops.as_slice();
@@ -145,10 +135,8 @@ pub(crate) fn follow_batch(
     requires controls { controls.items ≡ map control_of batch.now.ops }
     requires none { found.items ≡ [] }
     requires capacity { length batch.now.ops ≤ vec_capacity found }
-    ensures current { (entry : HistoryModel) → entry.batch ≡ batch.now
-        → AreCurrent (history.now ++ entry ∷ []) libraries.new.entries }
-    ensures outcomes { result.items
-        ≡ outcomes batch.now.library (current history.now) batch.now.ops }
+    ensures current { AreCurrentAfter history.now batch.now libraries.new.entries }
+    ensures outcomes { result.items ≡ outcomes_after history.now batch.now }
 {
     match libraries.get_mut(&batch.library) {
         Some(places) => follow_each(places, history, batch, controls, found),

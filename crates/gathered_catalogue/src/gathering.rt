@@ -1,9 +1,9 @@
 //! The current records, collected and resolved.
-ghost use Rattle.std.specs.Prelude.{◌≡◌, ◌≤◌, ◌↔◌, Contains, IfOk};
+ghost use Rattle.std.specs.Prelude.{◌≤◌, IfOk, ◌≡◌};
 ghost use Rattle.catalogue_editions.specs.Resolutions.{IsOrderedResolution};
-ghost use Rattle.catalogue_editions.specs.declared.edition.Edition.{Edition as EditionModel};
 ghost use Rattle.turn_plans.specs.Histories.{bases};
 ghost use Rattle.gathered_catalogue.specs.Following.{AreCurrent};
+ghost use Rattle.catalogue_core.specs.Parts.{HasMembersOf};
 
 use crate::library_places::LibraryPlaces;
 use crate::sorting::sorted_by_workers;
@@ -26,8 +26,7 @@ pub(crate) fn current_records(
     libraries: &BTreeMap<LibraryCode, LibraryPlaces>,
 ) -> Result<Vec<Edition>, Memory>
     requires { AreCurrent history.now libraries.now.entries }
-    ensures { IfOk result (λ records. (e : EditionModel)
-        → Contains records.items e ↔ Contains (bases history.now) e) }
+    ensures { IfOk result (λ records. HasMembersOf records.items (bases history.now)) }
 {
     let mut records = Vec::new(alloc);
     for (_, places) in libraries {
