@@ -1,10 +1,11 @@
 -- What a follower holds, and what it makes of a delta.
-use Rattle.std.specs.Prelude.{◌≡◌, ◌↔◌, ◌⊎◌, ℕ, ◌<◌, IsTrue, List, [], ◌∷◌, Some, Contains, AllPairs, take, slice_get}
+use Rattle.std.specs.Prelude.{◌≡◌, ◌↔◌, ◌⊎◌, ℕ, ◌<◌, IsTrue, List, [], ◌∷◌, Some, Contains, AllPairs, take, slice_get, Option, MatchOption}
 use Rattle.union_base.specs.SortedLists.{is_ascending}
 use Rattle.union_base.specs.declared.record_id.RecordId.{RecordId}
 use Rattle.catalogue_editions.specs.Ids.{edition_cmp}
 use Rattle.catalogue_editions.specs.declared.edition.Edition.{Edition}
-use Rattle.edition_blocks.specs.Deltas.{IsDelta}
+use Rattle.edition_blocks.specs.Deltas.{AreOnlyIn, IsDelta}
+use Rattle.edition_blocks.specs.declared.delta.Delta.{Delta}
 
 -- some record is a contributor of both
 abbrev pub share_contributor : Edition → Edition → Type 0
@@ -37,6 +38,25 @@ IsNowhere P = (k : ℕ) → P k → ⊥
 pub record IsFirst (P : ℕ → Type 0) (at : ℕ) : Type 0 where
   pub here : P at
   pub before : (k : ℕ) → k < at → P k → ⊥
+
+-- the place is the least of a closed edition that is missing
+abbrev pub IsFirstMissing : List Edition → List Edition → ℕ → Type 0
+IsFirstMissing held closed at = IsFirst (IsMissing held closed) at
+
+-- no closed edition is missing, and the place is the least of an opened edition that is double
+abbrev pub IsDoubleAt : List Edition → List Edition → List Edition → ℕ → Type 0
+IsDoubleAt held closed opened at = IsNowhere (IsMissing held closed) × IsFirst (IsDouble held closed opened) at
+
+-- the same of a delta
+abbrev pub IsDoubleOf : List Edition → Delta → ℕ → Type 0
+IsDoubleOf held delta at = IsDoubleAt held delta.closed.items delta.opened.items at
+
+-- where those stay of the held editions that are not closed, the place is the least of an opened edition that is double, and there
+-- is none where none is double
+abbrev pub IsLeastDouble : List Edition → List Edition → Option ℕ → Type 0
+IsLeastDouble staying opened found =
+    (held closed : List Edition) → AreOnlyIn held closed staying
+    → MatchOption found (IsNowhere (IsDouble held closed opened)) (λ at. IsFirst (IsDouble held closed opened) at)
 
 -- the closed editions have left, and the opened ones have entered
 pub record IsTaken (held closed opened now : List Edition) : Type 0 where

@@ -1,13 +1,10 @@
 //! The opened editions that share a contributor with another.
-ghost use Rattle.std.specs.Prelude.{◌≡◌, ◌||◌, ℕ, List, IfOk, OnOk, IsTrue, MatchOption, Contains};
+ghost use Rattle.std.specs.Prelude.{◌≡◌, IfOk, OnOk, ℕ, IsTrue, Contains};
 ghost use Rattle.std.specs.BTreeSet.{contains};
 ghost use Rattle.std.specs.List.{list_any};
-ghost use Rattle.union_base.specs.SortedLists.{has};
-ghost use Rattle.union_base.specs.declared.record_id.RecordId.{RecordId as IdModel};
 ghost use Rattle.union_base.specs.RecordIds.{id_cmp};
-ghost use Rattle.catalogue_editions.specs.declared.edition.Edition.{Edition as EditionModel};
-ghost use Rattle.edition_blocks.specs.Deltas.{AreOnlyIn};
-ghost use Rattle.change_notices.specs.Followers.{IsDouble, IsFirst, IsNowhere};
+ghost use Rattle.change_notices.specs.Followers.{IsLeastDouble};
+ghost use Rattle.change_notices.specs.Naming.{AddsContributors};
 
 use catalogue_editions::edition::Edition;
 use std::alloc::Global;
@@ -22,8 +19,8 @@ fn add_contributors(
     seen: &mut BTreeSet<RecordId>,
     edition: &Edition,
 ) -> Result<(), Memory>
-    ensures { OnOk result ((q : IdModel) → contains id_cmp seen.new q
-        ≡ (contains id_cmp seen.old q || has id_cmp edition.now.content.contributors q)) }
+    ensures { OnOk result (AddsContributors edition.now (contains id_cmp seen.old)
+        (contains id_cmp seen.new)) }
 {
     let ids = edition.contributors().as_slice();
     for id in ids {
@@ -48,10 +45,7 @@ pub fn first_double(
     staying: &[Edition],
     opened: &[Edition],
 ) -> Result<Option<usize>, Memory>
-    ensures { IfOk result (λ found. (held closed : List EditionModel)
-        → AreOnlyIn held closed staying.now → MatchOption found
-        (IsNowhere (IsDouble held closed opened.now))
-        (λ at. IsFirst (IsDouble held closed opened.now) at)) }
+    ensures { IfOk result (λ found. IsLeastDouble staying.now opened.now found) }
 {
     let mut seen = BTreeSet::new(alloc);
     for edition in staying {

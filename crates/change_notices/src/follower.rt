@@ -2,7 +2,7 @@
 ghost use Rattle.std.specs.Prelude.{◌≡◌, ℕ, [], Err, IfOk, OnOk, OnErr, ◌++◌};
 ghost use Rattle.std.specs.List.Sorted.{IsPermutation, IsSorted};
 ghost use Rattle.catalogue_editions.specs.Ids.{edition_cmp};
-ghost use Rattle.change_notices.specs.Followers.{AreHeld, CanTake, IsDouble, IsFirst, IsMissing, IsNowhere, IsTaken};
+ghost use Rattle.change_notices.specs.Followers.{AreHeld, CanTake, IsTaken, IsFirstMissing, IsDoubleAt, IsDoubleOf};
 
 use crate::doubles::first_double;
 use crate::marking::{marked, unmarked};
@@ -58,10 +58,9 @@ impl Follower {
     /// in place of each. After a refusal the follower is as before.
     pub fn take(&mut self, alloc: Global, delta: Delta) -> Result<(), FollowRefusal>
         ensures missing { (at : ℕ) → result ≡ Err (FollowRefusal.Missing at)
-            → IsFirst (IsMissing self.old delta.closed.items) at }
+            → IsFirstMissing self.old delta.closed.items at }
         ensures double { (at : ℕ) → result ≡ Err (FollowRefusal.Double at)
-            → IsNowhere (IsMissing self.old delta.closed.items)
-            × IsFirst (IsDouble self.old delta.closed.items delta.opened.items) at }
+            → IsDoubleOf self.old delta at }
         ensures fits { OnOk result (CanTake self.old delta.closed.items delta.opened.items) }
         ensures taken { OnOk result (IsTaken self.old delta.closed.items delta.opened.items
             self.new) }
@@ -87,10 +86,9 @@ fn next_of(
 ) -> Result<Vec<Edition>, FollowRefusal>
     requires { AreHeld held.now }
     ensures missing { (at : ℕ) → result ≡ Err (FollowRefusal.Missing at)
-        → IsFirst (IsMissing held.now closed.now) at }
+        → IsFirstMissing held.now closed.now at }
     ensures double { (at : ℕ) → result ≡ Err (FollowRefusal.Double at)
-        → IsNowhere (IsMissing held.now closed.now)
-        × IsFirst (IsDouble held.now closed.now opened.items) at }
+        → IsDoubleAt held.now closed.now opened.items at }
     ensures fits { OnOk result (CanTake held.now closed.now opened.items) }
     ensures taken { IfOk result (λ next. IsTaken held.now closed.now opened.items next.items) }
 {

@@ -1,11 +1,9 @@
 //! The held editions that a delta closes.
-ghost use Rattle.std.specs.Prelude.{◌≡◌, ◌⊎◌, ◌<◌, ℕ, true, false, length, IfOk, IfSome, IfNone, IsTrue, MatchResult, Some, List, Contains, slice_get, slice_index_or};
+ghost use Rattle.std.specs.Prelude.{◌≡◌, length, IfOk, IfSome, IfNone, IsTrue, MatchResult, Some, Contains, slice_get};
 ghost use Rattle.union_base.specs.SortedLists.{is_ascending};
 ghost use Rattle.catalogue_editions.specs.Ids.{edition_cmp};
-ghost use Rattle.catalogue_editions.specs.declared.edition.Edition.{Edition as EditionModel};
-ghost use Rattle.edition_blocks.specs.Deltas.{AreOnlyIn};
-ghost use Rattle.change_notices.specs.Followers.{IsFirst, IsMissing, IsNowhere};
-ghost use Rattle.change_notices.specs.Marks.{AreMarked};
+ghost use Rattle.change_notices.specs.Followers.{IsFirstMissing};
+ghost use Rattle.change_notices.specs.Marks.{AreAllMarked, IsFreeAt, IsNotFree, AreUnmarked};
 
 use catalogue_editions::edition::Edition;
 use edition_blocks::same::is_same;
@@ -44,9 +42,7 @@ pub fn marked(
 ) -> Result<Result<Vec<bool>, usize>, Memory>
     requires { IsTrue (is_ascending edition_cmp held.now) }
     ensures { IfOk result (λ found. MatchResult found
-        (λ marks. IsNowhere (IsMissing held.now closed.now)
-        × AreMarked held.now closed.now marks.items)
-        (λ at. IsFirst (IsMissing held.now closed.now) at)) }
+        (λ marks. AreAllMarked held.now closed.now marks.items) (λ at. IsFirstMissing held.now closed.now at)) }
 {
     let mut marks = vec![in alloc; false; held.len()]?;
     for (at, edition) in closed.iter().enumerate() {
@@ -68,13 +64,9 @@ fn free_place(
 ) -> Result<Option<usize>, Memory>
     requires ascending { IsTrue (is_ascending edition_cmp held.now) }
     requires marks { length marks.now ≡ length held.now }
-    ensures found { IfOk result (λ found. IfSome found (λ place. (slice_get held.now place
-        ≡ Some edition.now)
-        × (place < length marks.now)
-        × (slice_index_or marks.now place false ≡ false))) }
-    ensures none { IfOk result (λ found. IfNone found ((Contains held.now edition.now → ⊥)
-        ⊎ ((place : ℕ) × (slice_get held.now place ≡ Some edition.now)
-        × (slice_index_or marks.now place false ≡ true)))) }
+    ensures found { IfOk result (λ found. IfSome found
+        (λ place. IsFreeAt held.now marks.now edition.now place)) }
+    ensures none { IfOk result (λ found. IfNone found (IsNotFree held.now marks.now edition.now)) }
 {
     let Some(place) = place_of(alloc, held, edition)? else {
         return Ok(None);
@@ -90,9 +82,7 @@ fn free_place(
 pub fn unmarked(alloc: Global, held: &[Edition], marks: &[bool]) -> Result<Vec<Edition>, Memory>
     requires ascending { IsTrue (is_ascending edition_cmp held.now) }
     requires marks { length marks.now ≡ length held.now }
-    ensures { IfOk result (λ left. (closed : List EditionModel)
-        → AreMarked held.now closed marks.now
-        → AreOnlyIn held.now closed left.items) }
+    ensures { IfOk result (λ left. AreUnmarked held.now marks.now left.items) }
 {
     let mut left = Vec::new(alloc);
     for (place, edition) in held.iter().enumerate() {

@@ -1,18 +1,13 @@
 //! The lines of a notice.
-ghost use Rattle.std.specs.Prelude.{◌≡◌, ◌++◌, List, IfOk, OnOk, Some, codes, if◌then◌else◌};
+ghost use Rattle.std.specs.Prelude.{◌≡◌, ◌++◌, IfOk, OnOk};
 ghost use Rattle.std.specs.List.{flat_map};
 ghost use Rattle.std.specs.Option.{option_copied};
 ghost use Rattle.std.specs.BTreeMap.{get};
-ghost use Rattle.union_base.specs.SortedLists.{has};
 ghost use Rattle.union_base.specs.declared.record_id.RecordId.{RecordId as IdModel};
 ghost use Rattle.union_base.specs.RecordIds.{id_cmp};
 ghost use Rattle.workset_keys.specs.WorkKeys.{own_name};
-ghost use Rattle.catalogue_editions.specs.Ids.{least};
-ghost use Rattle.catalogue_editions.specs.declared.edition.Edition.{Edition as EditionModel};
-ghost use Rattle.edition_blocks.specs.Deltas.{IsDelta};
-ghost use Rattle.change_notices.specs.Followers.{AreHeld};
-ghost use Rattle.change_notices.specs.Naming.{last_name};
-ghost use Rattle.change_notices.specs.Notices.{edition_lines, end_by, notice_lines};
+ghost use Rattle.change_notices.specs.Naming.{last_name, PutsName};
+ghost use Rattle.change_notices.specs.Sides.{line_by, told, IsNotice};
 
 use catalogue_editions::edition::Edition;
 use edition_blocks::delta::Delta;
@@ -40,9 +35,7 @@ fn name_contributors(
     names: &mut BTreeMap<RecordId, RecordId>,
     edition: &Edition,
 ) -> Result<(), Memory>
-    ensures { OnOk result ((q : IdModel) → get id_cmp names.new q
-        ≡ (if has id_cmp edition.now.content.contributors q then Some (least edition.now) else get
-        id_cmp names.old q)) }
+    ensures { OnOk result (PutsName edition.now (get id_cmp names.old) (get id_cmp names.new)) }
 {
     let ids = edition.contributors().as_slice();
     for id in ids {
@@ -89,8 +82,7 @@ fn contributor_line(
     name: Option<&RecordId>,
     id: &RecordId,
 ) -> Result<Bytes, Memory>
-    ensures { IfOk result (λ line. line ≡ codes " " ++ own_name id.now
-        ++ end_by words.now.moved.now words.now.alone.now (option_copied name.entry)) }
+    ensures { IfOk result (λ line. line ≡ line_by words.now id.now (option_copied name.entry)) }
 {
     let mut line = Vec::new(alloc);
     line.extend_from_slice(b" ")?;
@@ -114,8 +106,7 @@ fn add_edition(
     edition: &Edition,
 ) -> Result<(), Memory>
     ensures { OnOk result (lines.new.items ≡ lines.old.items
-        ++ edition_lines words.now.head.now words.now.moved.now words.now.alone.now
-        (get id_cmp names.now) edition.now) }
+        ++ told words.now (get id_cmp names.now) edition.now) }
 {
     lines.push(head_line(alloc, words.head, edition.least())?)?;
     let ids = edition.contributors().as_slice();
@@ -134,8 +125,7 @@ fn add_side(
     editions: &[Edition],
 ) -> Result<(), Memory>
     ensures { OnOk result (lines.new.items ≡ lines.old.items
-        ++ flat_map (edition_lines words.now.head.now words.now.moved.now words.now.alone.now
-        (get id_cmp names.now)) editions.now) }
+        ++ flat_map (told words.now (get id_cmp names.now)) editions.now) }
 {
     for edition in editions {
         add_edition(alloc, lines, words, names, edition)?;
@@ -149,10 +139,7 @@ fn add_side(
 ///
 /// The delta is that of two lists of editions as a follower holds them. Returns `Memory` if allocation fails.
 pub fn notice(alloc: Global, delta: &Delta) -> Result<Vec<Bytes>, Memory>
-    ensures { IfOk result (λ lines. (before after : List EditionModel) → AreHeld before
-        → AreHeld after
-        → IsDelta before after delta.now.closed.items delta.now.opened.items
-        → lines.items ≡ notice_lines before after delta.now.closed.items delta.now.opened.items) }
+    ensures { IfOk result (λ lines. IsNotice delta.now lines.items) }
 {
     let before = names_of(alloc, delta.closed.as_slice())?;
     let after = names_of(alloc, delta.opened.as_slice())?;
