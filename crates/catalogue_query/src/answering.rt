@@ -2,15 +2,11 @@
 //!
 //! All are looked up: the edition that has a record, the editions that have an ISBN, an ISSN, a control pair or a title, and
 //! those of a work; the counts are read. So an answer takes time by its own length, and not by how many editions there are.
-ghost use Rattle.std.specs.Prelude.{◌≡◌, List, map, filter, flat_map, IfOk};
-ghost use Rattle.catalogue_core.specs.Histories.{current, AreEditionsOf};
-ghost use Rattle.catalogue_core.specs.Ids.{least};
-ghost use Rattle.catalogue_core.specs.IndexKeys.{has_key};
-ghost use Rattle.catalogue_editions.specs.declared.edition.Edition.{Edition as EditionModel};
+ghost use Rattle.std.specs.Prelude.{◌≡◌, map, IfOk};
 ghost use Rattle.catalogue_query.specs.declared.query.Query.TheVariants.{Isbn, Issn, Control, Title, Work, Count};
 ghost use Rattle.catalogue_query.specs.Lines.{edition_line};
-ghost use Rattle.catalogue_query.specs.Answers.{told, told_of_all, lines_of, or_none, answer_lines};
-ghost use Rattle.catalogue_editions.specs.Ids.{has_contributor};
+ghost use Rattle.catalogue_query.specs.Answers.{or_none};
+ghost use Rattle.catalogue_query.specs.Asked.{AreAnswerLines, AreLinesOf, AreToldOfAll, AreToldOfHolder, AreLinesWith};
 
 use crate::answer::Answer;
 use crate::lines::{count_line, edition_line};
@@ -40,10 +36,7 @@ use union_base::sequence::Sequence;
 ///
 /// Returns `Memory` if allocation fails.
 pub fn answer(alloc: Global, catalogue: &Catalogue, query: &Query) -> Result<Answer, Memory>
-    ensures { IfOk result (λ found. (all : List EditionModel)
-        × AreEditionsOf catalogue.now.history all
-        × (found.lines ≡ answer_lines catalogue.now.names query.now (current catalogue.now.history)
-        all)) }
+    ensures { IfOk result (λ found. AreAnswerLines catalogue.now query.now found.lines) }
 {
     let lines = lines_of(alloc, catalogue, query)?;
     Ok(Answer {
@@ -64,10 +57,7 @@ fn or_none(alloc: Global, lines: Vec<Bytes>) -> Result<Vec<Bytes>, Memory>
 
 /// The lines of the answer, which may be none.
 fn lines_of(alloc: Global, catalogue: &Catalogue, query: &Query) -> Result<Vec<Bytes>, Memory>
-    ensures { IfOk result (λ lines. (all : List EditionModel)
-        × AreEditionsOf catalogue.now.history all
-        × (lines.items ≡ lines_of catalogue.now.names query.now (current catalogue.now.history)
-        all)) }
+    ensures { IfOk result (λ lines. AreLinesOf catalogue.now query.now lines.items) }
 {
     match query {
         Query::Id(id) => lines_of_holder(alloc, catalogue, query, id),
@@ -88,10 +78,7 @@ fn lines_of_holder(
     query: &Query,
     id: &RecordId,
 ) -> Result<Vec<Bytes>, Memory>
-    ensures { IfOk result (λ lines. (all : List EditionModel)
-        × AreEditionsOf catalogue.now.history all
-        × (lines.items ≡ flat_map (told catalogue.now.names query.now
-        (current catalogue.now.history)) (filter (has_contributor id.now) all))) }
+    ensures { IfOk result (λ lines. AreToldOfHolder catalogue.now query.now id.now lines.items) }
 {
     let mut lines = Vec::new(alloc);
     if let Some(edition) = catalogue.holder(id) {
@@ -106,10 +93,7 @@ fn lines_of_isbn(
     catalogue: &Catalogue,
     digits: &[u8; 13],
 ) -> Result<Vec<Bytes>, Memory>
-    ensures { IfOk result (λ lines. (all : List EditionModel)
-        × AreEditionsOf catalogue.now.history all
-        × (lines.items ≡ told_of_all catalogue.now.names (Isbn digits.now)
-        (current catalogue.now.history) all)) }
+    ensures { IfOk result (λ lines. AreToldOfAll catalogue.now (Isbn digits.now) lines.items) }
 {
     lines_with_key(alloc, catalogue, &FeatureKey::Isbn(*digits))
 }
@@ -120,10 +104,7 @@ fn lines_of_issn(
     catalogue: &Catalogue,
     number: &[u8; 8],
 ) -> Result<Vec<Bytes>, Memory>
-    ensures { IfOk result (λ lines. (all : List EditionModel)
-        × AreEditionsOf catalogue.now.history all
-        × (lines.items ≡ told_of_all catalogue.now.names (Issn number.now)
-        (current catalogue.now.history) all)) }
+    ensures { IfOk result (λ lines. AreToldOfAll catalogue.now (Issn number.now) lines.items) }
 {
     lines_with_key(alloc, catalogue, &FeatureKey::Issn(*number))
 }
@@ -135,10 +116,8 @@ fn lines_of_control(
     source: &Bytes,
     number: &Bytes,
 ) -> Result<Vec<Bytes>, Memory>
-    ensures { IfOk result (λ lines. (all : List EditionModel)
-        × AreEditionsOf catalogue.now.history all
-        × (lines.items ≡ told_of_all catalogue.now.names (Control source.now number.now)
-        (current catalogue.now.history) all)) }
+    ensures { IfOk result (λ lines. AreToldOfAll catalogue.now
+        (Control source.now number.now) lines.items) }
 {
     let pair = ControlPair::of(alloc, source.bytes(), number.bytes())?;
     lines_with_key(alloc, catalogue, &FeatureKey::Control(pair))
@@ -146,10 +125,7 @@ fn lines_of_control(
 
 /// What is told of the editions that have the title.
 fn lines_of_title(alloc: Global, catalogue: &Catalogue, form: &Bytes) -> Result<Vec<Bytes>, Memory>
-    ensures { IfOk result (λ lines. (all : List EditionModel)
-        × AreEditionsOf catalogue.now.history all
-        × (lines.items ≡ told_of_all catalogue.now.names (Title form.now)
-        (current catalogue.now.history) all)) }
+    ensures { IfOk result (λ lines. AreToldOfAll catalogue.now (Title form.now) lines.items) }
 {
     let key = FeatureKey::Title(form.copied(alloc)?);
     lines_with_key(alloc, catalogue, &key)
@@ -161,9 +137,7 @@ fn lines_with_key(
     catalogue: &Catalogue,
     key: &FeatureKey,
 ) -> Result<Vec<Bytes>, Memory>
-    ensures { IfOk result (λ lines. (all : List EditionModel)
-        × AreEditionsOf catalogue.now.history all
-        × (lines.items ≡ map (λ e. edition_line (least e)) (filter (has_key key.now) all))) }
+    ensures { IfOk result (λ lines. AreLinesWith catalogue.now key.now lines.items) }
 {
     let editions = catalogue.with_key(alloc, key)?;
     let mut lines = Vec::with_capacity(alloc, editions.len())?;
@@ -175,10 +149,7 @@ fn lines_with_key(
 
 /// What is told of the editions of the work.
 fn lines_of_work(alloc: Global, catalogue: &Catalogue, key: &Bytes) -> Result<Vec<Bytes>, Memory>
-    ensures { IfOk result (λ lines. (all : List EditionModel)
-        × AreEditionsOf catalogue.now.history all
-        × (lines.items ≡ told_of_all catalogue.now.names (Work key.now)
-        (current catalogue.now.history) all)) }
+    ensures { IfOk result (λ lines. AreToldOfAll catalogue.now (Work key.now) lines.items) }
 {
     let grouping = catalogue.works(alloc)?;
     edition_lines(alloc, grouping.works().editions_of(key))
@@ -197,9 +168,7 @@ fn edition_lines(alloc: Global, ids: &[RecordId]) -> Result<Vec<Bytes>, Memory>
 
 /// The line of the counts.
 fn count_lines(alloc: Global, catalogue: &Catalogue) -> Result<Vec<Bytes>, Memory>
-    ensures { IfOk result (λ lines. (all : List EditionModel)
-        × AreEditionsOf catalogue.now.history all
-        × (lines.items ≡ lines_of catalogue.now.names Count (current catalogue.now.history) all)) }
+    ensures { IfOk result (λ lines. AreLinesOf catalogue.now Count lines.items) }
 {
     let editions = catalogue.edition_count();
     let works = catalogue.work_count(alloc)?;

@@ -1,8 +1,8 @@
 //! What a query is told of an edition that it asks for.
 ghost use Rattle.std.specs.Prelude.{◌≡◌, ◌++◌, map, OnOk};
-ghost use Rattle.catalogue_core.specs.Histories.{current};
 ghost use Rattle.catalogue_query.specs.Lines.{by_line, hold_line};
-ghost use Rattle.catalogue_query.specs.Answers.{identity_lines, record_lines, holding_lines, told};
+ghost use Rattle.catalogue_query.specs.Answers.{identity_lines};
+ghost use Rattle.catalogue_query.specs.Asked.{told_by, holding_lines_by, record_lines_by};
 
 use crate::lines::{by_line, edition_line, hold_line, work_line};
 use crate::query::Query;
@@ -23,7 +23,7 @@ pub(crate) fn add_told(
     edition: &Edition,
 ) -> Result<(), Memory>
     ensures { OnOk result (lines.new.items ≡ lines.old.items
-        ++ told catalogue.now.names query.now (current catalogue.now.history) edition.now) }
+        ++ told_by catalogue.now query.now edition.now) }
 {
     match query {
         Query::Id(_) => add_identity(alloc, lines, catalogue, edition),
@@ -69,7 +69,7 @@ fn add_holdings(
     edition: &Edition,
 ) -> Result<(), Memory>
     ensures { OnOk result (lines.new.items ≡ lines.old.items
-        ++ holding_lines (current catalogue.now.history) edition.now) }
+        ++ holding_lines_by catalogue.now edition.now) }
 {
     for id in edition.contributors().as_slice() {
         add_record(alloc, lines, catalogue, id)?;
@@ -85,7 +85,7 @@ fn add_record(
     id: &RecordId,
 ) -> Result<(), Memory>
     ensures { OnOk result (lines.new.items ≡ lines.old.items
-        ++ record_lines (current catalogue.now.history) id.now) }
+        ++ record_lines_by catalogue.now id.now) }
 {
     let Some(base) = catalogue.base(id) else {
         return Ok(());
