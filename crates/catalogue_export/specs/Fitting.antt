@@ -19,3 +19,7 @@ frame_rest = 26
 -- the longest prefix of the fields whose record has at most as many bytes as a frame may have
 abbrev pub fitting : List Field → List Field
 fitting fields = fitting_in (longest_frame - frame_rest) fields
+
+-- how many of the fields do not fit
+abbrev pub left_over : List Field → ℕ
+left_over fields = length fields - length (fitting fields)

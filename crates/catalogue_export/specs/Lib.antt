@@ -15,3 +15,7 @@ pub mod Sources
 pub mod Holdings
 pub mod RecordKeys
 pub mod HeldRecords
+pub mod Gains
+pub mod Exports
+pub mod OwnedParts
+pub mod Fitted

@@ -78,3 +78,7 @@ left_of_one sources e = noted e (left_by sources.records sources.names e)
 -- the same of a list of editions, in order
 abbrev pub left_of : SourcesValue → List Edition → List (RecordId × ℕ)
 left_of sources editions = flat_map (left_of_one sources) editions
+
+-- the bytes of an edition's record under a work key, where its local fields tell whose they are
+abbrev pub owned_bytes : MapOf Edition → Edition → List ℕ → List ℕ
+owned_bytes records e key = edition_bytes (owned_content records e) key

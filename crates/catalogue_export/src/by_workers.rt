@@ -4,14 +4,12 @@
 //! shares are written in order, so what is written is what one worker writes. The shares of a round are equal, so no worker waits long
 //! for another one. Memory does not grow with the export: a round is written before the next one is made. Cost: a thread for each
 //! worker but one in each round.
-ghost use Rattle.std.specs.Prelude.{◌≡◌, ◌++◌, ◌≤◌, ◌<◌, map, OnOk, OnErr, IfOk, List};
-ghost use Rattle.std.specs.List.{flat_map};
-ghost use Rattle.catalogue_core.specs.Histories.{AreEditionsOf};
-ghost use Rattle.catalogue_editions.specs.declared.edition.Edition.{Edition as EditionModel};
-ghost use Rattle.catalogue_export.specs.Sources.{left_of_one, left_of, plain, with_records};
+ghost use Rattle.std.specs.Prelude.{◌≡◌, ◌++◌, ◌≤◌, ◌<◌, OnOk, OnErr, IfOk};
+ghost use Rattle.catalogue_export.specs.Sources.{left_of_one, plain, with_records};
 ghost use Rattle.turn_plans.specs.Histories.{current};
-ghost use Rattle.catalogue_export.specs.Parts.{IsPartOf};
 ghost use Rattle.catalogue_export.specs.Writing.{GainsFront, HasWritten, IsExport, outflow};
+ghost use Rattle.edition_blocks.specs.Editions.{editions_in};
+ghost use Rattle.catalogue_export.specs.Exports.{HasExported, listing_text, left_of_listing, IsPartBy};
 
 use crate::editions::append_editions;
 use crate::export::write_editions;
@@ -56,11 +54,9 @@ pub fn export_by_workers<R: Threads + Sync, F: ExportForm + Send, O: Sink>(
 ) -> Result<(), ExportFail>
     requires least { 1 ≤ workers }
     requires most { workers ≤ 64 }
-    ensures { (all : List EditionModel) × AreEditionsOf catalogue.now.history all
-        × HasWritten (flat_map (F.shown (plain catalogue.now.names)) all)
-        (outflow O.written O.faults out.old out.new) result
-        × OnOk result (left.new.items ≡ left.old.items ++ left_of (plain catalogue.now.names) all)
-        × OnErr result (left.new.items ≡ left.old.items) }
+    ensures { HasExported catalogue.now.history (F.shown (plain catalogue.now.names))
+        (plain catalogue.now.names)
+        (outflow O.written O.faults out.old out.new) left.old.items left.new.items result }
 {
     match catalogue.editions(alloc) {
         Ok(editions) => {
@@ -90,13 +86,10 @@ pub fn owners_by_workers<R: Threads + Sync, F: ExportForm + Send, O: Sink>(
 ) -> Result<(), ExportFail>
     requires least { 1 ≤ workers }
     requires most { workers ≤ 64 }
-    ensures { (all : List EditionModel) × AreEditionsOf catalogue.now.history all
-        × HasWritten (flat_map (F.shown (with_records catalogue.now.names
-        (current catalogue.now.history))) all)
-        (outflow O.written O.faults out.old out.new) result
-        × OnOk result (left.new.items ≡ left.old.items
-        ++ left_of (with_records catalogue.now.names (current catalogue.now.history)) all)
-        × OnErr result (left.new.items ≡ left.old.items) }
+    ensures { HasExported catalogue.now.history (F.shown (with_records catalogue.now.names
+        (current catalogue.now.history))) (with_records catalogue.now.names
+        (current catalogue.now.history))
+        (outflow O.written O.faults out.old out.new) left.old.items left.new.items result }
 {
     match catalogue.editions(alloc) {
         Ok(editions) => match Records::of(alloc, catalogue) {
@@ -125,11 +118,10 @@ fn write_listing<R: Threads + Sync, F: ExportForm + Send, O: Sink>(
 ) -> Result<(), ExportFail>
     requires least { 1 ≤ workers }
     requires most { workers ≤ 64 }
-    ensures written { HasWritten (flat_map (F.shown listing.now.sources.now)
-        (map (λ e. e.now) listing.now.editions.now))
+    ensures written { HasWritten (listing_text F.shown listing.now)
         (outflow O.written O.faults out.old out.new) result }
     ensures gained { OnOk result (left.new.items ≡ left.old.items
-        ++ left_of listing.now.sources.now (map (λ e. e.now) listing.now.editions.now)) }
+        ++ left_of_listing listing.now) }
     ensures unchanged { OnErr result (left.new.items ≡ left.old.items) }
 {
     let had = left.len();
@@ -157,7 +149,7 @@ fn write_by_workers<R: Threads + Sync, F: ExportForm + Send, O: Sink>(
     requires least { 1 ≤ workers }
     requires most { workers ≤ 64 }
     ensures { IsExport (F.shown listing.now.sources.now) (left_of_one listing.now.sources.now)
-        (map (λ e. e.now) listing.now.editions.now)
+        (editions_in listing.now.editions.now)
         (outflow O.written O.faults out.old out.new) left.old.items left.new.items result }
 {
     let sources = listing.sources;
@@ -194,13 +186,12 @@ fn write_round<R: Threads + Sync, F: ExportForm + Send, O: Sink>(
 ) -> Result<(), ExportFail>
     requires { 0 < size }
     ensures { IsExport (F.shown listing.now.sources.now) (left_of_one listing.now.sources.now)
-        (map (λ e. e.now) listing.now.editions.now)
+        (editions_in listing.now.editions.now)
         (outflow O.written O.faults out.old out.new) left.old.items left.new.items result }
 {
     let sources = listing.sources;
     let make = |_start: usize, share: &[&Edition]| -> Result<Part, Memory>
-        ensures { IfOk result (IsPartOf (F.shown sources.entry.now)
-            (left_of_one sources.entry.now) (map (λ e. e.now) share.now)) }
+        ensures { IfOk result (IsPartBy F.shown sources.entry.now share.now) }
     { part_of::<F>(alloc, sources, share) };
     let parts = thread::map_chunks(rt, alloc, listing.editions, size, &make)?;
     for made in parts {
@@ -219,8 +210,7 @@ fn part_of<F: ExportForm>(
     sources: &Sources<'_>,
     editions: &[&Edition],
 ) -> Result<Part, Memory>
-    ensures { IfOk result (IsPartOf (F.shown sources.now)
-        (left_of_one sources.now) (map (λ e. e.now) editions.now)) }
+    ensures { IfOk result (IsPartBy F.shown sources.now editions.now) }
 {
     let mut part = Part {
         text: Vec::new(alloc),

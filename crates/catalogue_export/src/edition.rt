@@ -1,12 +1,13 @@
 //! The record that is shown of an edition.
-ghost use Rattle.std.specs.Prelude.{◌≡◌, ◌-◌, length, map, IfOk, IsTrue};
+ghost use Rattle.std.specs.Prelude.{◌≡◌, IfOk, IsTrue};
 ghost use Rattle.std.specs.List.{list_all};
 ghost use Rattle.union_base.specs.Fields.{is_text};
 ghost use Rattle.marc_fields.specs.Appending.{Appends};
-ghost use Rattle.marc_fields.specs.Spelling.{is_short, record_of, spelling};
+ghost use Rattle.marc_fields.specs.Spelling.{is_short, spelling};
 ghost use Rattle.catalogue_export.specs.Exported.{exported, edition_bytes, left_out};
-ghost use Rattle.catalogue_export.specs.Fitting.{fitting};
-ghost use Rattle.catalogue_export.specs.TagOrder.{in_tag_order};
+ghost use Rattle.catalogue_export.specs.Fitting.{left_over};
+ghost use Rattle.catalogue_editions.specs.Borrowed.{fields_of};
+ghost use Rattle.catalogue_export.specs.Fitted.{fitted};
 
 use crate::own_fields::own_fields;
 use crate::shown_fields::{all_fields, kept_fields};
@@ -81,12 +82,10 @@ pub(crate) fn append_kept(
     all: Vec<&Field>,
     into: &mut Vec<u8>,
 ) -> Result<usize, Memory>
-    requires { IsTrue (list_all is_short (map (λ f. f.now) all.items)) }
+    requires { IsTrue (list_all is_short (fields_of all.items)) }
     ensures text { Appends result into.old.items into.new.items
-        (spelling (record_of codes
-        (in_tag_order (fitting (map (λ f. f.now) all.entry.items))))) }
-    ensures left { IfOk result (λ n. n ≡ length (map (λ f. f.now) all.entry.items)
-        - length (fitting (map (λ f. f.now) all.entry.items))) }
+        (spelling (fitted codes (fields_of all.entry.items))) }
+    ensures left { IfOk result (λ n. n ≡ left_over (fields_of all.entry.items)) }
 {
     let (shown, left) = kept_fields(all)?;
     match encode_fields(codes, shown.as_slice(), into) {
@@ -115,11 +114,9 @@ pub(crate) fn kept_record(
     codes: LeaderCodes,
     all: Vec<&Field>,
 ) -> Result<(Record, usize), Memory>
-    requires { IsTrue (list_all is_short (map (λ f. f.now) all.items)) }
-    ensures value { IfOk result (λ r. r.0 ≡ record_of codes
-        (in_tag_order (fitting (map (λ f. f.now) all.entry.items)))) }
-    ensures left { IfOk result (λ r. r.1 ≡ length (map (λ f. f.now) all.entry.items)
-        - length (fitting (map (λ f. f.now) all.entry.items))) }
+    requires { IsTrue (list_all is_short (fields_of all.items)) }
+    ensures value { IfOk result (λ r. r.0 ≡ fitted codes (fields_of all.entry.items)) }
+    ensures left { IfOk result (λ r. r.1 ≡ left_over (fields_of all.entry.items)) }
 {
     let (shown, left) = kept_fields(all)?;
     let rec = Record {
@@ -131,7 +128,7 @@ pub(crate) fn kept_record(
 
 /// A copy of each field.
 fn copies_of(alloc: Global, fields: &[&Field]) -> Result<Vec<Field>, Memory>
-    ensures { IfOk result (λ copies. copies.items ≡ map (λ f. f.now) fields.now) }
+    ensures { IfOk result (λ copies. copies.items ≡ fields_of fields.now) }
 {
     let mut copies = Vec::with_capacity(alloc, fields.len())?;
     for field in fields {

@@ -1,8 +1,9 @@
 //! The export of several editions.
-ghost use Rattle.std.specs.Prelude.{◌≡◌, ◌++◌, map, OnOk, OnErr, IfOk};
-ghost use Rattle.std.specs.List.{flat_map};
+ghost use Rattle.std.specs.Prelude.{◌≡◌, ◌++◌, OnOk, OnErr, IfOk};
 ghost use Rattle.catalogue_export.specs.Editions.{edition_text, fields_left, noted};
 ghost use Rattle.catalogue_export.specs.Sources.{left_of};
+ghost use Rattle.edition_blocks.specs.Editions.{editions_in};
+ghost use Rattle.catalogue_export.specs.Exports.{text_in};
 
 use crate::edition::edition_bytes;
 use crate::form::ExportForm;
@@ -28,9 +29,9 @@ pub fn append_editions<F: ExportForm>(
     left: &mut Vec<(RecordId, usize)>,
 ) -> Result<(), Memory>
     ensures text { OnOk result (into.new.items ≡ into.old.items
-        ++ flat_map (F.shown sources.now) (map (λ e. e.now) editions.now)) }
+        ++ text_in F.shown sources.now editions.now) }
     ensures left { OnOk result (left.new.items ≡ left.old.items
-        ++ left_of sources.now (map (λ e. e.now) editions.now)) }
+        ++ left_of sources.now (editions_in editions.now)) }
 {
     for edition in editions {
         let count = F::append(alloc, sources, edition, into)?;

@@ -1,11 +1,10 @@
 //! The export of a catalogue.
-ghost use Rattle.std.specs.Prelude.{◌≡◌, ◌++◌, map, OnOk, OnErr, List};
-ghost use Rattle.std.specs.List.{flat_map};
-ghost use Rattle.catalogue_core.specs.Histories.{AreEditionsOf};
-ghost use Rattle.catalogue_editions.specs.declared.edition.Edition.{Edition as EditionModel};
-ghost use Rattle.catalogue_export.specs.Editions.{export_text};
+ghost use Rattle.std.specs.Prelude.{◌≡◌, ◌++◌, OnOk, OnErr};
+ghost use Rattle.catalogue_export.specs.Editions.{edition_text};
 ghost use Rattle.catalogue_export.specs.Sources.{left_of_one, left_of, plain};
 ghost use Rattle.catalogue_export.specs.Writing.{GainsFront, HasMoved, HasWritten, IsExport, outflow};
+ghost use Rattle.edition_blocks.specs.Editions.{editions_in};
+ghost use Rattle.catalogue_export.specs.Exports.{HasExported, text_in};
 
 use crate::editions::note_left;
 use crate::export_fail::ExportFail;
@@ -31,11 +30,9 @@ pub fn export<O: Sink>(
     out: &mut O,
     left: &mut Vec<(RecordId, usize)>,
 ) -> Result<(), ExportFail>
-    ensures { (all : List EditionModel) × AreEditionsOf catalogue.now.history all
-        × HasWritten (export_text catalogue.now.names all)
-        (outflow O.written O.faults out.old out.new) result
-        × OnOk result (left.new.items ≡ left.old.items ++ left_of (plain catalogue.now.names) all)
-        × OnErr result (left.new.items ≡ left.old.items) }
+    ensures { HasExported catalogue.now.history (edition_text catalogue.now.names)
+        (plain catalogue.now.names)
+        (outflow O.written O.faults out.old out.new) left.old.items left.new.items result }
 {
     match catalogue.editions(alloc) {
         Ok(editions) => {
@@ -54,10 +51,10 @@ fn write_listed<F: ExportForm, O: Sink>(
     out: &mut O,
     left: &mut Vec<(RecordId, usize)>,
 ) -> Result<(), ExportFail>
-    ensures written { HasWritten (flat_map (F.shown sources.now) (map (λ e. e.now) editions.now))
+    ensures written { HasWritten (text_in F.shown sources.now editions.now)
         (outflow O.written O.faults out.old out.new) result }
     ensures gained { OnOk result (left.new.items ≡ left.old.items
-        ++ left_of sources.now (map (λ e. e.now) editions.now)) }
+        ++ left_of sources.now (editions_in editions.now)) }
     ensures unchanged { OnErr result (left.new.items ≡ left.old.items) }
 {
     let had = left.len();
@@ -79,7 +76,7 @@ pub(crate) fn write_editions<F: ExportForm, O: Sink>(
     left: &mut Vec<(RecordId, usize)>,
 ) -> Result<(), ExportFail>
     ensures { IsExport (F.shown sources.now) (left_of_one sources.now)
-        (map (λ e. e.now) editions.now)
+        (editions_in editions.now)
         (outflow O.written O.faults out.old out.new) left.old.items left.new.items result }
 {
     let mut pending = Vec::new(alloc);

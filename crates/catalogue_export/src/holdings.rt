@@ -9,7 +9,8 @@ ghost use Rattle.union_base.specs.FieldOrder.{field_cmp};
 ghost use Rattle.union_base.specs.SortedLists.{set_of};
 ghost use Rattle.catalogue_editions.specs.Borrowed.{fields_of};
 ghost use Rattle.catalogue_export.specs.Owners.{record_fields};
-ghost use Rattle.catalogue_export.specs.Holdings.{holdings_in, holding_fields, kept_fields, marked_fields};
+ghost use Rattle.catalogue_export.specs.Holdings.{holdings_in, kept_fields, marked_fields, held_in, kept_of, marked_of, GainsHeld};
+ghost use Rattle.catalogue_export.specs.Gains.{Gains};
 
 use crate::holding::Holding;
 use crate::owners::deal_fields;
@@ -42,7 +43,7 @@ fn holdings_of<'a>(
     records: &'a Records<'_>,
     ids: &[RecordId],
 ) -> Result<Vec<&'a Holding>, Memory>
-    ensures { IfOk result (λ holdings. flat_map holding_fields (holdings_in holdings.items)
+    ensures { IfOk result (λ holdings. held_in holdings.items
         ≡ flat_map (record_fields records.now) ids.now) }
 {
     let mut holdings = Vec::with_capacity(alloc, ids.len())?;
@@ -59,9 +60,8 @@ fn push_holding<'a>(
     id: &RecordId,
     holdings: &mut Vec<&'a Holding>,
 ) -> Result<(), Memory>
-    ensures { OnOk result (flat_map holding_fields (holdings_in holdings.new.items)
-        ≡ flat_map holding_fields (holdings_in holdings.old.items)
-        ++ record_fields records.now id.now) }
+    ensures { OnOk result (GainsHeld holdings.old.items holdings.new.items
+        (record_fields records.now id.now)) }
 {
     if let Some(holding) = records.get(alloc, id)? {
         holdings.push(holding)?;
@@ -102,7 +102,7 @@ impl<'a> OwnedFields<'a> {
     /// allocation fails.
     fn of(alloc: Global, holdings: &[&'a Holding]) -> Result<OwnedFields<'a>, Memory>
         ensures { IfOk result (λ fields. fields
-            ≡ set_of field_cmp (flat_map holding_fields (holdings_in holdings.now))) }
+            ≡ set_of field_cmp (held_in holdings.now)) }
     {
         let mut kept = Vec::new(alloc);
         let mut marked = Vec::with_capacity(alloc, holdings.len())?;
@@ -130,10 +130,10 @@ fn deal_all<'a>(
     marked: &mut Vec<Field>,
     buffer: &mut Vec<u8>,
 ) -> Result<(), Memory>
-    ensures kept { OnOk result (fields_of kept.new.items ≡ fields_of kept.old.items
-        ++ set_of field_cmp (flat_map kept_fields (holdings_in holdings.now))) }
+    ensures kept { OnOk result (Gains kept.old.items kept.new.items (kept_of
+        (holdings_in holdings.now))) }
     ensures marked { OnOk result (marked.new.items ≡ marked.old.items
-        ++ flat_map marked_fields (holdings_in holdings.now)) }
+        ++ marked_of (holdings_in holdings.now)) }
 {
     match holdings.split_first() {
         Some((first, behind)) => deal_records(alloc, first, behind, kept, marked, buffer),
@@ -151,10 +151,10 @@ fn deal_records<'a>(
     marked: &mut Vec<Field>,
     buffer: &mut Vec<u8>,
 ) -> Result<(), Memory>
-    ensures kept { OnOk result (fields_of kept.new.items ≡ fields_of kept.old.items
-        ++ set_of field_cmp (flat_map kept_fields (first.now ∷ holdings_in behind.now))) }
+    ensures kept { OnOk result (Gains kept.old.items kept.new.items (kept_of
+        (first.now ∷ holdings_in behind.now))) }
     ensures marked { OnOk result (marked.new.items ≡ marked.old.items
-        ++ flat_map marked_fields (first.now ∷ holdings_in behind.now)) }
+        ++ marked_of (first.now ∷ holdings_in behind.now)) }
 {
     let (left, right) = behind.split_at(behind.len() / 2);
     match right.split_first() {

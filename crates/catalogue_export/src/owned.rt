@@ -2,10 +2,10 @@
 ghost use Rattle.std.specs.Prelude.{◌≡◌, ◌++◌, OnOk, IfOk, IsTrue};
 ghost use Rattle.union_base.specs.Fields.{is_text};
 ghost use Rattle.marc_fields.specs.Appending.{Appends};
-ghost use Rattle.catalogue_export.specs.Exported.{exported, edition_bytes, left_out, parts};
-ghost use Rattle.catalogue_export.specs.OwnFields.{own_list};
+ghost use Rattle.catalogue_export.specs.Exported.{exported, left_out, parts};
 ghost use Rattle.catalogue_export.specs.Owners.{owned_content};
-ghost use Rattle.catalogue_export.specs.Sources.{owned_text, owned_line, owned_left};
+ghost use Rattle.catalogue_export.specs.Sources.{owned_text, owned_line, owned_left, owned_bytes};
+ghost use Rattle.catalogue_export.specs.OwnedParts.{parts_in};
 
 use crate::edition::{append_kept, kept_record};
 use crate::holdings::{OwnedFields, owned_fields};
@@ -74,7 +74,7 @@ fn owned_parts<'a>(
 ) -> Result<OwnedParts<'a>, Memory>
     requires { IsTrue (is_text key.now) }
     ensures content { IfOk result (λ made. made.content ≡ edition.now.content) }
-    ensures parts { IfOk result (λ made. own_list made.own made.content ++ made.united
+    ensures parts { IfOk result (λ made. parts_in made
         ≡ parts (owned_content records.now edition.now) key.now) }
 {
     let content = edition.shown();
@@ -97,7 +97,7 @@ fn append_bytes(
 ) -> Result<usize, Memory>
     requires { IsTrue (is_text key.now) }
     ensures text { Appends result into.old.items into.new.items
-        (edition_bytes (owned_content records.now edition.now) key.now) }
+        (owned_bytes records.now edition.now key.now) }
     ensures left { IfOk result (λ n. n ≡ left_out (owned_content records.now edition.now)
         key.now) }
 {

@@ -7,10 +7,10 @@ ghost use Rattle.std.specs.Char.{is_ascii_digit};
 ghost use Rattle.std.specs.List.{flat_map};
 ghost use Rattle.union_base.specs.Fields.{is_field};
 ghost use Rattle.union_base.specs.LibraryCodes.{is_library_code};
-ghost use Rattle.catalogue_editions.specs.Borrowed.{fields_of};
 ghost use Rattle.catalogue_export.specs.Exported.{field_of};
 ghost use Rattle.catalogue_export.specs.Owners.{is_59X, is_9XX, is_local, has_subfield_5, has_owner, has_room, is_marked, owned_body};
 ghost use Rattle.catalogue_export.specs.Holdings.{kept_field, marked_field};
+ghost use Rattle.catalogue_export.specs.Gains.{Gains};
 
 use marc_fields::encoding::LONGEST_FIELD;
 use marc_parts::parts::has_tag;
@@ -35,8 +35,8 @@ pub(crate) fn deal_fields<'a>(
     marked: &mut Vec<Field>,
     buffer: &mut Vec<u8>,
 ) -> Result<(), Memory>
-    ensures kept { OnOk result (fields_of kept.new.items ≡ fields_of kept.old.items
-        ++ flat_map (kept_field library.now) united.now) }
+    ensures kept { OnOk result (Gains kept.old.items kept.new.items (flat_map
+        (kept_field library.now) united.now)) }
     ensures marked { OnOk result (marked.new.items ≡ marked.old.items
         ++ flat_map (marked_field library.now) united.now) }
 {

@@ -3,15 +3,9 @@
 //! Cost: to make it, one step and one hash of an id for each operation of the history, in room that is made once. It has a copy of each id
 //! and one more owner of each content, so a look-up hashes the id once and reads nothing of the history.
 ghost use Rattle.std.specs.Prelude.{◌≡◌, IfOk, OnOk};
-ghost use Rattle.std.specs.List.Sorted.{IsStrictlySortedBy};
-ghost use Rattle.std.specs.BTreeMap.{insert_entry};
-ghost use Rattle.std.specs.Map.{keys_of};
 ghost use Rattle.std.specs.Option.{option_copied, option_map};
-ghost use Rattle.union_base.specs.RecordIds.{id_cmp};
-ghost use Rattle.turn_plans.specs.Histories.{after_batch, after_op, at_id, current, MapOf};
-ghost use Rattle.catalogue_editions.specs.Ids.{least};
-ghost use Rattle.catalogue_editions.specs.declared.edition.Edition.{Edition as EditionModel};
-ghost use Rattle.catalogue_export.specs.HeldRecords.{held, AreHeld};
+ghost use Rattle.turn_plans.specs.Histories.{at_id, current, MapOf};
+ghost use Rattle.catalogue_export.specs.HeldRecords.{held, AreHeld, FollowsBatch, FollowsOp, FollowsLoad};
 
 use crate::holding::Holding;
 use crate::record_key::RecordKey;
@@ -111,10 +105,7 @@ fn follow_batch(
     holdings: &mut HashMap<RecordKey, Holding, Hashing>,
     batch: &Batch,
 ) -> Result<(), Memory>
-    ensures { OnOk result ((editions : MapOf EditionModel)
-        → IsStrictlySortedBy id_cmp (keys_of editions)
-        → AreHeld holdings.old.entries editions
-        → AreHeld holdings.new.entries (after_batch editions batch.now)) }
+    ensures { OnOk result (FollowsBatch batch.now holdings.old.entries holdings.new.entries) }
 {
     let ops = batch.ops.as_slice();
     for op in ops {
@@ -130,10 +121,7 @@ fn follow(
     library: &LibraryCode,
     op: &Op,
 ) -> Result<(), Memory>
-    ensures { OnOk result ((editions : MapOf EditionModel)
-        → IsStrictlySortedBy id_cmp (keys_of editions)
-        → AreHeld holdings.old.entries editions
-        → AreHeld holdings.new.entries (after_op library.now editions op.now)) }
+    ensures { OnOk result (FollowsOp library.now op.now holdings.old.entries holdings.new.entries) }
 {
     match op {
         Op::Load(edition) => put(alloc, holdings, edition),
@@ -154,10 +142,7 @@ fn put(
     holdings: &mut HashMap<RecordKey, Holding, Hashing>,
     edition: &Edition,
 ) -> Result<(), Memory>
-    ensures { OnOk result ((editions : MapOf EditionModel)
-        → AreHeld holdings.old.entries editions
-        → AreHeld holdings.new.entries
-        (insert_entry id_cmp editions (least edition.now) edition.now)) }
+    ensures { OnOk result (FollowsLoad edition.now holdings.old.entries holdings.new.entries) }
 {
     let id = edition.least();
     let holding = Holding {

@@ -1,12 +1,14 @@
 //! The fields that are shown of an edition, borrowed where they lie.
-ghost use Rattle.std.specs.Prelude.{◌≡◌, ◌-◌, ◌++◌, ◌∷◌, [], length, map, IfOk, OnOk, IsTrue};
+ghost use Rattle.std.specs.Prelude.{◌≡◌, ◌++◌, IfOk, OnOk, IsTrue, ◌∷◌, []};
 ghost use Rattle.std.specs.List.{list_all};
 ghost use Rattle.std.specs.Option.{option_to_list};
 ghost use Rattle.marc_fields.specs.Spelling.{is_short};
 ghost use Rattle.catalogue_export.specs.Exported.{slot_field};
-ghost use Rattle.catalogue_export.specs.Fitting.{fitting};
+ghost use Rattle.catalogue_export.specs.Fitting.{fitting, left_over};
 ghost use Rattle.catalogue_export.specs.OwnFields.{slots_around, own_list, all_fields};
 ghost use Rattle.catalogue_export.specs.TagOrder.{in_tag_order};
+ghost use Rattle.catalogue_export.specs.Gains.{Gains};
+ghost use Rattle.catalogue_editions.specs.Borrowed.{fields_of};
 
 use crate::fitting::fitting_count;
 use crate::holdings::OwnedFields;
@@ -22,11 +24,10 @@ const OTHER_FIELDS: usize = 10;
 
 /// Of all fields of an edition as many as a frame has room for, in order of their tags. Beside them, how many were left out.
 pub(crate) fn kept_fields(all: Vec<&Field>) -> Result<(Vec<&Field>, usize), Memory>
-    requires { IsTrue (list_all is_short (map (λ f. f.now) all.items)) }
-    ensures value { IfOk result (λ r. map (λ f. f.now) r.0.items
-        ≡ in_tag_order (fitting (map (λ f. f.now) all.entry.items))) }
-    ensures left { IfOk result (λ r. r.1 ≡ length (map (λ f. f.now) all.entry.items)
-        - length (fitting (map (λ f. f.now) all.entry.items))) }
+    requires { IsTrue (list_all is_short (fields_of all.items)) }
+    ensures value { IfOk result (λ r. fields_of r.0.items
+        ≡ in_tag_order (fitting (fields_of all.entry.items))) }
+    ensures left { IfOk result (λ r. r.1 ≡ left_over (fields_of all.entry.items)) }
 {
     let mut fields = all;
     let all = fields.len();
@@ -37,8 +38,8 @@ pub(crate) fn kept_fields(all: Vec<&Field>) -> Result<(Vec<&Field>, usize), Memo
 
 /// The fields in order of their tags, those of one tag in their order.
 fn in_tag_order<'a>(mut fields: Vec<&'a Field>) -> Result<Vec<&'a Field>, Memory>
-    ensures { IfOk result (λ sorted. map (λ f. f.now) sorted.items
-        ≡ in_tag_order (map (λ f. f.now) fields.entry.items)) }
+    ensures { IfOk result (λ sorted. fields_of sorted.items
+        ≡ in_tag_order (fields_of fields.entry.items)) }
 {
     fields.sort_by_key(
         |f: &&Field| -> [u8; 3]
@@ -54,7 +55,7 @@ pub(crate) fn all_fields<'a>(
     content: &'a Shown<'_>,
     own: &'a OwnFields,
 ) -> Result<Vec<&'a Field>, Memory>
-    ensures { IfOk result (λ all. map (λ f. f.now) all.items ≡ all_fields own.now content.now) }
+    ensures { IfOk result (λ all. fields_of all.items ≡ all_fields own.now content.now) }
 {
     let room = OTHER_FIELDS.saturating_add(own.contributors.len());
     let mut fields = Vec::with_capacity(alloc, room)?;
@@ -70,7 +71,7 @@ pub(crate) fn all_with<'a>(
     own: &'a OwnFields,
     united: &'a OwnedFields<'_>,
 ) -> Result<Vec<&'a Field>, Memory>
-    ensures { IfOk result (λ all. map (λ f. f.now) all.items
+    ensures { IfOk result (λ all. fields_of all.items
         ≡ own_list own.now content.now ++ united.now) }
 {
     let room = OTHER_FIELDS.saturating_add(own.contributors.len());
@@ -86,8 +87,7 @@ fn push_own<'a>(
     own: &'a OwnFields,
     into: &mut Vec<&'a Field>,
 ) -> Result<(), Memory>
-    ensures { OnOk result (map (λ f. f.now) into.new.items
-        ≡ map (λ f. f.now) into.old.items ++ own_list own.now content.now) }
+    ensures { OnOk result (Gains into.old.items into.new.items (own_list own.now content.now)) }
 {
     push_number(&own.number, into)?;
     into.push(&own.catalogue)?;
@@ -98,8 +98,7 @@ fn push_own<'a>(
 
 /// Adds 001, where there is one.
 fn push_number<'a>(number: &'a Option<Field>, into: &mut Vec<&'a Field>) -> Result<(), Memory>
-    ensures { OnOk result (map (λ f. f.now) into.new.items
-        ≡ map (λ f. f.now) into.old.items ++ option_to_list number.now) }
+    ensures { OnOk result (Gains into.old.items into.new.items (option_to_list number.now)) }
 {
     if let Some(number) = number {
         into.push(number)?;
@@ -113,8 +112,8 @@ fn push_slots<'a>(
     fixed: &'a Field,
     into: &mut Vec<&'a Field>,
 ) -> Result<(), Memory>
-    ensures { OnOk result (map (λ f. f.now) into.new.items
-        ≡ map (λ f. f.now) into.old.items ++ slots_around fixed.now content.now) }
+    ensures { OnOk result (Gains into.old.items into.new.items
+        (slots_around fixed.now content.now)) }
 {
     push_slot(content.f005(), into)?;
     into.push(fixed)?;
@@ -128,8 +127,7 @@ fn push_slots<'a>(
 
 /// Adds the slot's field, where there is one.
 fn push_slot<'a>(slot: &'a Option<Slot>, into: &mut Vec<&'a Field>) -> Result<(), Memory>
-    ensures { OnOk result (map (λ f. f.now) into.new.items
-        ≡ map (λ f. f.now) into.old.items ++ slot_field slot.now) }
+    ensures { OnOk result (Gains into.old.items into.new.items (slot_field slot.now)) }
 {
     if let Some(slot) = slot {
         into.push(&slot.field)?;
@@ -139,8 +137,7 @@ fn push_slot<'a>(slot: &'a Option<Slot>, into: &mut Vec<&'a Field>) -> Result<()
 
 /// Adds each field.
 fn push_all<'a>(fields: &'a [Field], into: &mut Vec<&'a Field>) -> Result<(), Memory>
-    ensures { OnOk result (map (λ f. f.now) into.new.items
-        ≡ map (λ f. f.now) into.old.items ++ fields.now) }
+    ensures { OnOk result (Gains into.old.items into.new.items fields.now) }
 {
     for field in fields {
         into.push(field)?;

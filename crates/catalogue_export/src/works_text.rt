@@ -1,12 +1,11 @@
 //! The list of a catalogue's works.
-ghost use Rattle.std.specs.Prelude.{◌≡◌, ◌++◌, ◌≤◌, map, OnOk, IfOk, List};
+ghost use Rattle.std.specs.Prelude.{◌≡◌, ◌++◌, ◌≤◌, map, OnOk, IfOk};
 ghost use Rattle.std.specs.List.{flat_map};
-ghost use Rattle.catalogue_core.specs.Histories.{AreEditionsOf};
-ghost use Rattle.catalogue_editions.specs.declared.edition.Edition.{Edition as EditionModel};
 ghost use Rattle.work_clusters.specs.Works.{works_of};
 ghost use Rattle.record_editions.specs.EditionKeys.{work_pairs};
-ghost use Rattle.catalogue_export.specs.WorkLists.{edition_line, work_text, works_text_of};
+ghost use Rattle.catalogue_export.specs.WorkLists.{edition_line, work_text};
 ghost use Rattle.catalogue_export.specs.Writing.{HasMoved, HasWritten, outflow};
+ghost use Rattle.catalogue_export.specs.Exports.{HasWrittenWorks};
 
 use crate::export_fail::ExportFail;
 use crate::pending::{hand_on, hand_on_rest};
@@ -36,9 +35,7 @@ pub fn works_text<O: Sink>(
     catalogue: &Catalogue,
     out: &mut O,
 ) -> Result<(), ExportFail>
-    ensures { (all : List EditionModel) × AreEditionsOf catalogue.now.history all
-        × HasWritten (works_text_of catalogue.now.names all)
-        (outflow O.written O.faults out.old out.new) result }
+    ensures { HasWrittenWorks catalogue.now (outflow O.written O.faults out.old out.new) result }
 {
     match catalogue.works(alloc) {
         Ok(grouping) => write_works(alloc, grouping.works(), out),
@@ -60,9 +57,7 @@ pub fn finished_works_text<R: Threads + Sync, O: Sink>(
 ) -> Result<(), ExportFail>
     requires least { 1 ≤ workers }
     requires most { workers ≤ 64 }
-    ensures { (all : List EditionModel) × AreEditionsOf catalogue.now.history all
-        × HasWritten (works_text_of catalogue.now.names all)
-        (outflow O.written O.faults out.old out.new) result }
+    ensures { HasWrittenWorks catalogue.now (outflow O.written O.faults out.old out.new) result }
 {
     match catalogue.editions(alloc) {
         Ok(editions) => {
