@@ -7,6 +7,9 @@ use Rattle.union_io.specs.Causes.{Rose}
 use Rattle.union_io.specs.Counts.{SameCounts, SameElsewhere}
 use Rattle.union_io.specs.Files.{told_file}
 use Rattle.union_io.specs.Writing.{AppendsFront}
+use Rattle.union_io.specs.declared.shelf.Shelf.{Ghosts as ShelfGhosts}
+use Rattle.union_io.specs.declared.sink.Sink.{Ghosts as SinkGhosts}
+use Rattle.union_io.specs.declared.source.Source.{Ghosts as SourceGhosts}
 use Rattle.union_words.specs.declared.input.Input.{Input}
 
 -- a shelf: its files, where it tells them, and how often something failed under each name, before the run and after it
@@ -15,9 +18,9 @@ pub record ShelfFlow : Type 0 where
   pub before : List ℕ → ℕ
   pub after : List ℕ → ℕ
 
--- by what is told of a shelf
-abbrev pub shelf_flow : {F : Type 0} → (F → Option (List ℕ → List ℕ)) → (F → List ℕ → ℕ) → F → F → ShelfFlow
-shelf_flow files faults old new = record { files = files old; before = faults old; after = faults new }
+-- by what the trait `Shelf` says of it
+abbrev pub shelf_flow : {F S : Type 0} → ShelfGhosts F S → F → F → ShelfFlow
+shelf_flow shelf old new = record { files = shelf.files old; before = shelf.faults old; after = shelf.faults new }
 
 -- nothing failed under any name
 abbrev pub IsCalm : ShelfFlow → Type 0
@@ -51,6 +54,10 @@ pub record Inflow : Type 0 where
   pub before : ℕ
   pub after : ℕ
 
+-- by what the trait `Source` says of it
+abbrev pub inflow : {S : Type 0} → SourceGhosts S → S → S → Inflow
+inflow source old new = record { told = source.left old; before = source.faults old; after = source.faults new }
+
 -- the file of that name as a source, where a run opens it and reads it from its start
 abbrev pub file_flow : ShelfFlow → List ℕ → Inflow
 file_flow shelf name = record { told = told_file shelf.files name; before = shelf.before name; after = shelf.after name }
@@ -66,9 +73,9 @@ pub record Outflow : Type 0 where
   pub before : ℕ
   pub after : ℕ
 
--- by what is told of an output
-abbrev pub outflow : {O : Type 0} → (O → Option (List ℕ)) → (O → ℕ) → O → O → Outflow
-outflow written faults old new = record { old = written old; new = written new; before = faults old; after = faults new }
+-- by what the trait `Sink` says of it
+abbrev pub outflow : {O : Type 0} → SinkGhosts O → O → O → Outflow
+outflow sink old new = record { old = sink.written old; new = sink.written new; before = sink.faults old; after = sink.faults new }
 
 -- something failed there in the run
 abbrev pub HasFailedAt : Outflow → Type 0

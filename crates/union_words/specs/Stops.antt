@@ -14,6 +14,10 @@ limit_of Asks = 2 ^ 20
 limit_of Script = 2 ^ 20
 limit_of Names = 2 ^ 40
 
+-- the file of that name, as this input
+abbrev pub input_at : Input → List ℕ → InputFile
+input_at input path = record { input = input; path = path }
+
 -- the input that is a library's file
 abbrev pub input_of : LibraryFile → InputFile
 input_of file = record { input = Library file.library; path = file.path }
