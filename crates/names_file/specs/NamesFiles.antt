@@ -11,7 +11,6 @@ use Rattle.names_file.specs.declared.fault.NameFault.{NameFault}
 use Rattle.names_file.specs.declared.names_read.NamesRead.{NamesRead}
 use Rattle.names_file.specs.declared.reading.Reading.{Reading}
 use Rattle.names_file.specs.declared.tally.Tally.{Tally}
-use Rattle.union_words.specs.Flows.{Inflow}
 
 -- the frame is refused
 abbrev pub is_refused : Judged → Bool
@@ -99,7 +98,3 @@ HasReadAll reading bytes = AreRead (frames bytes) reading.table reading.tally
 -- it is what the file is read into
 abbrev pub AreNamesOf : NamesRead → List ℕ → Type 0
 AreNamesOf found bytes = IsNamesFile (frames bytes) found
-
--- by what is told of a source
-abbrev pub inflow : {S : Type 0} → (S → Option (List ℕ)) → (S → ℕ) → S → S → Inflow
-inflow left faults old new = record { told = left old; before = faults old; after = faults new }

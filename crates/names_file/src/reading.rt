@@ -3,8 +3,9 @@ ghost use Rattle.std.specs.Prelude.{◌≡◌, ◌≢◌, ◌<◌, ◌+◌, [], 
 ghost use Rattle.iso2709_frame.specs.Frames.{IsWhole};
 ghost use Rattle.library_batches.specs.Reading.{most_bytes};
 ghost use Rattle.union_files.specs.Readings.{Reads};
+ghost use Rattle.union_words.specs.Flows.{inflow};
 ghost use Rattle.names_file.specs.Judging.{Judged};
-ghost use Rattle.names_file.specs.NamesFiles.{AreNamesOf, HasRead, HasReadAll, IsNamesRead, Takes, inflow};
+ghost use Rattle.names_file.specs.NamesFiles.{AreNamesOf, HasRead, HasReadAll, IsNamesRead, Takes};
 
 use crate::counting::add_counts;
 use crate::names_read::NamesRead;
@@ -86,7 +87,7 @@ pub fn read_names<S: Source>(
     source: &mut S,
 ) -> Result<NamesRead, Stop>
     ensures name { S.name source.new ≡ S.name source.old }
-    ensures reads { Reads most_bytes result (inflow S.left S.faults source.old source.new)
+    ensures reads { Reads most_bytes result (inflow S.Source source.old source.new)
         AreNamesOf }
 {
     match read_frames(alloc, hashing, source) {
@@ -101,7 +102,7 @@ pub fn read_names<S: Source>(
 /// Reads the frames of a source to its end.
 fn read_frames<S: Source>(alloc: Global, hashing: Hashing, source: &mut S) -> Result<Reading, Stop>
     ensures name { S.name source.new ≡ S.name source.old }
-    ensures reads { Reads most_bytes result (inflow S.left S.faults source.old source.new)
+    ensures reads { Reads most_bytes result (inflow S.Source source.old source.new)
         HasReadAll }
 {
     let mut reader = FrameReader::open(alloc, LARGEST_SOURCE)?;

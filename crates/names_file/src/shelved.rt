@@ -32,7 +32,7 @@ fn read_names_file<F: Shelf>(
 ) -> Result<NamesRead, Status>
     ensures files { F.files shelf.new ≡ F.files shelf.old }
     ensures reads { ReadsFile result (names_file path.now)
-        (shelf_flow F.files F.faults shelf.old shelf.new)
+        (shelf_flow F.Shelf shelf.old shelf.new)
         AreNamesOf }
     ensures opened { IfOk result (λ _. AddsName (F.opened shelf.old) (F.opened shelf.new) path.now) }
     ensures in_turn { IfErr result (λ status. (rest : List InputFile)
@@ -67,7 +67,7 @@ pub fn names_of<F: Shelf>(
 ) -> Result<NamesRead, Status>
     ensures files { F.files shelf.new ≡ F.files shelf.old }
     ensures reads { ReadsNames (option_copied path.entry) result
-        (shelf_flow F.files F.faults shelf.old shelf.new) }
+        (shelf_flow F.Shelf shelf.old shelf.new) }
     ensures opened { IfOk result (λ _. OpensEach (names_inputs (option_copied path.entry))
         (F.opened shelf.old) (F.opened shelf.new)) }
     ensures in_turn { IfErr result (λ status. (rest : List InputFile)
