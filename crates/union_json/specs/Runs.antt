@@ -15,10 +15,6 @@ use Rattle.union_words.specs.declared.input.Input.TheVariants.{Library}
 use Rattle.union_words.specs.declared.status.Status.{Status}
 use Rattle.union_words.specs.declared.status.Status.TheVariants.{Usage, WriteFault, Memory}
 
--- by what is told of a source
-abbrev pub inflow : {S : Type 0} → (S → Option (List ℕ)) → (S → ℕ) → S → S → Inflow
-inflow left faults old new = record { told = left old; before = faults old; after = faults new }
-
 -- a source of at most 2^40 bytes was read to its end, or why not. What was read is so of all its bytes
 abbrev pub ReadsAll : {T : Type 0} → Result T Stop → Inflow → (T → List ℕ → Type 0) → Type 0
 ReadsAll result source IsOf = Reads most_bytes result source IsOf

@@ -4,9 +4,9 @@ ghost use Rattle.union_json.specs.Converting.{TakesWhole};
 ghost use Rattle.union_json.specs.Counts.{IsConverted};
 ghost use Rattle.library_batches.specs.Reading.{most_bytes};
 ghost use Rattle.union_json.specs.FromJson.{AreNotesOn, MakesFrames, end_with};
-ghost use Rattle.union_json.specs.Runs.{ReadsAll, inflow, IsFromJsonRun};
+ghost use Rattle.union_json.specs.Runs.{ReadsAll, IsFromJsonRun};
 ghost use Rattle.union_json.specs.Texts.{Whenever};
-ghost use Rattle.union_words.specs.Flows.{outflow};
+ghost use Rattle.union_words.specs.Flows.{inflow, outflow};
 ghost use Rattle.union_words.specs.Statuses.{is_done, is_early};
 ghost use Rattle.union_words.specs.declared.input.Input.{Input as InputModel};
 
@@ -37,7 +37,7 @@ fn take_source<S: Source>(
 ) -> Result<(), Stop>
     requires { converter.old.findings.lines ≡ 0 }
     ensures name { S.name source.new ≡ S.name source.old }
-    ensures reads { ReadsAll result (inflow S.left S.faults source.old source.new)
+    ensures reads { ReadsAll result (inflow S.Source source.old source.new)
         (TakesWhole converter.old converter.new) }
     ensures few { OnOk result (converter.new.findings.lines ≤ most_bytes) }
 {
@@ -61,7 +61,7 @@ fn take_source<S: Source>(
 /// What came of the lines of a source.
 fn convert<S: Source>(alloc: Global, source: &mut S) -> Result<Findings, Stop>
     ensures name { S.name source.new ≡ S.name source.old }
-    ensures reads { ReadsAll result (inflow S.left S.faults source.old source.new)
+    ensures reads { ReadsAll result (inflow S.Source source.old source.new)
         IsConverted }
 {
     let mut converter = Converter::open(alloc)?;
@@ -124,7 +124,7 @@ fn made_of(alloc: Global, library: &[u8], found: Findings) -> Result<Made, Alloc
 /// What is made of a source.
 fn make<S: Source>(alloc: Global, library: &LibraryCode, source: &mut S) -> Result<Made, Stop>
     ensures name { S.name source.new ≡ S.name source.old }
-    ensures reads { ReadsAll result (inflow S.left S.faults source.old source.new)
+    ensures reads { ReadsAll result (inflow S.Source source.old source.new)
         (MakesFrames library.now) }
     ensures end { IfOk result (λ made. IsTrue (is_done made.end)) }
 {
@@ -152,9 +152,9 @@ pub fn from_json_run<S: Source, O: Sink, N: Sink>(
 ) -> Status
     ensures name { S.name source.new ≡ S.name source.old }
     ensures run { IsFromJsonRun library.now
-        (inflow S.left S.faults source.old source.new)
-        (outflow O.written O.faults out.old out.new)
-        (outflow N.written N.faults notes.old notes.new)
+        (inflow S.Source source.old source.new)
+        (outflow O.Sink out.old out.new)
+        (outflow N.Sink notes.old notes.new)
         result }
     ensures open { (input : InputModel) → result ≢ Status.OpenFault input }
     // Whoever calls may write its own line on the notes then.

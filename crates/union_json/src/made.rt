@@ -26,8 +26,8 @@ pub fn write_made<O: Sink, N: Sink>(made: &Made, out: &mut O, notes: &mut N) -> 
         made.now.shown
         × Appends (N.written notes.old) (N.written notes.new) made.now.noted.items }
     ensures part { result ≡ Status.WriteFault → IsCutOff
-        (outflow O.written O.faults out.old out.new)
-        (outflow N.written N.faults notes.old notes.new)
+        (outflow O.Sink out.old out.new)
+        (outflow N.Sink notes.old notes.new)
         made.now.shown made.now.noted.items }
 {
     match made.shown.put(out) {

@@ -5,10 +5,10 @@ ghost use Rattle.library_batches.specs.Streams.{Frame, failure_of};
 ghost use Rattle.marc_fields.specs.Spelling.{Spells};
 ghost use Rattle.marc_parts.specs.declared.marc_record.Record.{Record as RecordModel};
 ghost use Rattle.marc_json.specs.Values.{json_line};
-ghost use Rattle.union_json.specs.Runs.{ReadsAll, inflow, IsToJsonRun};
+ghost use Rattle.union_json.specs.Runs.{ReadsAll, IsToJsonRun};
 ghost use Rattle.union_json.specs.Texts.{Whenever};
 ghost use Rattle.union_json.specs.ToJson.{AreAllWritten, AreNotesOn, AreWritten, Breaks, Counts, IsLineOf, MakesJson};
-ghost use Rattle.union_words.specs.Flows.{outflow};
+ghost use Rattle.union_words.specs.Flows.{inflow, outflow};
 ghost use Rattle.union_words.specs.Statuses.{is_done, is_early};
 ghost use Rattle.union_words.specs.declared.input.Input.{Input as InputModel};
 
@@ -100,7 +100,7 @@ fn write_frame(alloc: Global, done: &mut Written, cut: Cut, frame: &[u8]) -> Res
 /// Writes the lines of the frames of a source.
 fn write_frames<S: Source>(alloc: Global, source: &mut S) -> Result<Written, Stop>
     ensures name { S.name source.new ≡ S.name source.old }
-    ensures reads { ReadsAll result (inflow S.left S.faults source.old source.new)
+    ensures reads { ReadsAll result (inflow S.Source source.old source.new)
         AreAllWritten }
 {
     let mut reader = FrameReader::open(alloc, LARGEST_SOURCE)?;
@@ -153,7 +153,7 @@ fn made_of(alloc: Global, library: &[u8], done: Written) -> Result<Made, AllocEr
 /// What is made of a source.
 fn make<S: Source>(alloc: Global, library: &LibraryCode, source: &mut S) -> Result<Made, Stop>
     ensures name { S.name source.new ≡ S.name source.old }
-    ensures reads { ReadsAll result (inflow S.left S.faults source.old source.new)
+    ensures reads { ReadsAll result (inflow S.Source source.old source.new)
         (MakesJson library.now) }
     ensures end { IfOk result (λ made. IsTrue (is_done made.end)) }
 {
@@ -181,9 +181,9 @@ pub fn to_json_run<S: Source, O: Sink, N: Sink>(
 ) -> Status
     ensures name { S.name source.new ≡ S.name source.old }
     ensures run { IsToJsonRun library.now
-        (inflow S.left S.faults source.old source.new)
-        (outflow O.written O.faults out.old out.new)
-        (outflow N.written N.faults notes.old notes.new)
+        (inflow S.Source source.old source.new)
+        (outflow O.Sink out.old out.new)
+        (outflow N.Sink notes.old notes.new)
         result }
     ensures open { (input : InputModel) → result ≢ Status.OpenFault input }
     // Whoever calls may write its own line on the notes then.
