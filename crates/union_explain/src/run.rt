@@ -83,7 +83,7 @@ fn read_file<F: Shelf>(
         || any_astray (located (contents file.now.path.now)) refused.now)) }
     ensures calm { OnOk result (SameCounts (F.faults shelf.old) (F.faults shelf.new)) }
     ensures stops { IfErr result (λ status. StopsAt status (input_of (file_meaning file.now))
-        (shelf_flow F.files F.faults shelf.old shelf.new)) }
+        (shelf_flow F.Shelf shelf.old shelf.new)) }
 {
     let Ok(path) = Bytes::of(alloc, file.path) else {
         return Err(Status::Memory);
@@ -137,7 +137,7 @@ pub fn table_of<F: Shelf>(
     ensures calm { OnOk result (SameCounts (F.faults shelf.old) (F.faults shelf.new)) }
     ensures stops { IfErr result (λ status. StopsAmong status
         (inputs_of (libraries_meaning libraries.now))
-        (shelf_flow F.files F.faults shelf.old shelf.new)) }
+        (shelf_flow F.Shelf shelf.old shelf.new)) }
 {
     let Ok(mut table) = Table::new(alloc, form) else {
         return Err(Status::Memory);
