@@ -8,6 +8,7 @@ pub mod Shares
 pub mod Works
 pub mod Rounds
 pub mod Within
+pub mod Origins
 pub mod Handing
 pub mod Outcomes
 pub mod Tallies

@@ -54,3 +54,7 @@ pub record AreCounted (found : List Outcome) (counts : OutcomeCounts) : Type 0 w
 -- how many outcomes were counted
 abbrev pub counted : OutcomeCounts → ℕ
 counted counts = counts.added + counts.replaced + counts.removed + counts.absent
+
+-- these outcomes were counted too: whichever others were before, they and these are
+abbrev pub CountsMore : OutcomeCounts → OutcomeCounts → List Outcome → Type 0
+CountsMore old new more = (found : List Outcome) → AreCounted found old → AreCounted (found ++ more) new

@@ -1,6 +1,7 @@
 -- What a reader of batches is, and what is ahead of it.
 use Rattle.std.specs.Prelude.{◌≡◌, ◌≤◌, ◌⊎◌, ℕ, ◌+◌, ◌^◌, ⊤, false, true, List, [], ◌∷◌, ◌++◌, length, Option, Some, None, Result, Ok, Err}
 use Rattle.iso2709_frame.specs.declared.cut.Cut.TheVariants.{Truncated}
+use Rattle.union_io.specs.declared.source.Source.{Ghosts as SourceGhosts}
 use Rattle.library_stream.specs.Streaming.{Streaming, opened, frames_ahead, is_too_long}
 use Rattle.catalogue_editions.specs.declared.batch.Batch.{Batch}
 use Rattle.library_batches.specs.Streams.{Frame}
@@ -117,3 +118,7 @@ abbrev pub StopsReading : Losses → Stop → Batching → Option (List ℕ) →
 StopsReading Are stop before None now left = ⊤
 StopsReading Are stop before (Some bytes) now None = ⊥
 StopsReading Are stop before (Some bytes) now (Some rest) = StopsTold Are stop before bytes now rest
+
+-- the same by what the trait `Source` says of the source before and after
+abbrev pub StopsReadingAt : {S : Type 0} → SourceGhosts S → Losses → Batching → S → Batching → S → Stop → Type 0
+StopsReadingAt source Are before old now new stop = StopsReading Are stop before (source.left old) now (source.left new)

@@ -9,7 +9,7 @@ use Rattle.workset_keys.specs.WorkKeys.{own_name}
 use Rattle.catalogue_editions.specs.declared.outcome.Outcome.{Outcome}
 use Rattle.library_batches.specs.Streams.{Frame, accepted}
 use Rattle.library_batches.specs.Refused.{refused}
-use Rattle.library_batches.specs.Outcomes.{is_added, is_replaced, is_removed, is_absent}
+use Rattle.library_batches.specs.Outcomes.{AreCounted, is_added, is_replaced, is_removed, is_absent}
 use Rattle.library_batches.specs.declared.outcome_counts.OutcomeCounts.{OutcomeCounts}
 use Rattle.library_batches.specs.declared.refused.RefusedFrame.{RefusedFrame}
 use Rattle.library_batches.specs.declared.report.Report.{Report}
@@ -69,6 +69,17 @@ report_text library all found =
     refused_lines library (refused all)
     ++ report_line library (length all) (count_by is_added found) (count_by is_replaced found) (count_by is_removed found) (count_by is_absent found) (length (refused all))
 
+-- the last line of a report, by its counts
+abbrev pub counts_line : List ℕ → ℕ → OutcomeCounts → ℕ → List ℕ
+counts_line library frames counts refused =
+    report_line library frames counts.added counts.replaced counts.removed counts.absent refused
+
+-- the report was added to a text: that on whichever frames and outcomes have these numbers and refused frames
+abbrev pub AddsReport : List ℕ → ℕ → List RefusedFrame → OutcomeCounts → List ℕ → List ℕ → Type 0
+AddsReport library frames refused_ones counts old new =
+    (all : List Frame) (found : List Outcome) → frames ≡ length all → refused_ones ≡ refused all → AreCounted found counts
+    → new ≡ old ++ report_text library all found
+
 -- `left LIB.CTL N`
 unfoldable pub left_line : RecordId × ℕ → List ℕ
 left_line l = codes "left" ++ (counted (own_name l.0) l.1 ++ 0x0A ∷ [])
@@ -86,3 +97,7 @@ pub record IsBlank (report : Report) : Type 0 where
 abbrev pub counts_of : Report → OutcomeCounts
 counts_of report =
     record { added = report.added; replaced = report.replaced; removed = report.removed; absent = report.absent }
+
+-- the report that the code holds was added to a text
+abbrev pub AddsReportOf : List ℕ → Report → List ℕ → List ℕ → Type 0
+AddsReportOf library report old new = AddsReport library report.frames report.refused.items (counts_of report) old new

@@ -7,7 +7,7 @@ ghost use Rattle.std.specs.Prelude.{◌≡◌, ◌≢◌, ◌≤◌, ◌<◌, Er
 ghost use Rattle.union_io.specs.Causes.{Rose};
 ghost use Rattle.library_stream.specs.Streaming.{most_ahead};
 ghost use Rattle.library_batches.specs.Blocks.{BlockAnswers};
-ghost use Rattle.library_batches.specs.Reading.{AnswersBatch, IsLostBySeveral, StopsReading};
+ghost use Rattle.library_batches.specs.Reading.{AnswersBatch, IsLostBySeveral, StopsReadingAt, StopsReading};
 
 use crate::batch_reader::BatchReader;
 use crate::block::Block;
@@ -92,8 +92,7 @@ impl BatchReader {
         ensures library { self.new.library ≡ self.old.library }
         ensures answers { AnswersBatch result self.old (S.left source.old) self.new
             (S.left source.new) }
-        ensures kept { IfErr result (λ stop. StopsReading IsLostBySeveral stop self.old
-            (S.left source.old) self.new (S.left source.new)) }
+        ensures kept { IfErr result (StopsReadingAt S.Source IsLostBySeveral self.old source.old self.new source.new) }
         ensures failed { result ≡ Err Stop.Failed
             → Rose (S.faults source.old) (S.faults source.new) }
         ensures calm { result ≢ Err Stop.Failed → S.faults source.new ≡ S.faults source.old }

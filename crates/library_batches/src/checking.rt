@@ -1,6 +1,7 @@
 //! The checking of one frame.
-ghost use Rattle.std.specs.Prelude.{◌≡◌, ◌+◌, ◌++◌, ◌∷◌, [], ℕ, List, length, OnOk, OnErr};
+ghost use Rattle.std.specs.Prelude.{◌≡◌, OnOk, OnErr, ◌+◌, ◌++◌, ◌∷◌, [], ℕ, List, length};
 ghost use Rattle.iso2709_frame.specs.Frames.{IsWhole};
+ghost use Rattle.library_batches.specs.Origins.{ChecksNext};
 ghost use Rattle.library_batches.specs.Streams.{Frame};
 ghost use Rattle.library_batches.specs.Blocks.{IsChecked};
 ghost use Rattle.library_batches.specs.declared.refused.RefusedFrame.{RefusedFrame as RefusedModel};
@@ -37,13 +38,7 @@ pub fn check_next(
 ) -> Result<(), Memory>
     requires whole { cut ≡ Cut.Whole → IsWhole frame.now }
     ensures kept { OnErr result (refused.new.items ≡ refused.old.items) }
-    ensures checked { OnOk result ((start : ℕ) (taken : List Frame) (before : List RefusedModel)
-        → origin.now.number ≡ start + length taken
-        → IsChecked origin.now.prefer.now origin.now.library.now start taken ops.old.items before
-        refused.old.items
-        → IsChecked origin.now.prefer.now origin.now.library.now start
-        (taken ++ (cut, frame.now) ∷ [])
-        ops.new.items before refused.new.items) }
+    ensures checked { OnOk result (ChecksNext origin.now (cut, frame.now) ops.old refused.old ops.new refused.new) }
 {
     match check_frame(alloc, cut, frame) {
         Ok(rec) => {

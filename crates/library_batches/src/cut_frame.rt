@@ -1,6 +1,7 @@
 //! A frame that was cut from a source, and kept.
-ghost use Rattle.std.specs.Prelude.{◌≡◌, ◌+◌, ◌++◌, ◌∷◌, [], ℕ, List, length, OnOk, OnErr};
+ghost use Rattle.std.specs.Prelude.{◌≡◌, ◌++◌, ◌∷◌, [], OnOk, OnErr, ◌+◌, ℕ, List, length};
 ghost use Rattle.library_stream.specs.Answering.{LendsCut};
+ghost use Rattle.library_batches.specs.Origins.{ChecksNext};
 ghost use Rattle.library_batches.specs.Streams.{Frame};
 ghost use Rattle.library_batches.specs.Blocks.{IsChecked};
 ghost use Rattle.library_batches.specs.declared.refused.RefusedFrame.{RefusedFrame as RefusedModel};
@@ -43,12 +44,7 @@ impl CutFrame {
         ops: &mut Vec<Op>,
         refused: &mut Vec<RefusedFrame>,
     ) -> Result<(), Memory>
-        ensures { OnOk result ((start : ℕ) (taken : List Frame) (before : List RefusedModel)
-            → origin.now.number ≡ start + length taken
-            → IsChecked origin.now.prefer.now origin.now.library.now start taken
-            ops.old.items before refused.old.items
-            → IsChecked origin.now.prefer.now origin.now.library.now start
-            (taken ++ self.now ∷ []) ops.new.items before refused.new.items) }
+        ensures { OnOk result (ChecksNext origin.now self.now ops.old refused.old ops.new refused.new) }
     {
         check_next(alloc, origin, self.cut, self.bytes.as_slice(), ops, refused)?;
         Ok(())

@@ -1,7 +1,7 @@
 //! How many operations had which outcome.
-ghost use Rattle.std.specs.Prelude.{◌≡◌, ◌+◌, ◌++◌, ◌∷◌, ◌≤◌, [], List, length};
+ghost use Rattle.std.specs.Prelude.{◌≡◌, ◌+◌, ◌∷◌, ◌≤◌, [], length, ◌++◌, List};
+ghost use Rattle.library_batches.specs.Outcomes.{AreCounted, CountsMore, counted};
 ghost use Rattle.catalogue_editions.specs.declared.outcome.Outcome.{Outcome as OutcomeModel};
-ghost use Rattle.library_batches.specs.Outcomes.{AreCounted, counted};
 
 use catalogue_editions::outcome::Outcome;
 
@@ -31,8 +31,7 @@ impl OutcomeCounts {
     /// Counts one more outcome. Takes no memory.
     fn count_one(&mut self, outcome: Outcome)
         requires { counted self.old + 1 ≤ u64.MAX }
-        ensures more { (found : List OutcomeModel) → AreCounted found self.old
-            → AreCounted (found ++ outcome ∷ []) self.new }
+        ensures more { CountsMore self.old self.new (outcome ∷ []) }
         ensures total { counted self.new ≡ counted self.old + 1 }
     {
         match outcome {
@@ -46,8 +45,7 @@ impl OutcomeCounts {
     /// Counts these outcomes too, of which there are so few that the counts fit together. Takes no memory.
     pub fn count(&mut self, outcomes: &[Outcome])
         requires { counted self.old + length outcomes.now ≤ u64.MAX }
-        ensures more { (found : List OutcomeModel) → AreCounted found self.old
-            → AreCounted (found ++ outcomes.now) self.new }
+        ensures more { CountsMore self.old self.new outcomes.now }
         ensures total { counted self.new ≡ counted self.old + length outcomes.now }
     {
         for outcome in outcomes {

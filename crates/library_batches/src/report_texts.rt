@@ -1,13 +1,13 @@
 //! The reports on libraries, and the lines on editions of which fields were left out.
 //!
 //! Each function appends its text to a buffer. The texts are those of specs/Reports.antt.
-ghost use Rattle.std.specs.Prelude.{◌≡◌, ◌++◌, List, length, OnOk};
+ghost use Rattle.std.specs.Prelude.{◌≡◌, ◌++◌, OnOk, List, length};
 ghost use Rattle.std.specs.List.{flat_map};
+ghost use Rattle.library_batches.specs.Reports.{AddsReport, counts_line, left_line, report_line, report_text};
 ghost use Rattle.catalogue_editions.specs.declared.outcome.Outcome.{Outcome};
 ghost use Rattle.library_batches.specs.Outcomes.{AreCounted};
 ghost use Rattle.library_batches.specs.Refused.{refused as refused_of};
 ghost use Rattle.library_batches.specs.Streams.{Frame};
-ghost use Rattle.library_batches.specs.Reports.{report_line, report_text, left_line};
 
 use crate::outcome_counts::OutcomeCounts;
 use crate::refused::RefusedFrame;
@@ -25,9 +25,7 @@ fn add_counts(
     refused: u64,
     counts: &OutcomeCounts,
 ) -> Result<(), AllocError>
-    ensures { OnOk result (text.new.items ≡ text.old.items
-        ++ report_line library.now frames counts.now.added counts.now.replaced counts.now.removed
-        counts.now.absent refused) }
+    ensures { OnOk result (text.new.items ≡ text.old.items ++ counts_line library.now frames counts.now refused) }
 {
     text.extend_from_slice(library)?;
     add_counted(text, b"frames", frames)?;
@@ -50,10 +48,7 @@ pub fn add_report(
     refused: &[RefusedFrame],
     counts: &OutcomeCounts,
 ) -> Result<(), Memory>
-    ensures told { OnOk result ((all : List Frame) (found : List Outcome) → frames ≡ length all
-        → refused.now ≡ refused_of all
-        → AreCounted found counts.now → text.new.items ≡ text.old.items
-        ++ report_text library.now all found) }
+    ensures told { OnOk result (AddsReport library.now frames refused.now counts.now text.old.items text.new.items) }
 {
     add_refused_lines(text, library, refused)?;
     add_counts(text, library, frames, refused.len() as u64, counts)?;

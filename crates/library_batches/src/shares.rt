@@ -1,8 +1,9 @@
 //! The checking of frames by several workers, a share of neighbouring frames each.
-ghost use Rattle.std.specs.Prelude.{◌≡◌, ◌≤◌, ◌<◌, ◌+◌, ◌^◌, ◌++◌, [], ℕ, List, length, IfOk, OnOk, OnErr};
+ghost use Rattle.std.specs.Prelude.{◌≡◌, ◌≤◌, ◌<◌, ◌+◌, ◌^◌, ◌++◌, length, IfOk, OnOk, OnErr, [], ℕ, List};
+ghost use Rattle.library_batches.specs.Origins.{ChecksAll, ChecksShares, IsShareFrom, KeepsShares};
+ghost use Rattle.library_batches.specs.Shares.{KeepsFront, IsShare, AreShares};
 ghost use Rattle.library_batches.specs.Streams.{Frame};
 ghost use Rattle.library_batches.specs.Blocks.{IsChecked};
-ghost use Rattle.library_batches.specs.Shares.{IsShare, AreShares, KeepsFront};
 
 use crate::checking::Origin;
 use crate::cut_frame::CutFrame;
@@ -37,15 +38,13 @@ pub fn check_by_workers<R: Threads + Sync>(
 ) -> Result<Vec<Op>, Memory>
     requires least { 1 ≤ workers }
     requires room { origin.now.number + length frames.now < 2 ^ 64 }
-    ensures checked { IfOk result (λ ops. IsChecked origin.now.prefer.now origin.now.library.now
-        origin.now.number frames.now ops.items refused.old.items refused.new.items) }
+    ensures checked { IfOk result (ChecksAll origin.now frames.now refused.old refused.new) }
     ensures kept { KeepsFront origin.now.number frames.now refused.old.items refused.new.items }
 {
     let size = frames.len().div_ceil(workers as usize).max(1);
     let check = |start: usize, share: &[CutFrame]| -> Result<Checked, Memory>
         requires { origin.now.number + start + length share.now < 2 ^ 64 }
-        ensures { IfOk result (IsShare origin.entry.now.prefer.now origin.entry.now.library.now
-            (origin.entry.now.number + start) share.now) }
+        ensures { IfOk result (IsShareFrom origin.entry.now start share.now) }
     { check_share(alloc, origin, start, share) };
     let parts = thread::map_chunks(rt, alloc, frames, size, &check)?;
     join_shares(alloc, parts, refused)
@@ -59,8 +58,7 @@ pub fn check_share(
     frames: &[CutFrame],
 ) -> Result<Checked, Memory>
     requires { origin.now.number + start + length frames.now < 2 ^ 64 }
-    ensures { IfOk result (IsShare origin.now.prefer.now origin.now.library.now
-        (origin.now.number + start) frames.now) }
+    ensures { IfOk result (IsShareFrom origin.now start frames.now) }
 {
     let mut ops = Vec::new(alloc);
     let mut refused = Vec::new(alloc);
@@ -84,13 +82,8 @@ fn join_shares(
     parts: Vec<Result<Checked, Memory>>,
     refused: &mut Vec<RefusedFrame>,
 ) -> Result<Vec<Op>, Memory>
-    ensures checked { (prefer : List (List ℕ)) (library : List ℕ) (size start : ℕ)
-        (frames : List Frame) → AreShares prefer library size start frames parts.items
-        → IfOk result (λ ops. IsChecked prefer library start frames ops.items
-        refused.old.items refused.new.items) }
-    ensures kept { (prefer : List (List ℕ)) (library : List ℕ) (size start : ℕ)
-        (frames : List Frame) → AreShares prefer library size start frames parts.items
-        → KeepsFront start frames refused.old.items refused.new.items }
+    ensures checked { ChecksShares parts.items refused.old refused.new result }
+    ensures kept { KeepsShares parts.items refused.old refused.new }
 {
     let mut ops = Vec::new(alloc);
     for made in parts {

@@ -3,11 +3,12 @@ ghost use Rattle.std.specs.Prelude.{◌≡◌, ◌≢◌, ◌≤◌, ◌<◌, �
 ghost use Rattle.union_io.specs.Causes.{Rose};
 ghost use Rattle.library_stream.specs.Streaming.{most_ahead};
 ghost use Rattle.library_batches.specs.Batches.{round_size};
-ghost use Rattle.library_batches.specs.Blocks.{IsChecked};
+ghost use Rattle.library_batches.specs.Origins.{GivesAll, GivesNext, GivesOps, KeepsBlocks};
 ghost use Rattle.library_batches.specs.Shares.{KeepsFront};
-ghost use Rattle.library_batches.specs.Works.{AddsWork, AreNumbered, CutsRound, IsMade, frames_of};
-ghost use Rattle.library_batches.specs.declared.refused.RefusedFrame.{RefusedFrame as RefusedModel};
+ghost use Rattle.library_batches.specs.Works.{AddsWork, CutsRound, IsMade, frames_of, AreNumbered};
 ghost use Rattle.library_batches.specs.declared.work.Work.{Work as WorkModel};
+ghost use Rattle.library_batches.specs.Blocks.{IsChecked};
+ghost use Rattle.library_batches.specs.declared.refused.RefusedFrame.{RefusedFrame as RefusedModel};
 ghost use Rattle.library_batches.specs.Rounds.{AreGiven};
 
 use crate::checking::Origin;
@@ -154,10 +155,8 @@ pub fn batches_of(
     refused: &mut Vec<RefusedFrame>,
 ) -> Result<Vec<Batch>, Memory>
     requires { All (IsMade origin.now.prefer.now origin.now.library.now) works.items }
-    ensures given { IfOk result (λ batches. AreGiven origin.now.prefer.now origin.now.library.now
-        works.items refused.old.items refused.new.items batches.items) }
-    ensures kept { (start : ℕ) → AreNumbered start works.items
-        → KeepsFront start (frames_of works.items) refused.old.items refused.new.items }
+    ensures given { IfOk result (GivesAll origin.now works.items refused.old refused.new) }
+    ensures kept { KeepsBlocks works.items refused.old refused.new }
 {
     let mut batches = Vec::new(alloc);
     for work in works {
@@ -175,11 +174,7 @@ fn add_work(
     refused: &mut Vec<RefusedFrame>,
 ) -> Result<(), Memory>
     requires { IsMade origin.now.prefer.now origin.now.library.now work }
-    ensures given { OnOk result ((done : List WorkModel) (first : List RefusedModel)
-        → AreGiven origin.now.prefer.now origin.now.library.now done first refused.old.items
-        batches.old.items
-        → AreGiven origin.now.prefer.now origin.now.library.now (done ++ work ∷ []) first
-        refused.new.items batches.new.items) }
+    ensures given { OnOk result (GivesNext origin.now work refused.old batches.old refused.new batches.new) }
     ensures kept { OnErr result (KeepsFront work.first work.frames.items refused.old.items
         refused.new.items) }
 {
@@ -196,9 +191,7 @@ fn add_work(
 
 /// The operations of a block; adds its refused frames to `refused`. Returns `Memory` if allocation failed, here or for the block.
 fn add_refused(work: Work, refused: &mut Vec<RefusedFrame>) -> Result<Vec<Op>, Memory>
-    ensures ops { (prefer : List (List ℕ)) (library : List ℕ) → IsMade prefer library work
-        → IfOk result (λ ops. IsChecked prefer library work.first work.frames.items ops.items
-        refused.old.items refused.new.items) }
+    ensures ops { GivesOps work refused.old refused.new result }
     ensures kept { OnErr result (refused.new.items ≡ refused.old.items) }
 {
     let Work {
