@@ -1,5 +1,5 @@
 -- The inputs of a run: the files of libraries in the order of the command, as a shelf has them.
-use Rattle.std.specs.Prelude.{◌≡◌, ◌≢◌, ◌⊎◌, ⊤, ℕ, Bool, true, false, List, [], ◌∷◌, map, Ok, Err, IfSome, IsTrue}
+use Rattle.std.specs.Prelude.{◌≡◌, ◌≢◌, ◌⊎◌, ⊤, ℕ, Bool, true, false, List, [], ◌∷◌, drop, map, Ok, Err, IfSome, IsTrue}
 use Rattle.std.specs.List.{AllByRecursion}
 use Rattle.std.specs.declared.option.Option.{Option}
 use Rattle.std.specs.declared.result.Result.{Result}
@@ -7,10 +7,14 @@ use Rattle.iso2709_frame.specs.Frames.{frames}
 use Rattle.union_io.specs.Causes.{Rose}
 use Rattle.union_io.specs.Files.{told_file}
 use Rattle.union_io.specs.Names.{is_among}
-use Rattle.union_words.specs.Flows.{ShelfFlow, IsCalm, InputFile, FailsAt}
+use Rattle.union_io.specs.declared.shelf.Shelf.{Ghosts as ShelfGhosts}
+use Rattle.union_io.specs.declared.source.Source.{Ghosts as SourceGhosts}
+use Rattle.union_words.specs.Flows.{ShelfFlow, IsCalm, InputFile, FailsAt, shelf_flow}
+use Rattle.union_words.specs.Meanings.{libraries_meaning}
 pub use Rattle.union_words.specs.Stops.{input_of, inputs_of}
 use Rattle.union_words.specs.Words.{LibraryFile}
 use Rattle.union_words.specs.declared.input.Input.{Input}
+use Rattle.union_words.specs.declared.libraries.Libraries.{Libraries}
 use Rattle.union_words.specs.declared.status.Status.{Status}
 use Rattle.union_words.specs.declared.status.Status.TheVariants.{Done, DoneWithRefusals, Usage, OpenFault, ReadFault, WriteFault, TooLong, Memory}
 use Rattle.union_files.specs.Deliveries.{Delivery, delivery}
@@ -68,6 +72,28 @@ abbrev pub OpensInOrder : Status → List LibraryFile → List (List ℕ) → Li
 OpensInOrder (OpenFault input) libraries before after = OpensUpTo input (inputs_of libraries) before after
 OpensInOrder status libraries before after = ⊤
 
+-- the same by what the trait `Shelf` says of the shelf before and after
+abbrev pub StopsOpeningAt : {F S : Type 0} → ShelfGhosts F S → F → F → List LibraryFile → Status → Type 0
+StopsOpeningAt shelf old new libraries status = StopsOpening status libraries (shelf_flow shelf old new)
+
+abbrev pub OpensInOrderAt : {F S : Type 0} → ShelfGhosts F S → F → F → List LibraryFile → Status → Type 0
+OpensInOrderAt shelf old new libraries status = OpensInOrder status libraries (shelf.opened old) (shelf.opened new)
+
+-- the run stops so at the file, whichever files come after it
+abbrev pub StopsOpeningFirst : LibraryFile → ShelfFlow → Status → Type 0
+StopsOpeningFirst file shelf status = (rest : List LibraryFile) → StopsOpening status (file ∷ rest) shelf
+
+abbrev pub OpensFirstInOrder : LibraryFile → List (List ℕ) → List (List ℕ) → Status → Type 0
+OpensFirstInOrder file before after status = (rest : List LibraryFile) → OpensInOrder status (file ∷ rest) before after
+
+-- the files of the libraries from this place on
+abbrev pub files_from : ℕ → Libraries → List LibraryFile
+files_from place libraries = drop place (libraries_meaning libraries)
+
+-- the inputs of the libraries that the words name
+abbrev pub library_inputs : Libraries → List InputFile
+library_inputs libraries = inputs_of (libraries_meaning libraries)
+
 -- an input could not be opened
 abbrev pub is_open_fault : Status → Bool
 is_open_fault (OpenFault input) = true
@@ -113,3 +139,21 @@ pub record IsFresh (files : Option (List ℕ → List ℕ)) (names : List (List 
 -- nothing of the opened files was read yet
 abbrev pub AreFresh : Option (List ℕ → List ℕ) → List (List ℕ) → List OpenedState → Type 0
 AreFresh files names all = AllByRecursion (IsFresh files names) all
+
+-- nothing of it, or of them, was read since it was opened at that shelf
+abbrev pub IsFreshAt : {F S : Type 0} → ShelfGhosts F S → F → OpenedState → Type 0
+IsFreshAt shelf at opened = IsFresh (shelf.files at) (shelf.opened at) opened
+
+abbrev pub AreFreshAt : {F S : Type 0} → ShelfGhosts F S → F → List OpenedState → Type 0
+AreFreshAt shelf at all = AreFresh (shelf.files at) (shelf.opened at) all
+
+-- an opened file, and opened files, as values by what the trait `Source` says of a source
+abbrev pub opened_state : {S : Type 0} → SourceGhosts S → OpenedFile S → OpenedState
+opened_state source opened = state_of source.name source.left source.faults opened
+
+abbrev pub opened_states : {S : Type 0} → SourceGhosts S → List (OpenedFile S) → List OpenedState
+opened_states source all = states_of source.name source.left source.faults all
+
+-- the libraries of opened files, with the names under which they were opened
+abbrev pub opened_files : {S : Type 0} → SourceGhosts S → List (OpenedFile S) → List LibraryFile
+opened_files source all = files_of (opened_states source all)

@@ -1,13 +1,18 @@
 -- In which order the files of a run are opened, by the names that its shelf lists.
 use Rattle.std.specs.Prelude.{◌≡◌, ◌⊎◌, ⊤, ℕ, Bool, true, false, IsTrue, List, [], ◌∷◌, IfSome}
 use Rattle.std.specs.declared.option.Option.{Option}
-use Rattle.union_io.specs.Names.{AddsName}
+use Rattle.union_io.specs.Names.{AddsName, is_among}
+use Rattle.union_io.specs.declared.shelf.Shelf.{Ghosts as ShelfGhosts}
 use Rattle.union_words.specs.Flows.{InputFile}
 use Rattle.union_words.specs.declared.input.Input.{Input}
 use Rattle.union_words.specs.declared.input.Input.TheVariants.{Asks, Names}
 use Rattle.union_words.specs.declared.status.Status.{Status}
 use Rattle.union_words.specs.declared.status.Status.TheVariants.{OpenFault, ReadFault, TooLong}
 use Rattle.union_files.specs.Limits.{Contents}
+
+-- each name that was listed is listed
+abbrev pub KeepsNames : List (List ℕ) → List (List ℕ) → Type 0
+KeepsNames before after = (name : List ℕ) → IsTrue (is_among name before) → IsTrue (is_among name after)
 
 -- the files were opened, each after the one before it, and no others
 abbrev pub OpensEach : List InputFile → List (List ℕ) → List (List ℕ) → Type 0
@@ -36,3 +41,11 @@ OpensInTurn told (ReadFault input) files before after = IsTrue (is_read_first in
 OpensInTurn told (TooLong input) files before after =
     IfSome told (λ contents. IsTrue (is_read_first input) → OpensUpTo input files before after)
 OpensInTurn told status files before after = ⊤
+
+-- the same by what the trait `Shelf` says of the shelf before and after
+abbrev pub OpensInTurnAt : {F S : Type 0} → ShelfGhosts F S → F → F → List InputFile → Status → Type 0
+OpensInTurnAt shelf old new files status = OpensInTurn (shelf.files old) status files (shelf.opened old) (shelf.opened new)
+
+-- the file was opened so, whichever files come after it
+abbrev pub OpensFirstInTurn : {F S : Type 0} → ShelfGhosts F S → F → F → InputFile → Status → Type 0
+OpensFirstInTurn shelf old new file status = (rest : List InputFile) → OpensInTurnAt shelf old new (file ∷ rest) status

@@ -1,5 +1,6 @@
 -- What the reading of a source, and of a file, says.
-use Rattle.std.specs.Prelude.{◌≡◌, ℕ, ◌<◌, ◌≤◌, List, length, Ok, Err, IfSome}
+use Rattle.std.specs.Prelude.{◌≡◌, ℕ, ◌<◌, ◌≤◌, List, length, Ok, Err, IfSome, Vec}
+use Rattle.std.specs.Global.{Global}
 use Rattle.std.specs.declared.result.Result.{Result}
 use Rattle.library_batches.specs.declared.stop.Stop.{Stop}
 use Rattle.library_batches.specs.declared.stop.Stop.TheVariants.{TooLong as StopTooLong, Failed as StopFailed, Memory as StopMemory}
@@ -40,3 +41,7 @@ ReadsFile (Err status) file shelf IsOf = StopsAt status file shelf
 abbrev pub ReadsInTurn : {T : Type 0} → Result T Status → List InputFile → ShelfFlow → (T → Contents → Type 0) → Type 0
 ReadsInTurn (Ok found) files shelf IsOf = IsCalm shelf × IfSome shelf.files (λ contents. AreWithin contents files × IsOf found contents)
 ReadsInTurn (Err status) files shelf IsOf = StopsAmong status files shelf
+
+-- the file was opened and read whole: these are its bytes; or a run stops there
+abbrev pub ReadsText : Result (Vec ℕ Global) Status → InputFile → ShelfFlow → Type 0
+ReadsText result file shelf = ReadsFile result file shelf (λ text bytes. text.items ≡ bytes)

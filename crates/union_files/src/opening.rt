@@ -3,12 +3,14 @@
 //!
 //! Each source that was opened is given back to its shelf, whatever happens. There is room for as many as the command
 //! names.
-ghost use Rattle.std.specs.Prelude.{◌≡◌, ◌≤◌, ◌∷◌, ℕ, List, length, drop, IsTrue, IfOk, IfErr, OnOk};
+ghost use Rattle.std.specs.Prelude.{◌≡◌, ◌≤◌, ◌∷◌, length, IfOk, IfErr, OnOk, ℕ, List, drop, IsTrue};
 ghost use Rattle.union_io.specs.Counts.{SameCounts};
-ghost use Rattle.union_io.specs.Names.{is_among, AddsName};
+ghost use Rattle.union_io.specs.Names.{AddsName, is_among};
+ghost use Rattle.union_words.specs.Flows.{shelf_flow};
 ghost use Rattle.union_words.specs.Meanings.{file_meaning, libraries_meaning};
+ghost use Rattle.union_files.specs.Inputs.{StopsOpeningAt, StopsOpeningFirst, OpensInOrderAt, OpensFirstInOrder, IsFreshAt, AreFreshAt, opened_state, opened_states, opened_files, file_of, files_from, StopsOpening, OpensInOrder, IsFresh, AreFresh, state_of, states_of, files_of};
+ghost use Rattle.union_files.specs.Openings.{KeepsNames};
 ghost use Rattle.union_words.specs.Words;
-ghost use Rattle.union_files.specs.Inputs.{StopsOpening, OpensInOrder, IsFresh, AreFresh, state_of, states_of, file_of, files_of};
 
 use crate::opened_file::OpenedFile;
 use std::alloc::Global;
@@ -23,8 +25,7 @@ use union_words::status::Status;
 
 /// Gives back opened files of which nothing was read. Takes no memory.
 pub fn give_back_all<F: Shelf>(opened: &mut VecDeque<OpenedFile<F::Src>>, shelf: &mut F)
-    requires { AreFresh (F.files shelf.old) (F.opened shelf.old)
-        (states_of F.Src.name F.Src.left F.Src.faults opened.old.items) }
+    requires { AreFreshAt F.Shelf shelf.old (opened_states F.Src.Source opened.old.items) }
     ensures files { F.files shelf.new ≡ F.files shelf.old }
     ensures names { F.opened shelf.new ≡ F.opened shelf.old }
     ensures calm { SameCounts (F.faults shelf.old) (F.faults shelf.new) }
@@ -42,25 +43,14 @@ fn open_file<F: Shelf>(
     shelf: &mut F,
 ) -> Result<OpenedFile<F::Src>, Status>
     ensures files { F.files shelf.new ≡ F.files shelf.old }
-    ensures kept { (name : List ℕ) → IsTrue (is_among name (F.opened shelf.old))
-        → IsTrue (is_among name (F.opened shelf.new)) }
-    ensures file { IfOk result (λ opened. file_of
-        (state_of F.Src.name F.Src.left F.Src.faults opened) ≡ file_meaning file.now) }
-    ensures fresh { IfOk result (λ opened. IsFresh (F.files shelf.new) (F.opened shelf.new)
-        (state_of F.Src.name F.Src.left F.Src.faults opened)) }
+    ensures kept { KeepsNames (F.opened shelf.old) (F.opened shelf.new) }
+    ensures file { IfOk result (λ opened. file_of (opened_state F.Src.Source opened) ≡ file_meaning file.now) }
+    ensures fresh { IfOk result (λ opened. IsFreshAt F.Shelf shelf.new (opened_state F.Src.Source opened)) }
     ensures calm { OnOk result (SameCounts (F.faults shelf.old) (F.faults shelf.new)) }
     ensures opened { IfOk result (λ _. AddsName (F.opened shelf.old) (F.opened shelf.new)
         (file_meaning file.now).path) }
-    ensures in_order { IfErr result (λ status. (rest : List Words.LibraryFile)
-        → OpensInOrder status (file_meaning file.now ∷ rest) (F.opened shelf.old)
-        (F.opened shelf.new)) }
-    ensures stops { IfErr result (λ status. (rest : List Words.LibraryFile)
-        → StopsOpening status (file_meaning file.now ∷ rest)
-        (record {
-          files = F.files shelf.old;
-          before = F.faults shelf.old;
-          after = F.faults shelf.new;
-        })) }
+    ensures in_order { IfErr result (OpensFirstInOrder (file_meaning file.now) (F.opened shelf.old) (F.opened shelf.new)) }
+    ensures stops { IfErr result (StopsOpeningFirst (file_meaning file.now) (shelf_flow F.Shelf shelf.old shelf.new)) }
 {
     let Ok(path) = Bytes::of(alloc, file.path) else {
         return Err(Status::Memory);
@@ -81,10 +71,8 @@ fn put_first<F: Shelf>(
     mut opened: VecDeque<OpenedFile<F::Src>>,
     shelf: &mut F,
 ) -> Result<VecDeque<OpenedFile<F::Src>>, Status>
-    requires file { IsFresh (F.files shelf.old) (F.opened shelf.old)
-        (state_of F.Src.name F.Src.left F.Src.faults file) }
-    requires others { AreFresh (F.files shelf.old) (F.opened shelf.old)
-        (states_of F.Src.name F.Src.left F.Src.faults opened.items) }
+    requires file { IsFreshAt F.Shelf shelf.old (opened_state F.Src.Source file) }
+    requires others { AreFreshAt F.Shelf shelf.old (opened_states F.Src.Source opened.items) }
     ensures files { F.files shelf.new ≡ F.files shelf.old }
     ensures names { F.opened shelf.new ≡ F.opened shelf.old }
     ensures calm { SameCounts (F.faults shelf.old) (F.faults shelf.new) }
@@ -115,24 +103,12 @@ pub fn open_rest<F: Shelf>(
 ) -> Result<VecDeque<OpenedFile<F::Src>>, Status>
     requires { place ≤ length (libraries_meaning libraries.now) }
     ensures files { F.files shelf.new ≡ F.files shelf.old }
-    ensures kept { (name : List ℕ) → IsTrue (is_among name (F.opened shelf.old))
-        → IsTrue (is_among name (F.opened shelf.new)) }
-    ensures opened { IfOk result (λ opened. files_of
-        (states_of F.Src.name F.Src.left F.Src.faults opened.items)
-        ≡ drop place (libraries_meaning libraries.now)) }
-    ensures fresh { IfOk result (λ opened. AreFresh (F.files shelf.new) (F.opened shelf.new)
-        (states_of F.Src.name F.Src.left F.Src.faults opened.items)) }
+    ensures kept { KeepsNames (F.opened shelf.old) (F.opened shelf.new) }
+    ensures opened { IfOk result (λ opened. opened_files F.Src.Source opened.items ≡ files_from place libraries.now) }
+    ensures fresh { IfOk result (λ opened. AreFreshAt F.Shelf shelf.new (opened_states F.Src.Source opened.items)) }
     ensures calm { OnOk result (SameCounts (F.faults shelf.old) (F.faults shelf.new)) }
-    ensures in_order { IfErr result (λ status. OpensInOrder status
-        (drop place (libraries_meaning libraries.now))
-        (F.opened shelf.old) (F.opened shelf.new)) }
-    ensures stops { IfErr result (λ status. StopsOpening status
-        (drop place (libraries_meaning libraries.now))
-        (record {
-          files = F.files shelf.old;
-          before = F.faults shelf.old;
-          after = F.faults shelf.new;
-        })) }
+    ensures in_order { IfErr result (OpensInOrderAt F.Shelf shelf.old shelf.new (files_from place libraries.now)) }
+    ensures stops { IfErr result (StopsOpeningAt F.Shelf shelf.old shelf.new (files_from place libraries.now)) }
 {
     if place == libraries.len() {
         return match VecDeque::with_capacity(alloc, libraries.len()) {

@@ -1,10 +1,10 @@
 //! The reports of the libraries of a load, one after the other.
-ghost use Rattle.std.specs.Prelude.{◌≡◌, ◌++◌, ◌||◌, [], false, nat_lt, List, length, OnOk};
+ghost use Rattle.std.specs.Prelude.{◌≡◌, ◌||◌, [], false, nat_lt, length, OnOk, ◌++◌, List};
+ghost use Rattle.library_batches.specs.Reports.{AddsReportOf, counts_of, report_text};
 ghost use Rattle.catalogue_editions.specs.declared.outcome.Outcome.{Outcome};
 ghost use Rattle.library_batches.specs.Outcomes.{AreCounted};
 ghost use Rattle.library_batches.specs.Refused.{refused as refused_of};
 ghost use Rattle.library_batches.specs.Streams.{Frame};
-ghost use Rattle.library_batches.specs.Reports.{counts_of, report_text};
 
 use library_batches::outcome_counts::OutcomeCounts;
 use library_batches::report::Report;
@@ -35,10 +35,7 @@ impl Reports {
     /// Adds the report on what a library has sent. Returns `Memory` if allocation fails; then the text may have a part of the
     /// report.
     pub fn add(&mut self, library: &LibraryCode, report: &Report) -> Result<(), Memory>
-        ensures text { OnOk result ((all : List Frame) (found : List Outcome)
-            → report.now.frames ≡ length all
-            → report.now.refused.items ≡ refused_of all → AreCounted found (counts_of report.now)
-            → self.new.text.items ≡ self.old.text.items ++ report_text library.now all found) }
+        ensures text { OnOk result (AddsReportOf library.now report.now self.old.text.items self.new.text.items) }
         ensures refused { OnOk result (self.new.refused
             ≡ (self.old.refused || nat_lt 0 (length report.now.refused.items))) }
     {

@@ -1,10 +1,11 @@
 //! A file that is read whole: a script, a file of questions, or a library's file whose text is wanted at once.
-ghost use Rattle.std.specs.Prelude.{◌≡◌, ◌∷◌, IfOk, IfErr, List};
+ghost use Rattle.std.specs.Prelude.{◌≡◌, IfOk, IfErr, ◌∷◌, List};
 ghost use Rattle.union_files.specs.Limits.{limit_of};
-ghost use Rattle.union_files.specs.Openings.{OpensInTurn};
-ghost use Rattle.union_files.specs.Readings.{ReadsFile};
+ghost use Rattle.union_files.specs.Openings.{OpensFirstInTurn, OpensInTurn};
+ghost use Rattle.union_files.specs.Readings.{ReadsText, ReadsFile};
 ghost use Rattle.union_io.specs.Names.{AddsName};
-ghost use Rattle.union_words.specs.Flows.{InputFile};
+ghost use Rattle.union_words.specs.Flows.{shelf_flow, InputFile};
+ghost use Rattle.union_words.specs.Stops.{input_at};
 
 use crate::stops::stopped_with;
 use crate::whole::read_whole;
@@ -39,18 +40,9 @@ pub fn read_text_file<F: Shelf>(
     shelf: &mut F,
 ) -> Result<Vec<u8>, Status>
     ensures files { F.files shelf.new ≡ F.files shelf.old }
-    ensures reads { ReadsFile result (record { input = input; path = path.now })
-        (record {
-          files = F.files shelf.old;
-          before = F.faults shelf.old;
-          after = F.faults shelf.new;
-        })
-        (λ text bytes. text.items ≡ bytes) }
+    ensures reads { ReadsText result (input_at input path.now) (shelf_flow F.Shelf shelf.old shelf.new) }
     ensures opened { IfOk result (λ _. AddsName (F.opened shelf.old) (F.opened shelf.new) path.now) }
-    ensures in_turn { IfErr result (λ status. (rest : List InputFile)
-        → OpensInTurn (F.files shelf.old) status
-        (record { input = input; path = path.now } ∷ rest)
-        (F.opened shelf.old) (F.opened shelf.new)) }
+    ensures in_turn { IfErr result (OpensFirstInTurn F.Shelf shelf.old shelf.new (input_at input path.now)) }
 {
     match shelf.open(alloc, path) {
         Ok(mut source) => {

@@ -1,5 +1,6 @@
 //! The reading of a small source whole.
 ghost use Rattle.std.specs.Prelude.{◌≡◌};
+ghost use Rattle.union_words.specs.Flows.{inflow};
 ghost use Rattle.union_files.specs.Readings.{Reads};
 
 use library_batches::stop::Stop;
@@ -16,13 +17,7 @@ const PIECE: usize = 65_536;
 /// if allocation fails.
 pub fn read_whole<S: Source>(alloc: Global, source: &mut S, limit: usize) -> Result<Vec<u8>, Stop>
     ensures name { S.name source.new ≡ S.name source.old }
-    ensures reads { Reads limit result (record {
-      told = S.left source.old;
-      before = S.faults
-          source.old;
-      after = S.faults source.new;
-    })
-        (λ content bytes. content.items ≡ bytes) }
+    ensures reads { Reads limit result (inflow S.Source source.old source.new) (λ content bytes. content.items ≡ bytes) }
 {
     let mut content = Vec::new(alloc);
     let mut piece = vec![in alloc; 0u8; PIECE]?;
