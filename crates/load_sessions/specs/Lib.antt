@@ -1,3 +1,4 @@
+pub mod Answers
 pub mod Sessions
 pub mod Turning
 pub mod Askers

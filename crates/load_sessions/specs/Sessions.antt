@@ -3,6 +3,7 @@ use Rattle.std.specs.Prelude.{◌≡◌, ◌≢◌, ℕ, ◌<◌, ◌≤◌, Lis
 use Rattle.iso2709_frame.specs.Frames.{frames}
 use Rattle.union_io.specs.Causes.{Rose}
 use Rattle.catalogue_lock.specs.Tokens.{view, IsSamePass}
+use Rattle.catalogue_lock.specs.declared.desk.Desk.{Desk}
 use Rattle.library_batches.specs.Refused.{refused}
 use Rattle.library_batches.specs.Batches.{AreBatches, AreFirstBatches}
 use Rattle.library_batches.specs.Outcomes.{AreCounted}
@@ -14,6 +15,10 @@ use Rattle.load_sessions.specs.declared.end.End.TheVariants.{NotRun, Done, ReadF
 use Rattle.library_batches.specs.declared.report.Report.{Report}
 use Rattle.load_sessions.specs.declared.session.Session.{Session}
 use Rattle.atomic_table.specs.Seated.{TableId}
+
+-- the id of a desk, which its passes have too
+abbrev pub desk_id : {M S C Q O A : Type 0} → Desk M S C Q O A → TableId
+desk_id desk = desk.board.shared.table_id
 
 -- the report has the frames of the whole source and the refused ones of them, and the batches are those of the source, which is
 -- within the limit

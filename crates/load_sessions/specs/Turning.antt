@@ -2,8 +2,11 @@
 use Rattle.std.specs.Prelude.{◌≡◌, ◌≢◌, ◌++◌, ℕ, ◌<◌, List, length, take, Option, Result, Ok, Err, IfSome, OnOk}
 use Rattle.iso2709_frame.specs.Frames.{frames}
 use Rattle.union_io.specs.Causes.{Rose}
+use Rattle.union_io.specs.declared.source.Source.{Ghosts as SourceGhosts}
 use Rattle.catalogue_editions.specs.declared.batch.Batch.{Batch}
 use Rattle.catalogue_lock.specs.Tokens.{view}
+use Rattle.catalogue_lock.specs.declared.view.View.{View}
+use Rattle.catalogue_editions.specs.declared.outcome.Outcome.{Outcome}
 use Rattle.library_batches.specs.Batches.{AreFirstBatches}
 use Rattle.library_batches.specs.Handing.{IsRead}
 use Rattle.library_batches.specs.Outcomes.{AreCounted}
@@ -32,6 +35,14 @@ module _ {S : Type 0} (name : S → List ℕ) (left : S → Option (List ℕ)) (
     pub long : result ≡ Err TooLong → IfSome (left before.source) (λ bytes. before.limit < length bytes)
     pub fault : result ≡ Err Failed → Rose (faults before.source) (faults now.source)
     pub calm : result ≢ Err Failed → faults now.source ≡ faults before.source
+
+-- the same by what the trait `Source` says of a source
+abbrev pub TurnsAt : {S : Type 0} → SourceGhosts S → TableId → Session S → Session S → Batching → OutcomeCounts → Result (Unit {0}) Stop → Type 0
+TurnsAt source desk before now reader counts result = Turns source.name source.left source.faults desk before now reader counts result
+
+-- these outcomes are what came of the turns that a pass made meanwhile
+abbrev pub AddsFound : {S : Type 0} → View S Batch → View S Batch → List Outcome → Type 0
+AddsFound before now outcomes = found now.seen now.number ≡ found before.seen before.number ++ outcomes
 
 -- turns were made of all of the batches, or of the first of them
 abbrev pub TurnsEach : {E : Type 0} → List Batch → List Batch → List Batch → Result (Unit {0}) E → Type 0

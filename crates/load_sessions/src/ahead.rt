@@ -5,9 +5,9 @@ ghost use Rattle.catalogue_lock.specs.Tokens.{view, IsPassOf, IsSamePass};
 ghost use Rattle.library_stream.specs.Streaming.{most_ahead};
 ghost use Rattle.library_batches.specs.Batches.{block_size};
 ghost use Rattle.library_batches.specs.Reading.{AnswersBatch};
-ghost use Rattle.load_sessions.specs.Sessions.{IsSameSession};
+ghost use Rattle.load_sessions.specs.Sessions.{IsSameSession, desk_id};
 ghost use Rattle.library_batches.specs.Tallies.{found};
-ghost use Rattle.load_sessions.specs.Turning.{stop_beside};
+ghost use Rattle.load_sessions.specs.Turning.{stop_beside, AddsFound};
 
 use crate::crew::Crew;
 use crate::due::{Due, Turning, turn_due};
@@ -37,8 +37,7 @@ fn turn_in_hand<R: Wait, G: Gate>(
     ensures same { IsSamePass pass.old pass.new }
     ensures own { OnOk result (IfSome hand.old
         (λ due. (view pass.new).own ≡ (view pass.old).own ++ due.change ∷ [])) }
-    ensures found { IfOk result (λ outcomes. found (view pass.new).seen (view pass.new).number
-        ≡ found (view pass.old).seen (view pass.old).number ++ outcomes.items) }
+    ensures found { IfOk result (λ outcomes. AddsFound (view pass.old) (view pass.new) outcomes.items) }
     ensures few { IfOk result (λ outcomes. length outcomes.items ≤ block_size) }
     ensures memory { OnErr result ((view pass.new).own ≡ (view pass.old).own) }
 {
@@ -61,8 +60,7 @@ fn turn_beside<R: Threads + Wait + Sync, S: Source + Send, G: Gate>(
     ensures desk { IsPassOf pass.new turning.now.desk.now }
     ensures same { IsSamePass pass.old pass.new }
     ensures own { OnOk result.0 ((view pass.new).own ≡ (view pass.old).own ++ due.change ∷ []) }
-    ensures found { IfOk result.0 (λ outcomes. found (view pass.new).seen (view pass.new).number
-        ≡ found (view pass.old).seen (view pass.old).number ++ outcomes.items) }
+    ensures found { IfOk result.0 (λ outcomes. AddsFound (view pass.old) (view pass.new) outcomes.items) }
     ensures few { IfOk result.0 (λ outcomes. length outcomes.items ≤ block_size) }
     ensures memory { OnErr result.0 ((view pass.new).own ≡ (view pass.old).own) }
     ensures name { S.name source.new ≡ S.name source.old }
@@ -101,13 +99,11 @@ pub(crate) fn turn_and_read<R: Threads + Wait + Sync, S: Source + Send, G: Gate>
     requires some { 1 ≤ crew.workers }
     requires most { crew.workers ≤ 64 }
     requires desk { IsPassOf session.old.pass turning.now.desk.now }
-    ensures keeps { IsSameSession S.name turning.now.desk.now.board.shared.table_id session.old
+    ensures keeps { IsSameSession S.name (desk_id turning.now.desk.now) session.old
         session.new }
     ensures own { OnOk result.0 ((view session.new.pass).own
         ≡ (view session.old.pass).own ++ due.change ∷ []) }
-    ensures found { IfOk result.0 (λ outcomes.
-        found (view session.new.pass).seen (view session.new.pass).number
-        ≡ found (view session.old.pass).seen (view session.old.pass).number ++ outcomes.items) }
+    ensures found { IfOk result.0 (λ outcomes. AddsFound (view session.old.pass) (view session.new.pass) outcomes.items) }
     ensures few { IfOk result.0 (λ outcomes. length outcomes.items ≤ block_size) }
     ensures memory { OnErr result.0 ((view session.new.pass).own ≡ (view session.old.pass).own) }
     ensures answers { AnswersBatch result.1 reader.old (S.left session.old.source) reader.new

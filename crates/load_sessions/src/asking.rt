@@ -1,7 +1,8 @@
 //! The asking of questions.
 ghost use Rattle.std.specs.Prelude.{◌≡◌, [], length, OnOk};
 ghost use Rattle.catalogue_lock.specs.Tokens.{view, IsPassOf, IsSamePass};
-ghost use Rattle.load_sessions.specs.Askers.{Asks, IsAsker, Knows};
+ghost use Rattle.load_sessions.specs.Askers.{Asks, IsAsker, Knows, RepliedBy};
+ghost use Rattle.load_sessions.specs.Sessions.{desk_id};
 ghost use Rattle.catalogue_query.specs.Replies.{Replied};
 
 use crate::asker::Asker;
@@ -29,8 +30,7 @@ fn reply_all<R: Wait>(
     ensures desk { IsPassOf pass.new desk.now }
     ensures same { IsSamePass pass.old pass.new }
     ensures knows { Knows (view pass.old) (view pass.new) }
-    ensures replied { Replied (view pass.old).setting (view pass.new).seen (view pass.old).floor
-        questions.now replies.new.items }
+    ensures replied { RepliedBy (view pass.old) (view pass.new) questions.now replies.new.items }
     ensures all { OnOk result (length replies.new.items ≡ length questions.now) }
 {
     for question in questions {
@@ -42,8 +42,8 @@ fn reply_all<R: Wait>(
 
 /// Runs an asker: asks its questions in order, and keeps the replies. It waits. The end is Done where each has one, and else Memory.
 pub fn ask_all<R: Wait>(rt: &R, alloc: Global, desk: &Desk<Served>, asker: &mut Asker)
-    requires { IsAsker desk.now.board.shared.table_id asker.old }
-    ensures { Asks desk.now.board.shared.table_id asker.old asker.new }
+    requires { IsAsker (desk_id desk.now) asker.old }
+    ensures { Asks (desk_id desk.now) asker.old asker.new }
 {
     let told = reply_all(
         rt,

@@ -3,6 +3,7 @@ ghost use Rattle.std.specs.Prelude.{◌≡◌, ◌≤◌, ◌++◌, ◌∷◌, [
 ghost use Rattle.catalogue_lock.specs.Tokens.{view, IsPassOf, IsSamePass};
 ghost use Rattle.library_batches.specs.Batches.{block_size};
 ghost use Rattle.library_batches.specs.Tallies.{found};
+ghost use Rattle.load_sessions.specs.Turning.{AddsFound};
 
 use crate::served::Served;
 use catalogue_core::outcome::Outcome;
@@ -43,8 +44,7 @@ pub(crate) fn turn_due<R: Wait, G: Gate>(
     ensures desk { IsPassOf pass.new turning.now.desk.now }
     ensures same { IsSamePass pass.old pass.new }
     ensures own { OnOk result ((view pass.new).own ≡ (view pass.old).own ++ due.change ∷ []) }
-    ensures found { IfOk result (λ outcomes. found (view pass.new).seen (view pass.new).number
-        ≡ found (view pass.old).seen (view pass.old).number ++ outcomes.items) }
+    ensures found { IfOk result (λ outcomes. AddsFound (view pass.old) (view pass.new) outcomes.items) }
     ensures few { IfOk result (λ outcomes. length outcomes.items ≤ block_size) }
     ensures memory { OnErr result ((view pass.new).own ≡ (view pass.old).own) }
 {

@@ -5,7 +5,8 @@ ghost use Rattle.library_batches.specs.Batches.{block_size};
 ghost use Rattle.library_batches.specs.Outcomes.{AreCounted, counted};
 ghost use Rattle.library_batches.specs.Reading.{begun, most_bytes};
 ghost use Rattle.library_batches.specs.Tallies.{found};
-ghost use Rattle.load_sessions.specs.Turning.{Turns, TurnsEach};
+ghost use Rattle.load_sessions.specs.Turning.{TurnsEach, TurnsAt, Turns};
+ghost use Rattle.load_sessions.specs.Sessions.{desk_id};
 
 use crate::due::{Due, Turning, turn_due};
 use crate::served::Served;
@@ -73,8 +74,7 @@ pub(crate) fn turn_rounds<R: Threads + Wait + Sync, S: Source + Send, G: Gate>(
     requires limit { session.old.limit ≤ most_bytes }
     requires reader { reader.old ≡ begun session.old.prefer session.old.library session.old.limit }
     requires counts { AreCounted [] counts.old × (counted counts.old ≡ 0) }
-    ensures { Turns S.name S.left S.faults turning.now.desk.now.board.shared.table_id session.old
-        session.new reader.new counts.new result }
+    ensures { TurnsAt S.Source (desk_id turning.now.desk.now) session.old session.new reader.new counts.new result }
 {
     let mut turn: u64 = 0;
     loop {

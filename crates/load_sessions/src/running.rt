@@ -4,9 +4,9 @@ ghost use Rattle.catalogue_lock.specs.Tokens.{view, IsPassOf};
 ghost use Rattle.library_batches.specs.Outcomes.{AreCounted, counted};
 ghost use Rattle.library_batches.specs.Reading.{begun, most_bytes};
 ghost use Rattle.load_sessions.specs.Askers.{Asks, IsAsker};
-ghost use Rattle.load_sessions.specs.Sessions.{IsReady, Runs, RunsEach};
+ghost use Rattle.load_sessions.specs.Sessions.{IsReady, Runs, RunsEach, desk_id};
 ghost use Rattle.library_batches.specs.Reports.{counts_of};
-ghost use Rattle.load_sessions.specs.Turning.{Ends, Turns};
+ghost use Rattle.load_sessions.specs.Turning.{Ends, TurnsAt, Turns};
 
 use crate::asker::Asker;
 use crate::asking::ask_all;
@@ -74,8 +74,7 @@ fn turn_source<R: Threads + Wait + Sync, S: Source + Send, G: Gate>(
     requires limit { session.old.limit ≤ most_bytes }
     requires reader { reader.old ≡ begun session.old.prefer session.old.library session.old.limit }
     requires counts { AreCounted [] counts.old × (counted counts.old ≡ 0) }
-    ensures { Turns S.name S.left S.faults turning.now.desk.now.board.shared.table_id session.old
-        session.new reader.new counts.new result }
+    ensures { TurnsAt S.Source (desk_id turning.now.desk.now) session.old session.new reader.new counts.new result }
 {
     if crew.prepares || crew.workers == 1 {
         return turn_batches(turning, reader, counts, session, crew);
@@ -92,9 +91,9 @@ fn run_reader<R: Threads + Wait + Sync, S: Source + Send, G: Gate>(
 )
     requires some { 1 ≤ crew.workers }
     requires most { crew.workers ≤ 64 }
-    requires ready { IsReady turning.now.desk.now.board.shared.table_id session.old }
+    requires ready { IsReady (desk_id turning.now.desk.now) session.old }
     requires reader { reader ≡ begun session.old.prefer session.old.library session.old.limit }
-    ensures { Runs S.name S.left S.faults turning.now.desk.now.board.shared.table_id session.old
+    ensures { Runs S.name S.left S.faults (desk_id turning.now.desk.now) session.old
         session.new }
 {
     let mut counts = OutcomeCounts::new();
@@ -111,8 +110,8 @@ pub(crate) fn run_session<R: Threads + Wait + Sync, S: Source + Send, G: Gate>(
 )
     requires some { 1 ≤ crew.workers }
     requires most { crew.workers ≤ 64 }
-    requires ready { IsReady turning.now.desk.now.board.shared.table_id session.old }
-    ensures { Runs S.name S.left S.faults turning.now.desk.now.board.shared.table_id session.old
+    requires ready { IsReady (desk_id turning.now.desk.now) session.old }
+    ensures { Runs S.name S.left S.faults (desk_id turning.now.desk.now) session.old
         session.new }
 {
     match BatchReader::open(
@@ -150,15 +149,15 @@ fn run_each<R: Threads + Wait + Sync, S: Source + Send, G: Gate>(
 )
     requires some { 1 ≤ crew.workers }
     requires most { crew.workers ≤ 64 }
-    requires ready { All (IsReady turning.now.desk.now.board.shared.table_id) sessions.old }
-    ensures { RunsEach S.name S.left S.faults turning.now.desk.now.board.shared.table_id
+    requires ready { All (IsReady (desk_id turning.now.desk.now)) sessions.old }
+    ensures { RunsEach S.name S.left S.faults (desk_id turning.now.desk.now)
         sessions.old sessions.new }
 {
     let preparers = preparers(crew, sessions.len());
     let each = |_place: usize, session: &mut Session<S>|
         requires { (1 ≤ preparers.workers) × (preparers.workers ≤ 64)
-            × IsReady turning.now.desk.now.board.shared.table_id session.now }
-        ensures { Runs S.name S.left S.faults turning.entry.now.desk.now.board.shared.table_id
+            × IsReady (desk_id turning.now.desk.now) session.now }
+        ensures { Runs S.name S.left S.faults (desk_id turning.entry.now.desk.now)
             session.entry.now session.exit.now }
     { run_session(turning, session, preparers) };
     thread::for_each_mut(turning.rt, sessions, crew.workers as usize, &each);
@@ -186,11 +185,11 @@ pub fn run_sessions<R: Threads + Wait + Sync, S: Source + Send, G: Gate>(
 )
     requires least { 1 ≤ crew.workers }
     requires most { crew.workers ≤ 64 }
-    requires ready { All (IsReady desk.now.board.shared.table_id) sessions.old }
-    requires asker { IsAsker desk.now.board.shared.table_id asker.old }
-    ensures sessions { RunsEach S.name S.left S.faults desk.now.board.shared.table_id sessions.old
+    requires ready { All (IsReady (desk_id desk.now)) sessions.old }
+    requires asker { IsAsker (desk_id desk.now) asker.old }
+    ensures sessions { RunsEach S.name S.left S.faults (desk_id desk.now) sessions.old
         sessions.new }
-    ensures asker { Asks desk.now.board.shared.table_id asker.old asker.new }
+    ensures asker { Asks (desk_id desk.now) asker.old asker.new }
 {
     let turning = Turning {
         rt,
@@ -207,8 +206,8 @@ pub fn run_sessions<R: Threads + Wait + Sync, S: Source + Send, G: Gate>(
         rt,
         &mut || -> ()
             requires { (1 ≤ crew.workers) × (crew.workers ≤ 64)
-                × All (IsReady turning.desk.now.board.shared.table_id) sessions.now }
-            ensures { RunsEach S.name S.left S.faults turning.entry.desk.now.board.shared.table_id
+                × All (IsReady (desk_id turning.desk.now)) sessions.now }
+            ensures { RunsEach S.name S.left S.faults (desk_id turning.entry.desk.now)
                 sessions.entry.now sessions.exit.now }
         { run_each(&turning, sessions, crew) },
         &mut || ask_all(rt, alloc, desk, asker),

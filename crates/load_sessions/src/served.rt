@@ -1,14 +1,15 @@
 //! The machine of the desk: a catalogue.
-ghost use Rattle.std.specs.Prelude.{◌≡◌, ◌<◌, ◌^◌, ◌++◌, ◌∷◌, [], length, List, IfOk, OnOk, OnErr};
+ghost use Rattle.std.specs.Prelude.{◌≡◌, ◌<◌, ◌^◌, ◌++◌, ◌∷◌, [], length, IfOk, OnOk, OnErr, List};
 ghost use Rattle.std.proofs.Common.{sym, subst};
 ghost use Rattle.std.proofs.lemmas.List.{length-map};
 ghost use Rattle.std.specs.FinMap.{empty};
 ghost use Rattle.catalogue_core.specs.Catalogues.{by_names};
 ghost use Rattle.catalogue_core.specs.Histories.{current, outcomes, AreEditionsOf};
 ghost use Rattle.catalogue_core.specs.Entries.{entries_of, gives};
+ghost use Rattle.catalogue_query.specs.Replies.{tells};
+ghost use Rattle.load_sessions.specs.Answers.{IsAnswerOver};
 ghost use Rattle.catalogue_editions.specs.declared.edition.Edition.{Edition as EditionModel};
 ghost use Rattle.catalogue_query.specs.Answers.{answer_lines};
-ghost use Rattle.catalogue_query.specs.Replies.{tells};
 
 use authority_names::name_table::NameTable;
 use catalogue_core::catalogue::Catalogue;
@@ -76,9 +77,7 @@ fn apply_within(
 /// The answer to a query. A gathered catalogue is made a standing one for it, since it is resolved only once: ask a standing one where
 /// more than one question is to be asked.
 fn answer_of(alloc: Global, engine: &Engine, query: &Query) -> Result<Answer, Memory>
-    ensures { IfOk result (λ found. (all : List EditionModel)
-        × AreEditionsOf engine.now.history all
-        × (found.lines ≡ answer_lines engine.now.names query.now (current engine.now.history) all)) }
+    ensures { IfOk result (IsAnswerOver engine.now.names engine.now.history query.now) }
 {
     match engine.kind() {
         Kind::Standing(catalogue) => answer(alloc, catalogue, query),

@@ -3,7 +3,8 @@ ghost use Rattle.std.specs.Prelude.{◌≡◌, ◌≤◌, []};
 ghost use Rattle.catalogue_lock.specs.Tokens.{view, IsPassOf};
 ghost use Rattle.library_batches.specs.Outcomes.{AreCounted, counted};
 ghost use Rattle.library_batches.specs.Reading.{begun, most_bytes};
-ghost use Rattle.load_sessions.specs.Turning.{Turns};
+ghost use Rattle.load_sessions.specs.Turning.{TurnsAt, Turns};
+ghost use Rattle.load_sessions.specs.Sessions.{desk_id};
 
 use crate::ahead::{stop_of, turn_and_read};
 use crate::crew::Crew;
@@ -35,8 +36,7 @@ pub(crate) fn turn_batches<R: Threads + Wait + Sync, S: Source + Send, G: Gate>(
     requires limit { session.old.limit ≤ most_bytes }
     requires reader { reader.old ≡ begun session.old.prefer session.old.library session.old.limit }
     requires counts { AreCounted [] counts.old × (counted counts.old ≡ 0) }
-    ensures { Turns S.name S.left S.faults turning.now.desk.now.board.shared.table_id session.old
-        session.new reader.new counts.new result }
+    ensures { TurnsAt S.Source (desk_id turning.now.desk.now) session.old session.new reader.new counts.new result }
 {
     let mut turn: u64 = 0;
     let mut next = read_change(turning.rt, turning.alloc, reader, &mut session.source, crew);

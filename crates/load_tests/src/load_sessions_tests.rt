@@ -3,7 +3,7 @@
 ghost use Rattle.std.specs.Prelude.{◌≡◌, ◌≤◌, ◌+◌, IfOk};
 ghost use Rattle.catalogue_lock.specs.Tokens.{IsRootOf, root_of};
 ghost use Rattle.load_sessions.specs.Askers.{IsAsker};
-ghost use Rattle.load_sessions.specs.Sessions.{IsReady};
+ghost use Rattle.load_sessions.specs.Sessions.{IsReady, desk_id};
 
 use authority_names::name_table::NameTable;
 use catalogue_lock::desk::Desk;
@@ -51,7 +51,7 @@ fn session_at(
     requires most { limit ≤ 100000 }
     ensures desk { IsRootOf root.new desk.now }
     ensures made { (root_of root.new).made ≤ (root_of root.old).made + 1 }
-    ensures ready { IfOk result (λ session. IsReady desk.now.board.shared.table_id session) }
+    ensures ready { IfOk result (λ session. IsReady (desk_id desk.now) session) }
 {
     let pass = desk.make_pass(root);
     let source = SureSource::of(Bytes::of(alloc, content)?, 50);
@@ -85,7 +85,7 @@ fn crew_in_rounds(workers: u32) -> Crew
 fn silent_asker(alloc: Global, desk: &Desk<Served>, root: &mut Root<Served>) -> Asker
     requires desk { IsRootOf root.old desk.now }
     requires few { (root_of root.old).made ≤ 10 }
-    ensures { IsAsker desk.now.board.shared.table_id result }
+    ensures { IsAsker (desk_id desk.now) result }
 {
     let pass = desk.make_pass(root);
     Asker::new(alloc, pass, Vec::new(alloc))
