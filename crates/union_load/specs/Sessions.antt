@@ -23,7 +23,14 @@ use Rattle.load_sessions.specs.declared.session.Session.{Session}
 use Rattle.union_io.specs.Causes.{Rose}
 use Rattle.union_io.specs.Files.{told_file}
 use Rattle.union_io.specs.Names.{is_among}
-use Rattle.union_files.specs.Inputs.{OpenedState, inputs_of, states_of}
+use Rattle.union_io.specs.declared.shelf.Shelf.{Ghosts as ShelfGhosts}
+use Rattle.union_io.specs.declared.source.Source.{Ghosts as SourceGhosts}
+use Rattle.load_sessions.specs.declared.watched.Watched.{Watched}
+use Rattle.union_files.specs.Inputs.{Gathers, OpenedState, deliveries, files_of, inputs_of, states_of}
+use Rattle.union_files.specs.Unions.{HasUnited}
+use Rattle.union_words.specs.Flows.{shelf_flow}
+use Rattle.union_words.specs.Meanings.{libraries_meaning}
+use Rattle.union_words.specs.declared.loading.Loading.{Loading}
 use Rattle.union_files.specs.Limits.{AreWithin, IsTooLongAt}
 use Rattle.union_files.specs.Courses.{AreReported, Course, ended_of, file_of_course}
 use Rattle.union_files.specs.declared.opened_file.OpenedFile.{OpenedFile}
@@ -176,3 +183,22 @@ module _ {S : Type 0} where
       -- all sessions have run
       abbrev pub HaveRun : TableId → Option (List ℕ → List ℕ) → List (List ℕ) → List (Session S) → Type 0
       HaveRun desk files names sessions = AllByRecursion (HasRun desk files names) sessions
+
+module _ {S : Type 0} (source : SourceGhosts S) where
+  -- the files of sessions, by what the trait `Source` says of a source
+  abbrev pub states_in : List (Session S) → List OpenedState
+  states_in sessions = session_states source.name source.left source.faults sessions
+
+  -- the sessions are of the files of these libraries
+  abbrev pub AreOf : List LibraryFile → List (Session S) → Type 0
+  AreOf libraries sessions = files_of (states_in sessions) ≡ libraries
+
+  -- all of them have run, on files of this shelf
+  abbrev pub HaveRunAt : {F T : Type 0} → ShelfGhosts F T → TableId → F → List (Session S) → Type 0
+  HaveRunAt shelf desk at sessions = HaveRun source.name source.faults desk (shelf.files at) (shelf.opened at) sessions
+
+-- the files of the libraries were read to their ends and united by these names, or the run stops there
+abbrev pub GathersUnion : {F T : Type 0} → ShelfGhosts F T → F → F → Table → Loading → Result Watched Status → Type 0
+GathersUnion shelf old new names loading result =
+    Gathers result (libraries_meaning loading.libraries) (shelf_flow shelf old new)
+    (λ watched contents. HasUnited names (deliveries loading.prefer contents (libraries_meaning loading.libraries)) watched.loaded)

@@ -1,9 +1,10 @@
 //! The passes that ask: one beside the sessions, and one when these have ended.
-ghost use Rattle.std.specs.Prelude.{◌≡◌, ◌+◌, ◌<◌, ◌++◌, ◌∷◌, [], IfOk};
+ghost use Rattle.std.specs.Prelude.{◌≡◌, ◌+◌, ◌<◌, ◌∷◌, [], IfOk, ◌++◌};
 ghost use Rattle.catalogue_lock.specs.Tokens.{root_of, view, IsPassOf, IsRootOf};
 ghost use Rattle.load_sessions.specs.Askers.{IsAsker};
 ghost use Rattle.union_load.specs.Asked.{AsksLate, left_by};
 ghost use Rattle.union_load.specs.Sessions.{HasEnded};
+ghost use Rattle.load_sessions.specs.Sessions.{desk_id};
 
 use catalogue_lock::desk::Desk;
 use catalogue_lock::root::Root;
@@ -31,7 +32,7 @@ pub fn start_asker(
     ensures ended { (root_of root.new).ended ≡ (root_of root.old).ended }
     ensures setting { (root_of root.new).setting ≡ (root_of root.old).setting }
     ensures floor { (root_of root.new).floor ≡ (root_of root.old).floor }
-    ensures asker { IsAsker desk.now.board.shared.table_id result }
+    ensures asker { IsAsker (desk_id desk.now) result }
     ensures questions { result.questions ≡ questions }
     ensures own { (view result.pass).own ≡ [] }
     ensures known { (view result.pass).floor ≡ (root_of root.old).floor }

@@ -9,7 +9,8 @@ ghost use Rattle.union_words.specs.Flows.{shelf_flow};
 ghost use Rattle.union_words.specs.Meanings.{libraries_meaning};
 ghost use Rattle.union_files.specs.Inputs.{Gathers, is_open_fault};
 ghost use Rattle.union_files.specs.Courses.{AreReported};
-ghost use Rattle.union_load.specs.Sessions.{ClosesAll, EndsAll, HasRun, HaveRun, RaisesFailed, course_of, courses_of, libraries_of};
+ghost use Rattle.union_load.specs.Sessions.{ClosesAll, EndsAll, HasRun, RaisesFailed, course_of, courses_of, libraries_of, HaveRunAt, HaveRun};
+ghost use Rattle.load_sessions.specs.Sessions.{desk_id};
 
 use crate::faults::first_failed;
 use catalogue_lock::desk::Desk;
@@ -34,7 +35,7 @@ fn end_session<F: Shelf>(
     shelf: &mut F,
 ) -> Result<(), Status>
     requires desk { IsRootOf root.old desk.now }
-    requires ran { HasRun F.Src.name F.Src.faults desk.now.board.shared.table_id (F.files shelf.old)
+    requires ran { HasRun F.Src.name F.Src.faults (desk_id desk.now) (F.files shelf.old)
         (F.opened shelf.old)
         session }
     ensures desk { IsRootOf root.new desk.now }
@@ -80,9 +81,7 @@ fn end_sessions<F: Shelf>(
     shelf: &mut F,
 ) -> Result<(), Status>
     requires desk { IsRootOf root.old desk.now }
-    requires ran { HaveRun F.Src.name F.Src.faults desk.now.board.shared.table_id
-        (F.files shelf.old) (F.opened shelf.old)
-        sessions.old.items }
+    requires ran { HaveRunAt F.Src.Source F.Shelf (desk_id desk.now) shelf.old sessions.old.items }
     ensures desk { IsRootOf root.new desk.now }
     ensures root { EndsAll (courses_of F.Src.name sessions.old.items) (root_of root.old)
         (root_of root.new) }
@@ -115,16 +114,14 @@ pub fn end_all<F: Shelf>(
     shelf: &mut F,
 ) -> Result<(), Status>
     requires desk { IsRootOf root.old desk.now }
-    requires ran { HaveRun F.Src.name F.Src.faults desk.now.board.shared.table_id
-        (F.files shelf.old) (F.opened shelf.old)
-        sessions.items }
+    requires ran { HaveRunAt F.Src.Source F.Shelf (desk_id desk.now) shelf.old sessions.items }
     requires libraries { libraries_of F.Src.name sessions.items ≡ libraries_meaning libraries.now }
     ensures desk { IsRootOf root.new desk.now }
     ensures root { EndsAll (courses_of F.Src.name sessions.items) (root_of root.old)
         (root_of root.new) }
     ensures status { IfErr result (λ status. is_open_fault status ≡ false) }
     ensures gathers { Gathers result (libraries_meaning libraries.now)
-        (shelf_flow F.files F.faults shelf.old shelf.new)
+        (shelf_flow F.Shelf shelf.old shelf.new)
         (λ done contents. AreReported contents (courses_of F.Src.name sessions.items) reports.old
         reports.new) }
 {

@@ -1,11 +1,12 @@
 //! The sessions of a load before they are run: each of the opened files has one, with a pass of its own.
-ghost use Rattle.std.specs.Prelude.{◌≡◌, ◌+◌, ◌++◌, ◌∷◌, ◌<◌, ◌≤◌, [], length, vec_capacity, IfOk, IfErr, OnOk};
+ghost use Rattle.std.specs.Prelude.{◌≡◌, ◌+◌, ◌∷◌, ◌<◌, ◌≤◌, [], length, vec_capacity, IfOk, IfErr, OnOk, ◌++◌};
 ghost use Rattle.catalogue_lock.specs.Tokens.{root_of, IsRootOf};
 ghost use Rattle.union_io.specs.Counts.{SameCounts};
-ghost use Rattle.union_words.specs.Flows.{shelf_flow};
 ghost use Rattle.union_words.specs.Meanings.{libraries_meaning};
-ghost use Rattle.union_files.specs.Inputs.{AreFresh, OpensInOrder, StopsOpening, files_of, state_of};
-ghost use Rattle.union_load.specs.Sessions.{AddsStates, AreReady, IsReadyAs, session_state, session_states};
+ghost use Rattle.union_files.specs.Inputs.{state_of, AreFreshAt, OpensInOrderAt, StopsOpeningAt, AreFresh, OpensInOrder, StopsOpening, files_of};
+ghost use Rattle.union_load.specs.Sessions.{AddsStates, AreReady, IsReadyAs, session_state, AreOf, states_in, session_states};
+ghost use Rattle.load_sessions.specs.Sessions.{desk_id};
+ghost use Rattle.union_words.specs.Flows.{shelf_flow};
 
 use catalogue_lock::desk::Desk;
 use catalogue_lock::root::Root;
@@ -36,7 +37,7 @@ fn session_of<S: Source>(
     ensures made { (root_of root.new).made ≡ (root_of root.old).made + 1 }
     ensures ended { (root_of root.new).ended ≡ (root_of root.old).ended }
     ensures setting { (root_of root.new).setting ≡ (root_of root.old).setting }
-    ensures ready { IsReadyAs desk.now.board.shared.table_id prefer.now (root_of root.old).made
+    ensures ready { IsReadyAs (desk_id desk.now) prefer.now (root_of root.old).made
         result }
     ensures state { session_state S.name S.left S.faults result
         ≡ state_of S.name S.left S.faults file }
@@ -65,14 +66,14 @@ fn add_session<S: Source>(
     requires numbers { (root_of root.old).made ≡ length sessions.old.items }
     requires few { length sessions.old.items + 1 < 4294967296 }
     requires room { length sessions.old.items + 1 ≤ vec_capacity sessions.old }
-    requires ready { AreReady desk.now.board.shared.table_id prefer.now 0 sessions.old.items }
+    requires ready { AreReady (desk_id desk.now) prefer.now 0 sessions.old.items }
     ensures desk { IsRootOf root.new desk.now }
     ensures numbers { (root_of root.new).made ≡ length sessions.new.items }
     ensures one { length sessions.new.items ≡ length sessions.old.items + 1 }
     ensures room { vec_capacity sessions.old ≤ vec_capacity sessions.new }
     ensures ended { (root_of root.new).ended ≡ (root_of root.old).ended }
     ensures setting { (root_of root.new).setting ≡ (root_of root.old).setting }
-    ensures ready { AreReady desk.now.board.shared.table_id prefer.now 0 sessions.new.items }
+    ensures ready { AreReady (desk_id desk.now) prefer.now 0 sessions.new.items }
     ensures states { AddsStates S.name S.left S.faults sessions.old.items sessions.new.items
         (file ∷ []) }
 {
@@ -96,12 +97,12 @@ fn add_sessions<S: Source>(
     requires few { length sessions.old.items + length opened.old.items < 4294967296 }
     requires room { length sessions.old.items + length opened.old.items
         ≤ vec_capacity sessions.old }
-    requires ready { AreReady desk.now.board.shared.table_id prefer.now 0 sessions.old.items }
+    requires ready { AreReady (desk_id desk.now) prefer.now 0 sessions.old.items }
     ensures desk { IsRootOf root.new desk.now }
     ensures numbers { (root_of root.new).made ≡ length sessions.new.items }
     ensures ended { (root_of root.new).ended ≡ (root_of root.old).ended }
     ensures setting { (root_of root.new).setting ≡ (root_of root.old).setting }
-    ensures ready { AreReady desk.now.board.shared.table_id prefer.now 0 sessions.new.items }
+    ensures ready { AreReady (desk_id desk.now) prefer.now 0 sessions.new.items }
     ensures states { AddsStates S.name S.left S.faults sessions.old.items sessions.new.items
         opened.old.items }
 {
@@ -130,19 +131,11 @@ pub fn start_sessions<F: Shelf>(
     ensures few { IfOk result (λ sessions. length sessions.items ≤ 64) }
     ensures ended { (root_of root.new).ended ≡ [] }
     ensures setting { (root_of root.new).setting ≡ (root_of root.old).setting }
-    ensures ready { IfOk result (λ sessions. AreReady desk.now.board.shared.table_id
-        loading.now.prefer 0 sessions.items) }
-    ensures opened { IfOk result (λ sessions. files_of
-        (session_states F.Src.name F.Src.left F.Src.faults sessions.items)
-        ≡ libraries_meaning loading.now.libraries) }
-    ensures fresh { IfOk result (λ sessions. AreFresh (F.files shelf.new) (F.opened shelf.new)
-        (session_states F.Src.name F.Src.left F.Src.faults sessions.items)) }
-    ensures in_order { IfErr result (λ status. OpensInOrder status
-        (libraries_meaning loading.now.libraries)
-        (F.opened shelf.old) (F.opened shelf.new)) }
-    ensures stops { IfErr result (λ status. StopsOpening status
-        (libraries_meaning loading.now.libraries)
-        (shelf_flow F.files F.faults shelf.old shelf.new)) }
+    ensures ready { IfOk result (λ sessions. AreReady (desk_id desk.now) loading.now.prefer 0 sessions.items) }
+    ensures opened { IfOk result (λ all. AreOf F.Src.Source (libraries_meaning loading.now.libraries) all.items) }
+    ensures fresh { IfOk result (λ sessions. AreFreshAt F.Shelf shelf.new (states_in F.Src.Source sessions.items)) }
+    ensures in_order { IfErr result (OpensInOrderAt F.Shelf shelf.old shelf.new (libraries_meaning loading.now.libraries)) }
+    ensures stops { IfErr result (StopsOpeningAt F.Shelf shelf.old shelf.new (libraries_meaning loading.now.libraries)) }
 {
     let Ok(mut sessions) = Vec::with_capacity(alloc, loading.libraries.len()) else {
         return Err(Status::Memory);

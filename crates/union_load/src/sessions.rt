@@ -8,11 +8,11 @@
 ghost use Rattle.std.specs.Prelude.{◌≡◌, ◌<◌, ◌≤◌, ◌+◌, ◌==◌, ◌&&◌, [], IfOk, IfErr, length, not};
 ghost use Rattle.catalogue_core.specs.Catalogues.{by_names};
 ghost use Rattle.catalogue_lock.specs.Tokens.{root_of, view, IsPassOf, IsRootOf};
-ghost use Rattle.union_words.specs.Flows.{shelf_flow};
 ghost use Rattle.union_words.specs.Meanings.{libraries_meaning};
-ghost use Rattle.union_files.specs.Inputs.{Gathers, OpensInOrder, deliveries};
+ghost use Rattle.union_files.specs.Inputs.{OpensInOrderAt, Gathers, OpensInOrder, deliveries};
 ghost use Rattle.union_load.specs.Asked.{AnswersBeside, AnswersLate, HasReplies};
-ghost use Rattle.union_load.specs.Sessions.{EndIn, IsNumbered, IsOfPasses, KnowsAll};
+ghost use Rattle.union_load.specs.Sessions.{EndIn, IsNumbered, IsOfPasses, KnowsAll, GathersUnion};
+ghost use Rattle.union_words.specs.Flows.{shelf_flow};
 ghost use Rattle.union_files.specs.Unions.{HasUnited};
 
 use crate::asking::{ask_late, end_asker, start_asker};
@@ -151,14 +151,8 @@ pub fn load_and_ask<R: Threads + Wait + Sync, F: Shelf, G: Gate>(
     shelf: &mut F,
     gate: &G,
 ) -> Result<Watched, Status>
-    ensures gathers { Gathers result (libraries_meaning loading.now.libraries)
-        (shelf_flow F.files F.faults shelf.old shelf.new)
-        (λ watched contents. HasUnited start.names
-        (deliveries loading.now.prefer contents (libraries_meaning loading.now.libraries))
-        watched.loaded) }
-    ensures in_order { IfErr result (λ status. OpensInOrder status
-        (libraries_meaning loading.now.libraries)
-        (F.opened shelf.old) (F.opened shelf.new)) }
+    ensures gathers { GathersUnion F.Shelf shelf.old shelf.new start.names loading.now result }
+    ensures in_order { IfErr result (OpensInOrderAt F.Shelf shelf.old shelf.new (libraries_meaning loading.now.libraries)) }
     ensures beside { IfOk result (AnswersBeside start.names start.questions.beside.items) }
     ensures late { IfOk result (AnswersLate start.names start.questions.late.items) }
 {
