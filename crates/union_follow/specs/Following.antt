@@ -1,5 +1,5 @@
 -- What libraries come to that are loaded one after the other.
-use Rattle.std.specs.Prelude.{◌≤◌, ℕ, List, [], ◌∷◌, ⊤, length}
+use Rattle.std.specs.Prelude.{◌≤◌, ℕ, List, [], ◌∷◌, ⊤, length, Result}
 use Rattle.std.specs.FinMap.{empty}
 use Rattle.std.specs.List.{AllByRecursion}
 use Rattle.catalogue_core.specs.Entries.{entries_of}
@@ -9,6 +9,12 @@ use Rattle.catalogue_query.specs.declared.answer.Answer.{Answer}
 use Rattle.catalogue_query.specs.declared.query.Query.{Query}
 use Rattle.load_sessions.specs.declared.watched.Watched.{Watched}
 use Rattle.union_files.specs.Deliveries.{Delivery}
+use Rattle.union_files.specs.Inputs.{Gathers, deliveries}
+use Rattle.union_io.specs.declared.shelf.Shelf.{Ghosts as ShelfGhosts}
+use Rattle.union_words.specs.Flows.{shelf_flow}
+use Rattle.union_words.specs.Meanings.{libraries_meaning}
+use Rattle.union_words.specs.declared.libraries.Libraries.{Libraries}
+use Rattle.union_words.specs.declared.status.Status.{Status}
 use Rattle.union_files.specs.Unions.{HasUnited}
 use Rattle.union_files.specs.declared.loaded.Loaded.{Loaded}
 
@@ -35,3 +41,9 @@ AnswersBeside questions watched = AreReplies empty watched.loaded.catalogue.hist
 abbrev pub AnswersLate : List Query → Watched → Type 0
 AnswersLate questions watched =
     AreReplies empty watched.loaded.catalogue.history (length watched.loaded.catalogue.history) questions watched.late.items
+
+-- the files of the libraries were read to their ends and their batches applied so, or the run stops there
+abbrev pub GathersFollowed : {F S T : Type 0} → ShelfGhosts F S → F → F → Libraries → Result T Status → (T → Loaded) → Type 0
+GathersFollowed shelf old new libraries result loaded_of =
+    Gathers result (libraries_meaning libraries) (shelf_flow shelf old new)
+    (λ done contents. HasFollowed (deliveries [] contents (libraries_meaning libraries)) (loaded_of done))

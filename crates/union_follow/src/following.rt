@@ -4,12 +4,12 @@
 //! while another asks. The publisher and its viewer are closed on every way out.
 ghost use Rattle.std.specs.Prelude.{◌≡◌, ◌<◌, ◌≤◌, [], IfErr, IfOk, OnOk, false, length};
 ghost use mathlib.Core.List.{IsPrefix};
-ghost use Rattle.union_words.specs.Flows.{shelf_flow};
 ghost use Rattle.union_words.specs.Meanings.{libraries_meaning};
-ghost use Rattle.union_files.specs.Inputs.{AreFresh, Gathers, OpensInOrder, deliveries, files_of, is_open_fault, states_of};
-ghost use Rattle.union_follow.specs.Following.{AnswersBeside, AnswersLate, HasFollowed, RepliedOver};
-ghost use Rattle.union_follow.specs.Loads.{RunsLoad};
-ghost use Rattle.union_follow.specs.Turning.{AreTurnedFrom, IsShown};
+ghost use Rattle.union_files.specs.Inputs.{is_open_fault, AreFreshAt, OpensInOrderAt, opened_states, opened_files, AreFresh, Gathers, OpensInOrder, deliveries, files_of, states_of};
+ghost use Rattle.union_follow.specs.Following.{AnswersBeside, AnswersLate, RepliedOver, GathersFollowed, HasFollowed};
+ghost use Rattle.union_follow.specs.Loads.{RunsLoad, GathersTurns};
+ghost use Rattle.union_follow.specs.Turning.{IsShown, AreTurnedFrom};
+ghost use Rattle.union_words.specs.Flows.{shelf_flow};
 
 use crate::asking::view_all;
 use crate::libraries::{Halt, load_rest, return_all};
@@ -120,10 +120,8 @@ fn gather<R: Threads + Wait + Sync, F: Shelf>(
     shelf: &mut F,
 ) -> Result<(), Status>
     requires few { length running.old.opened.items ≤ 64 }
-    requires fresh { AreFresh (F.files shelf.old) (F.opened shelf.old)
-        (states_of F.Src.name F.Src.left F.Src.faults running.old.opened.items) }
-    requires libraries { libraries_meaning libraries.now
-        ≡ files_of (states_of F.Src.name F.Src.left F.Src.faults running.old.opened.items) }
+    requires fresh { AreFreshAt F.Shelf shelf.old (opened_states F.Src.Source running.old.opened.items) }
+    requires libraries { libraries_meaning libraries.now ≡ opened_files F.Src.Source running.old.opened.items }
     requires shown { IsShown running.old.load.catalogue.history running.old.load.publisher }
     requires empty { running.old.load.catalogue.history ≡ [] }
     requires none { asking.old.replies.items ≡ [] }
@@ -131,10 +129,7 @@ fn gather<R: Threads + Wait + Sync, F: Shelf>(
     ensures viewer { asking.new.viewer.book ≡ asking.old.viewer.book }
     ensures shown { OnOk result (IsShown running.new.load.catalogue.history
         running.new.load.publisher) }
-    ensures gathers { Gathers result (libraries_meaning libraries.now)
-        (shelf_flow F.files F.faults shelf.old shelf.new)
-        (λ done contents. AreTurnedFrom contents 0 (libraries_meaning libraries.now)
-        [] running.new.load.catalogue.history running.old.load.reports running.new.load.reports) }
+    ensures gathers { GathersTurns F.Shelf shelf.old shelf.new libraries.now running.old.load running.new.load result }
     ensures names { F.opened shelf.new ≡ F.opened shelf.old }
     ensures status { IfErr result (λ status. is_open_fault status ≡ false) }
     ensures questions { asking.new.questions ≡ asking.old.questions }
@@ -248,12 +243,8 @@ pub fn follow_and_ask<R: Threads + Wait + Sync, F: Shelf>(
     questions: Questions,
     shelf: &mut F,
 ) -> Result<Watched, Status>
-    ensures gathers { Gathers result (libraries_meaning libraries.now)
-        (shelf_flow F.files F.faults shelf.old shelf.new)
-        (λ watched contents. HasFollowed (deliveries [] contents (libraries_meaning libraries.now))
-        watched.loaded) }
-    ensures in_order { IfErr result (λ status. OpensInOrder status (libraries_meaning libraries.now)
-        (F.opened shelf.old) (F.opened shelf.new)) }
+    ensures gathers { GathersFollowed F.Shelf shelf.old shelf.new libraries.now result (λ watched. watched.loaded) }
+    ensures in_order { IfErr result (OpensInOrderAt F.Shelf shelf.old shelf.new (libraries_meaning libraries.now)) }
     ensures beside { IfOk result (AnswersBeside questions.beside.items) }
     ensures late { IfOk result (AnswersLate questions.late.items) }
 {

@@ -4,7 +4,7 @@
 //! are given back when the load has ended.
 ghost use Rattle.std.specs.Prelude.{◌≡◌, ◌+◌, ◌<◌, OnOk, length};
 ghost use Rattle.std.specs.VecDeque.{deque_capacity, deque_len};
-ghost use Rattle.union_files.specs.Inputs.{states_of};
+ghost use Rattle.union_files.specs.Inputs.{states_of, opened_states};
 ghost use Rattle.union_io.specs.Counts.{SameCounts};
 ghost use Rattle.union_follow.specs.Loads.{Halts};
 ghost use Rattle.union_follow.specs.Turning.{AreCalm, AreListed, IsBelow, IsShown, RaisesAt, SameFiles};
@@ -70,8 +70,7 @@ pub fn return_all<F: Shelf>(opened: &mut VecDeque<OpenedFile<F::Src>>, shelf: &m
     ensures names { F.opened shelf.new ≡ F.opened shelf.old }
     ensures calm { AreCalm (states_of F.Src.name F.Src.left F.Src.faults opened.old.items)
         → SameCounts (F.faults shelf.old) (F.faults shelf.new) }
-    ensures failed { RaisesAt (states_of F.Src.name F.Src.left F.Src.faults opened.old.items)
-        (F.faults shelf.old) (F.faults shelf.new) }
+    ensures failed { RaisesAt (opened_states F.Src.Source opened.old.items) (F.faults shelf.old) (F.faults shelf.new) }
 {
     let Some(file) = opened.pop_front() else {
         return;
