@@ -1,5 +1,5 @@
 -- What the running of lines of a script says, one or many.
-use Rattle.std.specs.Prelude.{◌≡◌, ℕ, ◌<◌, Bool, false, List, ◌∷◌, ◌++◌, length, Ok, Err, IfSome}
+use Rattle.std.specs.Prelude.{◌≡◌, ℕ, ◌<◌, Bool, false, List, [], ◌∷◌, ◌++◌, length, Ok, Err, IfSome}
 use Rattle.std.specs.declared.option.Option.{Option}
 use Rattle.std.specs.declared.result.Result.{Result}
 use Rattle.std.specs.Io.KnownBytes.{Appends}
@@ -15,7 +15,7 @@ use Rattle.union_words.specs.declared.input.Input.{Input}
 use Rattle.union_words.specs.declared.input.Input.TheVariants.{Library}
 use Rattle.union_words.specs.declared.status.Status.{Status}
 use Rattle.union_words.specs.declared.status.Status.TheVariants.{Done, DoneWithRefusals, Usage, OpenFault, ReadFault, WriteFault, TooLong, Memory}
-use Rattle.union_script.specs.Texts.{IsExport, IsWorkList, ScriptText, has_refusals}
+use Rattle.union_script.specs.Texts.{IsExport, IsWorkList, ScriptText, has_refusals, script_of}
 use Rattle.library_batches.specs.Reading.{most_bytes}
 use Rattle.union_files.specs.Limits.{Contents, AreWithin}
 use Rattle.union_script.specs.Inputs.{files_loaded}
@@ -95,6 +95,14 @@ abbrev pub LinesRun : Result Bool Status → List ScriptLine → List HistoryEnt
 LinesRun (Ok refused) lines history now shelf out =
     IsCalm shelf × (out.after ≡ out.before) × IfSome shelf.files (λ contents. HasRun contents lines history now refused out.old out.new)
 LinesRun (Err status) lines history now shelf out = LinesStop status lines history shelf out
+
+-- one line was run that changes nothing, whatever shelf there is at which nothing failed
+abbrev pub RunsAlone : Result Bool Status → ScriptLine → List HistoryEntry → Outflow → Type 0
+RunsAlone result line history out = (shelf : ShelfFlow) → IsCalm shelf → LinesRun result (line ∷ []) history history shelf out
+
+-- all lines of a text were run, from no history on
+abbrev pub RunsAll : Result Bool Status → List ℕ → ShelfFlow → Outflow → Type 0
+RunsAll result text shelf out = (now : List HistoryEntry) × LinesRun result (script_of text) [] now shelf out
 
 -- a text was written, and what is told is whether something was refused; or why it was not written to its end
 abbrev pub Says : Result Bool Status → List ℕ → Bool → Outflow → Type 0

@@ -1,9 +1,9 @@
 //! A line of a script that asks something of the catalogue.
-ghost use Rattle.std.specs.Prelude.{◌≡◌, ◌∷◌, [], IfOk};
+ghost use Rattle.std.specs.Prelude.{◌≡◌, IfOk, ◌∷◌, []};
 ghost use Rattle.std.specs.FinMap.{empty};
-ghost use Rattle.union_words.specs.Flows.{ShelfFlow, IsCalm, outflow};
+ghost use Rattle.union_words.specs.Flows.{outflow, ShelfFlow, IsCalm};
 ghost use Rattle.union_words.specs.ScriptLines.{Ask as AskLine};
-ghost use Rattle.union_script.specs.Lines.{LinesRun};
+ghost use Rattle.union_script.specs.Lines.{RunsAlone, LinesRun};
 ghost use Rattle.union_script.specs.Texts.{IsAnswer};
 
 use crate::saying::say;
@@ -35,9 +35,7 @@ pub fn run_ask<O: Sink>(
     out: &mut O,
 ) -> Result<bool, Status>
     requires { catalogue.now.names ≡ empty }
-    ensures { (shelf : ShelfFlow) → IsCalm shelf
-        → LinesRun result (AskLine line.now ∷ []) catalogue.now.history catalogue.now.history shelf
-        (outflow O.written O.faults out.old out.new) }
+    ensures { RunsAlone result (AskLine line.now) catalogue.now.history (outflow O.Sink out.old out.new) }
 {
     match Query::read(alloc, line) {
         Ok(query) => match answer_text(alloc, catalogue, &query) {

@@ -36,8 +36,8 @@ fn run_load<L: Ledger, F: Shelf, O: Sink>(
     ensures told { OnOk result (union.new.told ≡ union.old.told) }
     ensures run { LinesRun result (LoadLine union.old.told (file_meaning file.now) ∷ [])
         union.old.catalogue.history union.new.catalogue.history
-        (shelf_flow F.files F.faults shelf.old shelf.new)
-        (outflow O.written O.faults out.old out.new) }
+        (shelf_flow F.Shelf shelf.old shelf.new)
+        (outflow O.Sink out.old out.new) }
 {
     match load_file(alloc, file, union, shelf) {
         Ok(report) => say(report.text.as_slice(), report.refused, out),
@@ -47,7 +47,7 @@ fn run_load<L: Ledger, F: Shelf, O: Sink>(
 
 /// Writes the export. Which fields were left out is not told.
 fn run_export<O: Sink>(alloc: Global, catalogue: &Catalogue, out: &mut O) -> Result<bool, Status>
-    ensures { SaysExport catalogue.now result (outflow O.written O.faults out.old out.new) }
+    ensures { SaysExport catalogue.now result (outflow O.Sink out.old out.new) }
 {
     let mut left = Vec::new(alloc);
     match export(alloc, catalogue, out, &mut left) {
@@ -59,7 +59,7 @@ fn run_export<O: Sink>(alloc: Global, catalogue: &Catalogue, out: &mut O) -> Res
 
 /// Writes the list of the works.
 fn run_works<O: Sink>(alloc: Global, catalogue: &Catalogue, out: &mut O) -> Result<bool, Status>
-    ensures { SaysWorks catalogue.now result (outflow O.written O.faults out.old out.new) }
+    ensures { SaysWorks catalogue.now result (outflow O.Sink out.old out.new) }
 {
     match works_text(alloc, catalogue, out) {
         Ok(()) => Ok(false),
@@ -81,8 +81,8 @@ fn run_line<L: Ledger, F: Shelf, O: Sink>(
         ≡ tells_after union.old.told (script_line line.now)) }
     ensures run { LinesRun result (told_line union.old.told (script_line line.now) ∷ [])
         union.old.catalogue.history union.new.catalogue.history
-        (shelf_flow F.files F.faults shelf.old shelf.new)
-        (outflow O.written O.faults out.old out.new) }
+        (shelf_flow F.Shelf shelf.old shelf.new)
+        (outflow O.Sink out.old out.new) }
 {
     match ScriptLine::read(line) {
         ScriptLine::Load(file) => run_load(alloc, &file, union, shelf, out),
@@ -110,8 +110,8 @@ pub fn run_unskipped<L: Ledger, F: Shelf, O: Sink>(
         ≡ told_after union.old.told (asked_by (line.now ∷ []))) }
     ensures run { LinesRun result (told_from union.old.told (asked_by (line.now ∷ [])))
         union.old.catalogue.history union.new.catalogue.history
-        (shelf_flow F.files F.faults shelf.old shelf.new)
-        (outflow O.written O.faults out.old out.new) }
+        (shelf_flow F.Shelf shelf.old shelf.new)
+        (outflow O.Sink out.old out.new) }
 {
     if is_skipped(line) {
         Ok(false)

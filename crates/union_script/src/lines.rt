@@ -31,8 +31,8 @@ pub fn run_lines<L: Ledger, F: Shelf, O: Sink>(
     requires { union.old.told ≡ false }
     ensures run { LinesRun result (script_of script.now) union.old.catalogue.history
         union.new.catalogue.history
-        (shelf_flow F.files F.faults shelf.old shelf.new)
-        (outflow O.written O.faults out.old out.new) }
+        (shelf_flow F.Shelf shelf.old shelf.new)
+        (outflow O.Sink out.old out.new) }
 {
     let mut lines = Lines::of(script);
     let mut refused = false;

@@ -122,7 +122,7 @@ pub fn load_file<L: Ledger, F: Shelf>(
     ensures files { F.files shelf.new ≡ F.files shelf.old }
     ensures told { OnOk result (union.new.told ≡ union.old.told) }
     ensures reads { ReadsFile result (input_of (file_meaning file.now))
-        (shelf_flow F.files F.faults shelf.old shelf.new)
+        (shelf_flow F.Shelf shelf.old shelf.new)
         (λ report bytes. IsLoaded union.old.told file.now.library (frames bytes)
         union.old.catalogue.history union.new.catalogue.history report) }
 {

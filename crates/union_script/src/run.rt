@@ -1,11 +1,11 @@
 //! The run of a script.
-ghost use Rattle.std.specs.Prelude.{◌≡◌, ◌<◌, List, [], IfOk};
+ghost use Rattle.std.specs.Prelude.{◌≡◌, ◌<◌, IfOk, List, []};
 ghost use Rattle.catalogue_core.specs.Catalogues.{empty_catalogue};
-ghost use Rattle.catalogue_editions.specs.declared.history_entry.HistoryEntry.{HistoryEntry};
 ghost use Rattle.union_words.specs.Flows.{outflow, shelf_flow};
 ghost use Rattle.union_words.specs.Statuses.{end_by};
-ghost use Rattle.union_script.specs.Lines.{LinesRun};
+ghost use Rattle.union_script.specs.Lines.{RunsAll, LinesRun};
 ghost use Rattle.union_script.specs.Runs.{IsScript};
+ghost use Rattle.catalogue_editions.specs.declared.history_entry.HistoryEntry.{HistoryEntry};
 ghost use Rattle.union_script.specs.Texts.{script_of};
 
 use crate::lines::run_lines;
@@ -46,9 +46,7 @@ fn run_counted<L: Ledger, F: Shelf, O: Sink>(
     requires name { blank.name ≡ L.name }
     requires parts { blank.parts ≡ L.parts }
     requires some { 0 < L.parts }
-    ensures run { (now : List HistoryEntry) × LinesRun result (script_of script.now) [] now
-        (shelf_flow F.files F.faults shelf.old shelf.new)
-        (outflow O.written O.faults out.old out.new) }
+    ensures run { RunsAll result script.now (shelf_flow F.Shelf shelf.old shelf.new) (outflow O.Sink out.old out.new) }
 {
     match empty_catalogue(alloc, hashing) {
         Ok(catalogue) => {
@@ -79,9 +77,7 @@ fn run_text<F: Shelf, O: Sink>(
     shelf: &mut F,
     out: &mut O,
 ) -> Result<bool, Status>
-    ensures run { (now : List HistoryEntry) × LinesRun result (script_of script.now) [] now
-        (shelf_flow F.files F.faults shelf.old shelf.new)
-        (outflow O.written O.faults out.old out.new) }
+    ensures run { RunsAll result script.now (shelf_flow F.Shelf shelf.old shelf.new) (outflow O.Sink out.old out.new) }
 {
     run_counted::<Brand, F, O>(alloc, hashing, script, shelf, out, Blank::new(1))
 }
@@ -116,8 +112,8 @@ pub fn script_run<F: Shelf, O: Sink>(
     out: &mut O,
 ) -> Status
     ensures run { IsScript path.now
-        (shelf_flow F.files F.faults shelf.old shelf.new)
-        (outflow O.written O.faults out.old out.new)
+        (shelf_flow F.Shelf shelf.old shelf.new)
+        (outflow O.Sink out.old out.new)
         result }
 {
     match read_text_file(alloc, path, Input::Script, shelf) {

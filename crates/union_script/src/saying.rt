@@ -8,7 +8,7 @@ use union_words::status::Status;
 
 /// Writes a text, and tells again whether something is refused.
 pub fn say<O: Sink>(text: &[u8], refused: bool, out: &mut O) -> Result<bool, Status>
-    ensures { Says result text.now refused (outflow O.written O.faults out.old out.new) }
+    ensures { Says result text.now refused (outflow O.Sink out.old out.new) }
 {
     match put_all(out, text) {
         Ok(()) => Ok(refused),
