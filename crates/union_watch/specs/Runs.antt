@@ -9,6 +9,7 @@ use Rattle.catalogue_editions.specs.declared.history_entry.HistoryEntry.{History
 use Rattle.catalogue_export.specs.Sources.{SourcesValue, plain, with_records, text_of, line_of, left_of}
 use Rattle.catalogue_export.specs.WorkLists.{works_text_of}
 use Rattle.iso2709_frame.specs.Frames.{frames}
+use Rattle.union_base.specs.declared.record_id.RecordId.{RecordId}
 use Rattle.union_io.specs.Writing.{AppendsFront}
 use Rattle.library_batches.specs.Reading.{most_bytes}
 use Rattle.library_batches.specs.Refused.{refused}
@@ -37,6 +38,7 @@ use Rattle.union_words.specs.declared.status.Status.TheVariants.{Done, Usage, Wr
 use Rattle.union_files.specs.Endings.{EndsAtInput, end_with}
 use Rattle.union_watch.specs.declared.check.Findings.{Findings}
 use Rattle.union_watch.specs.declared.shown.Shown.{Shown}
+use Rattle.union_watch.specs.declared.shown.ShownBy.{ShownBy}
 use Rattle.union_watch.specs.declared.shown.Shown.TheVariants.{Export, Works}
 
 -- how a check of a stream ends that is done
@@ -46,10 +48,6 @@ end_of stream = end_with (refused (frames stream))
 -- what is found in a file: the text of its check, and how that ends
 abbrev pub Finds : List ℕ → Findings → List ℕ → Type 0
 Finds library found bytes = (found.text.items ≡ check_text library (frames bytes)) × (found.end ≡ end_of bytes)
-
--- by what is told of a source
-abbrev pub inflow : {S : Type 0} → (S → Option (List ℕ)) → (S → ℕ) → S → S → Inflow
-inflow left faults old new = record { told = left old; before = faults old; after = faults new }
 
 -- `check` of a library's file
 pub record IsCheck (library : List ℕ) (file : Inflow) (out : Outflow) (status : Status) : Type 0 where
@@ -152,6 +150,10 @@ pub record IsReported (noted : List ℕ) (end : Status) (notes : Outflow) (statu
   pub part : status ≡ WriteFault → AppendsFront notes.old notes.new noted × HasFailedAt notes
   pub memory : status ≡ Memory → IsNoted notes (early_text Memory)
 
+-- the reports on what was loaded, and a line for each edition of which fields were left out
+abbrev pub ReportsLeft : Loaded → List (RecordId × ℕ) → Outflow → Status → Type 0
+ReportsLeft loaded left notes status = IsReported (loaded.reports.items ++ flat_map left_line left) (end_by loaded.refused) notes status
+
 -- two texts, one on each output and the second after the first: all of both, or a write failed, or memory ran out before the second
 pub record Written (shown noted : List ℕ) (end : Status) (out notes : Outflow) (status : Status) : Type 0 where
   pub kinds : (status ≡ end) ⊎ ((status ≡ WriteFault) ⊎ (status ≡ Memory))
@@ -166,6 +168,10 @@ Shows showing loaded out notes status =
     × Written (showing.shown loaded.catalogue.names loaded.catalogue.history editions)
     (loaded.reports.items ++ showing.noted loaded.catalogue.names loaded.catalogue.history editions) (end_by loaded.refused) out notes status
 
+-- by what the run is to show
+abbrev pub ShowsBy : ShownBy → Loaded → Outflow → Outflow → Status → Type 0
+ShowsBy by loaded out notes status = Shows (showing_of by.shown) loaded out notes status
+
 -- what `watch` shows of what was loaded and asked
 abbrev pub answered_text : Answered → List ℕ
 answered_text answered =
@@ -175,3 +181,7 @@ answered_text answered =
 -- and how it ends: whether a frame or a line is refused
 abbrev pub answered_end : Answered → Status
 answered_end answered = end_by (answered.loaded.refused || answered.refused)
+
+-- both texts of `watch`: what it shows, and the reports
+abbrev pub Tells : Answered → Outflow → Outflow → Status → Type 0
+Tells answered out notes status = Written (answered_text answered) answered.loaded.reports.items (answered_end answered) out notes status

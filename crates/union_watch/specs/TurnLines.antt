@@ -27,6 +27,10 @@ turns_from turn (entry ∷ history) = turn_of turn entry ∷ turns_from (turn + 
 unfoldable pub turn_text : TurnLine → List ℕ
 turn_text line = codes "turn " ++ (six_digits line.turn ++ (counted line.library line.operations ++ line_feed ∷ []))
 
+-- of an entry, as the turn of that number
+abbrev pub turn_line : ℕ → HistoryEntry → List ℕ
+turn_line turn entry = turn_text (turn_of turn entry)
+
 -- a line for each turn of a history, the first of which has the number 1
 abbrev pub turns_text : List HistoryEntry → List ℕ
 turns_text history = flat_map turn_text (turns_from 1 history)

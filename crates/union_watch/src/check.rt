@@ -4,9 +4,9 @@
 //! grows with the number of refused frames alone.
 ghost use Rattle.std.specs.Prelude.{◌≡◌, ◌≢◌, ◌++◌, IsTrue, IfOk, OnOk};
 ghost use Rattle.union_files.specs.Readings.{Reads};
-ghost use Rattle.union_watch.specs.Runs.{Finds, IsCheck, inflow};
+ghost use Rattle.union_watch.specs.Runs.{Finds, IsCheck};
 ghost use Rattle.library_batches.specs.Reading.{most_bytes};
-ghost use Rattle.union_words.specs.Flows.{outflow};
+ghost use Rattle.union_words.specs.Flows.{inflow, outflow};
 ghost use Rattle.union_words.specs.Statuses.{is_done};
 ghost use Rattle.union_words.specs.declared.input.Input.{Input as InputModel};
 ghost use Rattle.union_watch.specs.Tallies.{IsTallyOf, IsTextOf, tally_line};
@@ -38,7 +38,7 @@ struct Findings {
 /// Counts the frames of a source.
 fn count_frames<S: Source>(alloc: Global, source: &mut S) -> Result<Tally, Stop>
     ensures name { S.name source.new ≡ S.name source.old }
-    ensures reads { Reads most_bytes result (inflow S.left S.faults source.old source.new)
+    ensures reads { Reads most_bytes result (inflow S.Source source.old source.new)
         IsTallyOf }
 {
     let mut reader = FrameReader::open(alloc, LARGEST_SOURCE)?;
@@ -83,7 +83,7 @@ fn check_source<S: Source>(
     source: &mut S,
 ) -> Result<Findings, Stop>
     ensures name { S.name source.new ≡ S.name source.old }
-    ensures reads { Reads most_bytes result (inflow S.left S.faults source.old source.new)
+    ensures reads { Reads most_bytes result (inflow S.Source source.old source.new)
         (Finds library.now) }
     ensures end { IfOk result (λ found. IsTrue (is_done found.end)) }
 {
@@ -113,8 +113,8 @@ pub fn check_run<S: Source, O: Sink>(
 ) -> Status
     ensures name { S.name source.new ≡ S.name source.old }
     ensures run { IsCheck library.now
-        (inflow S.left S.faults source.old source.new)
-        (outflow O.written O.faults out.old out.new)
+        (inflow S.Source source.old source.new)
+        (outflow O.Sink out.old out.new)
         result }
     ensures open { (input : InputModel) → result ≢ Status.OpenFault input }
 {

@@ -12,7 +12,7 @@ use union_words::status::Status;
 
 /// Writes the one line of a run that ended early. Whether that could be written changes nothing else.
 pub fn put_early<N: Sink>(notes: &mut N, status: &Status)
-    ensures { IsNoted (outflow N.written N.faults notes.old notes.new)
+    ensures { IsNoted (outflow N.Sink notes.old notes.new)
         (early_text status.now) }
 {
     let (front, name, end) = status.early_parts();

@@ -21,8 +21,8 @@ pub fn check_file<F: Shelf, O: Sink>(
     out: &mut O,
 ) -> Status
     ensures run { IsCheck library.now
-        (file_flow (shelf_flow F.files F.faults shelf.old shelf.new) path.now)
-        (outflow O.written O.faults out.old out.new)
+        (file_flow (shelf_flow F.Shelf shelf.old shelf.new) path.now)
+        (outflow O.Sink out.old out.new)
         result }
     ensures others { SameElsewhere (F.faults shelf.old) (F.faults shelf.new) path.now }
 {

@@ -8,7 +8,7 @@ ghost use Rattle.catalogue_core.specs.Histories.{AreEditionsOf};
 ghost use Rattle.catalogue_editions.specs.declared.edition.Edition.{Edition as EditionModel};
 ghost use Rattle.catalogue_export.specs.Sources.{left_of};
 ghost use Rattle.catalogue_export.specs.Writing.{HasWritten, outflow as output};
-ghost use Rattle.union_watch.specs.Runs.{listed, showing_of, shown_by, sources_of, IsReported, Shows};
+ghost use Rattle.union_watch.specs.Runs.{listed, shown_by, sources_of, Shows, ReportsLeft, ShowsBy, showing_of, IsReported};
 
 use crate::notes::put_early;
 use crate::shown::{Shown, ShownBy};
@@ -66,10 +66,7 @@ pub fn write_reports<N: Sink>(
     left: &[(RecordId, usize)],
     notes: &mut N,
 ) -> Status
-    ensures { IsReported (loaded.reports.items ++ flat_map left_line left.now)
-        (end_by loaded.refused)
-        (outflow N.written N.faults notes.old notes.new)
-        result }
+    ensures { ReportsLeft loaded left.now (outflow N.Sink notes.old notes.new) result }
 {
     let (catalogue, reports, refused) = loaded.into_parts();
     match with_left_lines(alloc, reports, left) {
@@ -104,8 +101,8 @@ fn write_export<R: Threads + Sync, F: ExportForm + Send, O: Sink, N: Sink>(
     notes: &mut N,
 ) -> Status
     ensures { Shows (shown_by F.shown making.owners) loaded
-        (outflow O.written O.faults out.old out.new)
-        (outflow N.written N.faults notes.old notes.new)
+        (outflow O.Sink out.old out.new)
+        (outflow N.Sink notes.old notes.new)
         result }
 {
     let mut left = Vec::new(alloc);
@@ -154,8 +151,8 @@ fn write_works<R: Threads + Sync, O: Sink, N: Sink>(
     notes: &mut N,
 ) -> Status
     ensures { Shows listed loaded
-        (outflow O.written O.faults out.old out.new)
-        (outflow N.written N.faults notes.old notes.new)
+        (outflow O.Sink out.old out.new)
+        (outflow N.Sink notes.old notes.new)
         result }
 {
     match finished_works_text(rt, alloc, &loaded.catalogue, workers.number(), out) {
@@ -177,10 +174,7 @@ pub fn write_shown<R: Threads + Sync, O: Sink, N: Sink>(
     out: &mut O,
     notes: &mut N,
 ) -> Status
-    ensures { Shows (showing_of by.shown) loaded
-        (outflow O.written O.faults out.old out.new)
-        (outflow N.written N.faults notes.old notes.new)
-        result }
+    ensures { ShowsBy by loaded (outflow O.Sink out.old out.new) (outflow N.Sink notes.old notes.new) result }
 {
     let workers = by.workers;
     match by.shown {

@@ -1,10 +1,10 @@
 //! The command `watch`: what was loaded and asked is written, the text on `out` and the reports on `notes` after it.
-ghost use Rattle.std.specs.Prelude.{◌≡◌, ◌||◌, ◌∷◌, IfOk, IfErr, List};
-ghost use Rattle.union_files.specs.Openings.{OpensInTurn};
-ghost use Rattle.union_files.specs.Readings.{ReadsFile};
+ghost use Rattle.std.specs.Prelude.{◌≡◌, ◌||◌, IfOk, IfErr, ◌∷◌, List};
+ghost use Rattle.union_files.specs.Openings.{OpensFirstInTurn, OpensInTurn};
+ghost use Rattle.union_files.specs.Readings.{ReadsText, ReadsFile};
 ghost use Rattle.union_io.specs.Names.{AddsName};
-ghost use Rattle.union_words.specs.Flows.{InputFile, outflow, shelf_flow};
-ghost use Rattle.union_watch.specs.Runs.{Written, answered_end, answered_text};
+ghost use Rattle.union_words.specs.Flows.{outflow, shelf_flow, InputFile};
+ghost use Rattle.union_watch.specs.Runs.{Tells, Written, answered_end, answered_text};
 ghost use Rattle.union_watch.specs.WatchRuns.{asks_at};
 
 use crate::answered::Answered;
@@ -25,14 +25,9 @@ use union_words::status::Status;
 /// Reads the file of questions of that name whole.
 pub fn read_asks<F: Shelf>(alloc: Global, path: &[u8], shelf: &mut F) -> Result<Vec<u8>, Status>
     ensures files { F.files shelf.new ≡ F.files shelf.old }
-    ensures reads { ReadsFile result (asks_at path.now)
-        (shelf_flow F.files F.faults shelf.old shelf.new)
-        (λ text bytes. text.items ≡ bytes) }
+    ensures reads { ReadsText result (asks_at path.now) (shelf_flow F.Shelf shelf.old shelf.new) }
     ensures opened { IfOk result (λ _. AddsName (F.opened shelf.old) (F.opened shelf.new) path.now) }
-    ensures in_turn { IfErr result (λ status. (rest : List InputFile)
-        → OpensInTurn (F.files shelf.old) status
-        (asks_at path.now ∷ rest) (F.opened shelf.old)
-        (F.opened shelf.new)) }
+    ensures in_turn { IfErr result (OpensFirstInTurn F.Shelf shelf.old shelf.new (asks_at path.now)) }
 {
     match Bytes::of(alloc, path) {
         Ok(path) => read_text_file(alloc, &path, Input::Asks, shelf),
@@ -57,11 +52,7 @@ pub fn write_answered<O: Sink, N: Sink>(
     out: &mut O,
     notes: &mut N,
 ) -> Status
-    ensures { Written (answered_text answered.entry) answered.entry.loaded.reports.items
-        (answered_end answered.entry)
-        (outflow O.written O.faults out.old out.new)
-        (outflow N.written N.faults notes.old notes.new)
-        result }
+    ensures { Tells answered.entry (outflow O.Sink out.old out.new) (outflow N.Sink notes.old notes.new) result }
 {
     let Answered {
         loaded,

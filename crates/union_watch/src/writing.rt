@@ -1,10 +1,10 @@
 //! The writing of the text.
-ghost use Rattle.std.specs.Prelude.{◌≡◌, ◌++◌, map, IfOk, OnOk};
+ghost use Rattle.std.specs.Prelude.{◌≡◌, ◌++◌, IfOk, OnOk, map};
+ghost use Rattle.union_watch.specs.Told.{left_after, line_text, told_of, told_text_of};
+ghost use Rattle.union_watch.specs.TurnLines.{turns_text, turn_line, turn_of, turn_text};
+ghost use Rattle.union_watch.specs.WatchTexts.{watch_text, HandsOn, WritesText, lines_text, lines_told};
 ghost use Rattle.catalogue_export.specs.Writing.{HasMoved, HasWritten, outflow};
 ghost use Rattle.union_watch.specs.AskLines.{line_meaning};
-ghost use Rattle.union_watch.specs.Told.{left_after, line_text, told_of, told_text_of};
-ghost use Rattle.union_watch.specs.TurnLines.{turn_of, turn_text, turns_text};
-ghost use Rattle.union_watch.specs.WatchTexts.{watch_text};
 
 use crate::ask_line::AskLine;
 use crate::lines::{Replies, add_told, add_turn_line};
@@ -23,8 +23,7 @@ fn write_turn<O: Sink>(
     pending: &mut Vec<u8>,
     out: &mut O,
 ) -> Result<(), ExportFail>
-    ensures { HasMoved (pending.old.items ++ turn_text (turn_of turn entry.now)) pending.new.items
-        (outflow O.written O.faults out.old out.new) result }
+    ensures { HandsOn O.Sink out.old out.new pending.old pending.new result (turn_line turn entry.now) }
 {
     add_turn_line(pending, turn, entry)?;
     hand_on(pending, out)
@@ -36,8 +35,7 @@ fn write_turns<O: Sink>(
     pending: &mut Vec<u8>,
     out: &mut O,
 ) -> Result<(), ExportFail>
-    ensures { HasMoved (pending.old.items ++ turns_text catalogue.now.history) pending.new.items
-        (outflow O.written O.faults out.old out.new) result }
+    ensures { HandsOn O.Sink out.old out.new pending.old pending.new result (turns_text catalogue.now.history) }
 {
     for turn in 0..catalogue.turns() {
         match write_turn(turn + 1, catalogue.entry(turn), pending, out) {
@@ -55,8 +53,7 @@ fn write_line<O: Sink>(
     pending: &mut Vec<u8>,
     out: &mut O,
 ) -> Result<(), ExportFail>
-    ensures text { HasMoved (pending.old.items ++ line_text line.now replies.old.left.now)
-        pending.new.items (outflow O.written O.faults out.old out.new) result }
+    ensures text { HandsOn O.Sink out.old out.new pending.old pending.new result (line_text line.now replies.old.left.now) }
     ensures left { OnOk result (replies.new.left.now ≡ left_after line.now replies.old.left.now) }
 {
     add_told(pending, line, replies)?;
@@ -70,9 +67,7 @@ fn write_lines<O: Sink>(
     pending: &mut Vec<u8>,
     out: &mut O,
 ) -> Result<(), ExportFail>
-    ensures { HasMoved (pending.old.items ++ told_text_of
-        (told_of (map line_meaning lines.now) replies.now)) pending.new.items
-        (outflow O.written O.faults out.old out.new) result }
+    ensures { HandsOn O.Sink out.old out.new pending.old pending.new result (lines_text lines.now replies.now) }
 {
     let mut replies = Replies { left: replies };
     for line in lines {
@@ -111,9 +106,7 @@ pub fn write_watch<O: Sink>(
     late: Vec<(u64, Answer)>,
     out: &mut O,
 ) -> Result<(), ExportFail>
-    ensures { HasWritten (watch_text catalogue.now.history
-        (told_of (map line_meaning lines.now) (beside.items ++ late.items)))
-        (outflow O.written O.faults out.old out.new) result }
+    ensures { WritesText O.Sink out.old out.new result (watch_text catalogue.now.history (lines_told lines.now (beside.items ++ late.items))) }
 {
     let replies = joined(beside, late)?;
     let mut pending = Vec::new(alloc);
