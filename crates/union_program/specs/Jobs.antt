@@ -1,6 +1,7 @@
 -- What a run does, by the job that its words ask for: the clauses of `union_run`, as one fact for `run_words`, which is private. Whoever
 -- reads the contract of `union_run` needs none of it.
-use Rattle.std.specs.Prelude.{◌≡◌, ◌≢◌, ◌++◌, Option, Some, None, List, ℕ}
+use Rattle.std.specs.Prelude.{◌≡◌, ◌≢◌, ◌++◌, true, false, Option, Some, None, List, ℕ}
+use Rattle.std.specs.Option.{option_map_or}
 use Rattle.std.specs.Io.KnownBytes.{Keeps}
 use Rattle.union_io.specs.Counts.{SameElsewhere}
 use Rattle.union_watch.specs.Runs.{exported_as, listed, IsCheck, IsUnionRun, IsTold}
@@ -8,14 +9,32 @@ use Rattle.union_json.specs.Runs.{IsToJsonRun, IsFromJsonRun}
 use Rattle.union_script.specs.Runs.{IsScript}
 use Rattle.union_trial.specs.Trials.{IsTrial}
 use Rattle.names_file.specs.Named.{names_inputs}
-use Rattle.union_files.specs.Inputs.{inputs_of}
+use Rattle.union_files.specs.Inputs.{inputs_of, library_inputs}
 use Rattle.union_files.specs.Openings.{OpensInTurn}
 use Rattle.union_watch.specs.WatchRuns.{first_files, watch_of, IsWatchRun}
 use Rattle.union_words.specs.Flows.{ShelfFlow, InputFile, Outflow, file_flow}
-use Rattle.union_words.specs.Words.{Job, Check, ToJson, FromJson, Export, Works, Watch, Follow, Script, Trial, Help, Version}
+use Rattle.union_words.specs.Meanings.{libraries_meaning}
+use Rattle.union_words.specs.declared.libraries.Libraries.{Libraries}
+use Rattle.union_words.specs.Words.{Loading, has_report, job_of, Job, Check, ToJson, FromJson, Export, Works, Watch, Follow, Script, Trial, Help, Version}
 use Rattle.union_words.specs.declared.status.Status.{Status}
 use Rattle.union_words.specs.declared.status.Status.TheVariants.{Usage}
 use Rattle.union_program.specs.Follow.{followed, IsFollowRun}
+
+-- the files of a load, in the order in which they are opened: that of names, and those of the libraries
+abbrev pub load_files : Loading → List InputFile
+load_files loading = names_inputs loading.names ++ inputs_of loading.libraries
+
+-- those of a watch: that of questions, that of names, and those of the libraries
+abbrev pub ask_files : List ℕ → Loading → List InputFile
+ask_files asks loading = first_files (watch_of asks loading) ++ inputs_of loading.libraries
+
+-- those of `follow`: that of questions, and those of the libraries
+abbrev pub follow_files : List ℕ → Libraries → List InputFile
+follow_files asks libraries = first_files (followed asks (libraries_meaning libraries)) ++ library_inputs libraries
+
+-- the words ask for nothing that has a report
+abbrev pub HasNoReport : List (List ℕ) → Type 0
+HasNoReport words = option_map_or has_report (job_of words) true ≡ false
 
 -- the files of a command that loads the files of libraries, in the order in which they are opened: that of questions, that of names, and
 -- those of the libraries

@@ -1,17 +1,17 @@
 //! The loading of libraries' files, and the answers to the questions of a file beside it.
-ghost use Rattle.std.specs.Prelude.{◌≡◌, ◌++◌, [], map, length, IfOk, IfErr};
+ghost use Rattle.std.specs.Prelude.{◌≡◌, map, IfOk, IfErr, ◌++◌, [], length};
 ghost use Rattle.std.specs.FinMap.{empty};
+ghost use Rattle.union_files.specs.Inputs.{library_inputs, Gathers, deliveries, inputs_of};
+ghost use Rattle.union_files.specs.Openings.{OpensInTurnAt, OpensInTurn};
+ghost use Rattle.union_follow.specs.Following.{GathersFollowed, HasFollowed};
+ghost use Rattle.union_load.specs.Asked.{AnswersBeside, AnswersLate};
+ghost use Rattle.union_program.specs.Answering.{AnswersInTime, TellsLines, GathersTurned};
+ghost use Rattle.union_watch.specs.AskLines.{line_meaning, lines_in, questions_in, has_refused_line};
+ghost use Rattle.union_watch.specs.Lateness.{beside, late};
 ghost use Rattle.names_file.specs.Named.{named_by};
 ghost use Rattle.union_words.specs.Flows.{shelf_flow};
 ghost use Rattle.union_words.specs.Meanings.{libraries_meaning, loading_meaning};
-ghost use Rattle.union_files.specs.Inputs.{Gathers, deliveries, inputs_of};
-ghost use Rattle.union_files.specs.Openings.{OpensInTurn};
 ghost use Rattle.union_files.specs.Interleavings.{IsInterleaving};
-ghost use Rattle.union_follow.specs.Following.{HasFollowed};
-ghost use Rattle.union_load.specs.Asked.{AnswersBeside, AnswersLate};
-ghost use Rattle.union_program.specs.Answering.{AnswersInTime, TellsLines};
-ghost use Rattle.union_watch.specs.AskLines.{line_meaning, lines_in, questions_in, has_refused_line};
-ghost use Rattle.union_watch.specs.Lateness.{beside, late};
 ghost use Rattle.union_watch.specs.Runs.{deliveries_of, HasTurned};
 
 use crate::host::Host;
@@ -104,12 +104,8 @@ pub fn load_by_names<R: Threads + Wait + Sync, F: Shelf, G: Gate>(
     questions: Questions,
     shelf: &mut F,
 ) -> Result<Watched, Status>
-    ensures gathers { Gathers result (libraries_meaning loading.now.libraries)
-        (shelf_flow F.files F.faults shelf.old shelf.new)
-        (λ watched contents. HasTurned IsInterleaving (named_by names)
-        (deliveries_of contents (loading_meaning loading.now)) watched.loaded) }
-    ensures in_turn { IfErr result (λ status. OpensInTurn (F.files shelf.old) status
-        (inputs_of (libraries_meaning loading.now.libraries)) (F.opened shelf.old) (F.opened shelf.new)) }
+    ensures gathers { GathersTurned F.Shelf shelf.old shelf.new names loading.now result (λ watched. watched.loaded) }
+    ensures in_turn { IfErr result (OpensInTurnAt F.Shelf shelf.old shelf.new (library_inputs loading.now.libraries)) }
     ensures beside { IfOk result (AnswersBeside names.table questions.beside.items) }
     ensures late { IfOk result (AnswersLate names.table questions.late.items) }
 {
@@ -149,13 +145,8 @@ pub fn load_and_answer<'a, R: Threads + Wait + Sync, F: Shelf, G: Gate>(
     names: NamesRead,
     shelf: &mut F,
 ) -> Result<Answered<'a>, Status>
-    ensures gathers { Gathers result (libraries_meaning loading.now.libraries)
-        (shelf_flow F.files F.faults shelf.old shelf.new)
-        (λ answered contents. HasTurned IsInterleaving (named_by names)
-        (deliveries_of contents (loading_meaning loading.now))
-        answered.loaded) }
-    ensures in_turn { IfErr result (λ status. OpensInTurn (F.files shelf.old) status
-        (inputs_of (libraries_meaning loading.now.libraries)) (F.opened shelf.old) (F.opened shelf.new)) }
+    ensures gathers { GathersTurned F.Shelf shelf.old shelf.new names loading.now result (λ answered. answered.loaded) }
+    ensures in_turn { IfErr result (OpensInTurnAt F.Shelf shelf.old shelf.new (library_inputs loading.now.libraries)) }
     ensures lines { IfOk result (λ answered. map line_meaning answered.lines.items
         ≡ lines_in text.now) }
     ensures told { IfOk result (TellsLines names.table text.now) }
@@ -188,12 +179,8 @@ pub fn follow_and_answer<'a, R: Threads + Wait + Sync, F: Shelf, G>(
     libraries: &Libraries<'_>,
     shelf: &mut F,
 ) -> Result<Answered<'a>, Status>
-    ensures gathers { Gathers result (libraries_meaning libraries.now)
-        (shelf_flow F.files F.faults shelf.old shelf.new)
-        (λ answered contents. HasFollowed (deliveries [] contents (libraries_meaning libraries.now))
-        answered.loaded) }
-    ensures in_turn { IfErr result (λ status. OpensInTurn (F.files shelf.old) status
-        (inputs_of (libraries_meaning libraries.now)) (F.opened shelf.old) (F.opened shelf.new)) }
+    ensures gathers { GathersFollowed F.Shelf shelf.old shelf.new libraries.now result (λ answered. answered.loaded) }
+    ensures in_turn { IfErr result (OpensInTurnAt F.Shelf shelf.old shelf.new (library_inputs libraries.now)) }
     ensures lines { IfOk result (λ answered. map line_meaning answered.lines.items
         ≡ lines_in text.now) }
     ensures told { IfOk result (TellsLines empty text.now) }

@@ -26,9 +26,9 @@ pub fn to_json_file<F: Shelf, O: Sink, N: Sink>(
     notes: &mut N,
 ) -> Status
     ensures run { IsToJsonRun file.now.library
-        (file_flow (shelf_flow F.files F.faults shelf.old shelf.new) file.now.path.now)
-        (outflow O.written O.faults out.old out.new)
-        (outflow N.written N.faults notes.old notes.new)
+        (file_flow (shelf_flow F.Shelf shelf.old shelf.new) file.now.path.now)
+        (outflow O.Sink out.old out.new)
+        (outflow N.Sink notes.old notes.new)
         result }
     ensures others { SameElsewhere (F.faults shelf.old) (F.faults shelf.new) file.now.path.now }
     ensures quiet { IsTrue (is_early result) → notes.new ≡ notes.old }
@@ -48,9 +48,9 @@ pub fn from_json_file<F: Shelf, O: Sink, N: Sink>(
     notes: &mut N,
 ) -> Status
     ensures run { IsFromJsonRun file.now.library
-        (file_flow (shelf_flow F.files F.faults shelf.old shelf.new) file.now.path.now)
-        (outflow O.written O.faults out.old out.new)
-        (outflow N.written N.faults notes.old notes.new)
+        (file_flow (shelf_flow F.Shelf shelf.old shelf.new) file.now.path.now)
+        (outflow O.Sink out.old out.new)
+        (outflow N.Sink notes.old notes.new)
         result }
     ensures others { SameElsewhere (F.faults shelf.old) (F.faults shelf.new) file.now.path.now }
     ensures quiet { IsTrue (is_early result) → notes.new ≡ notes.old }
@@ -71,9 +71,9 @@ fn open_to_json<F: Shelf, O: Sink, N: Sink>(
     notes: &mut N,
 ) -> Status
     ensures run { IsToJsonRun library.now
-        (file_flow (shelf_flow F.files F.faults shelf.old shelf.new) path.now)
-        (outflow O.written O.faults out.old out.new)
-        (outflow N.written N.faults notes.old notes.new)
+        (file_flow (shelf_flow F.Shelf shelf.old shelf.new) path.now)
+        (outflow O.Sink out.old out.new)
+        (outflow N.Sink notes.old notes.new)
         result }
     ensures others { SameElsewhere (F.faults shelf.old) (F.faults shelf.new) path.now }
     ensures quiet { IsTrue (is_early result) → notes.new ≡ notes.old }
@@ -99,9 +99,9 @@ fn open_from_json<F: Shelf, O: Sink, N: Sink>(
     notes: &mut N,
 ) -> Status
     ensures run { IsFromJsonRun library.now
-        (file_flow (shelf_flow F.files F.faults shelf.old shelf.new) path.now)
-        (outflow O.written O.faults out.old out.new)
-        (outflow N.written N.faults notes.old notes.new)
+        (file_flow (shelf_flow F.Shelf shelf.old shelf.new) path.now)
+        (outflow O.Sink out.old out.new)
+        (outflow N.Sink notes.old notes.new)
         result }
     ensures others { SameElsewhere (F.faults shelf.old) (F.faults shelf.new) path.now }
     ensures quiet { IsTrue (is_early result) → notes.new ≡ notes.old }

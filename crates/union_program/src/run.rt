@@ -2,8 +2,7 @@
 //!
 //! It does all that the program does, over whatever shelf of files and outputs it is handed. Each answer other than
 //! `Done` and `DoneWithRefusals` has its cause in a clause, and those two have the whole result.
-ghost use Rattle.std.specs.Prelude.{◌≡◌, ◌≢◌, ◌↔◌, ◌⊎◌, ◌++◌, ℕ, List, IfSome, IsTrue, Some, None, false, true};
-ghost use Rattle.std.specs.Option.{option_map_or};
+ghost use Rattle.std.specs.Prelude.{◌≡◌, ◌≢◌, ◌↔◌, ◌⊎◌, ℕ, List, IfSome, Some, None, false, true, ◌++◌, IsTrue};
 ghost use Rattle.std.specs.Io.KnownBytes.{Keeps};
 ghost use Rattle.union_io.specs.Counts.{SameElsewhere};
 ghost use Rattle.union_words.specs.Meanings.{libraries_meaning, loading_meaning};
@@ -13,15 +12,16 @@ ghost use Rattle.union_words.specs.Statuses.{is_early};
 ghost use Rattle.union_words.specs.declared.form.Exporting.{Exporting};
 ghost use Rattle.union_script.specs.Runs.{IsScript};
 ghost use Rattle.union_trial.specs.Trials.{IsTrial};
-ghost use Rattle.names_file.specs.Named.{names_inputs};
-ghost use Rattle.union_files.specs.Inputs.{inputs_of};
-ghost use Rattle.union_files.specs.Openings.{OpensInTurn};
-ghost use Rattle.union_watch.specs.WatchRuns.{first_files, watch_of, IsWatchRun};
-ghost use Rattle.union_program.specs.Answering.{NotesEarly};
-ghost use Rattle.union_program.specs.Follow.{followed, IsFollowRun};
-ghost use Rattle.union_program.specs.Jobs.{loaded_files, HasDone};
+ghost use Rattle.union_files.specs.Openings.{OpensInTurnAt, OpensInTurn};
+ghost use Rattle.union_watch.specs.WatchRuns.{watch_of, IsWatchRun, first_files};
+ghost use Rattle.union_program.specs.Answering.{NotesEarly, IsQuiet};
+ghost use Rattle.union_program.specs.Follow.{IsFollowRun, followed};
+ghost use Rattle.union_program.specs.Jobs.{loaded_files, HasDone, load_files, ask_files, follow_files, HasNoReport};
 ghost use Rattle.union_watch.specs.Runs.{exported_as, listed, showing_of, IsCheck, IsUnionRun, IsTold};
 ghost use Rattle.union_json.specs.Runs.{IsToJsonRun, IsFromJsonRun};
+ghost use Rattle.std.specs.Option.{option_map_or};
+ghost use Rattle.names_file.specs.Named.{names_inputs};
+ghost use Rattle.union_files.specs.Inputs.{inputs_of};
 
 use crate::answering::{follow_and_answer, load_and_answer, load_by_names};
 use crate::host::Host;
@@ -70,7 +70,7 @@ fn is_early(status: &Status) -> bool
 /// Ends a run with this status: one that ended early has one line on the second output.
 fn end<N: Sink>(notes: &mut N, status: Status) -> Status
     ensures same { result ≡ status }
-    ensures noted { NotesEarly status (outflow N.written N.faults notes.old notes.new) }
+    ensures noted { NotesEarly status (outflow N.Sink notes.old notes.new) }
     ensures quiet { is_early status ≡ false → Keeps (N.written notes.old) (N.written notes.new) }
     ensures still { is_early status ≡ false → notes.new ≡ notes.old }
 {
@@ -82,7 +82,7 @@ fn end<N: Sink>(notes: &mut N, status: Status) -> Status
 
 /// Writes a text of the program's own.
 fn tell<O: Sink>(out: &mut O, text: &[u8]) -> Status
-    ensures { IsTold text.now (outflow O.written O.faults out.old out.new) result }
+    ensures { IsTold text.now (outflow O.Sink out.old out.new) result }
 {
     match put_all(out, text) {
         Ok(()) => Status::Done,
@@ -98,8 +98,8 @@ fn run_check<F: Shelf, O: Sink>(
     out: &mut O,
 ) -> Status
     ensures run { IsCheck file.now.library (file_flow
-        (shelf_flow F.files F.faults shelf.old shelf.new) file.now.path.now)
-        (outflow O.written O.faults out.old out.new)
+        (shelf_flow F.Shelf shelf.old shelf.new) file.now.path.now)
+        (outflow O.Sink out.old out.new)
         result }
     ensures others { SameElsewhere (F.faults shelf.old) (F.faults shelf.new) file.now.path.now }
 {
@@ -118,12 +118,12 @@ fn run_to_json<F: Shelf, O: Sink, N: Sink>(
     notes: &mut N,
 ) -> Status
     ensures run { IsToJsonRun file.now.library
-        (file_flow (shelf_flow F.files F.faults shelf.old shelf.new) file.now.path.now)
-        (outflow O.written O.faults out.old out.new)
-        (outflow N.written N.faults notes.old notes.new)
+        (file_flow (shelf_flow F.Shelf shelf.old shelf.new) file.now.path.now)
+        (outflow O.Sink out.old out.new)
+        (outflow N.Sink notes.old notes.new)
         result }
     ensures others { SameElsewhere (F.faults shelf.old) (F.faults shelf.new) file.now.path.now }
-    ensures noted { NotesEarly result (outflow N.written N.faults notes.old notes.new) }
+    ensures noted { NotesEarly result (outflow N.Sink notes.old notes.new) }
 {
     let status = to_json_file(alloc, file, shelf, out, notes);
     end(notes, status)
@@ -138,12 +138,12 @@ fn run_from_json<F: Shelf, O: Sink, N: Sink>(
     notes: &mut N,
 ) -> Status
     ensures run { IsFromJsonRun file.now.library
-        (file_flow (shelf_flow F.files F.faults shelf.old shelf.new) file.now.path.now)
-        (outflow O.written O.faults out.old out.new)
-        (outflow N.written N.faults notes.old notes.new)
+        (file_flow (shelf_flow F.Shelf shelf.old shelf.new) file.now.path.now)
+        (outflow O.Sink out.old out.new)
+        (outflow N.Sink notes.old notes.new)
         result }
     ensures others { SameElsewhere (F.faults shelf.old) (F.faults shelf.new) file.now.path.now }
-    ensures noted { NotesEarly result (outflow N.written N.faults notes.old notes.new) }
+    ensures noted { NotesEarly result (outflow N.Sink notes.old notes.new) }
 {
     let status = from_json_file(alloc, file, shelf, out, notes);
     end(notes, status)
@@ -157,8 +157,8 @@ fn run_script<R, F: Shelf, O: Sink, G>(
     out: &mut O,
 ) -> Status
     ensures { IsScript path.now
-        (shelf_flow F.files F.faults shelf.old shelf.new)
-        (outflow O.written O.faults out.old out.new)
+        (shelf_flow F.Shelf shelf.old shelf.new)
+        (outflow O.Sink out.old out.new)
         result }
 {
     match Bytes::of(host.alloc, path) {
@@ -174,7 +174,7 @@ fn run_trial<R: Threads + Sync, O: Sink, G>(
     out: &mut O,
 ) -> Status
     ensures run { IsTrial trial.now.seed trial.now.count
-        (outflow O.written O.faults out.old out.new)
+        (outflow O.Sink out.old out.new)
         result }
     ensures other { result ≢ Status.Usage }
 {
@@ -196,14 +196,11 @@ fn run_union<R: Threads + Wait + Sync, F: Shelf, O: Sink, N: Sink, G: Gate>(
     notes: &mut N,
 ) -> Status
     ensures run { IsUnionRun (showing_of shown) (loading_meaning loading.now)
-        (shelf_flow F.files F.faults shelf.old shelf.new)
-        (outflow O.written O.faults out.old out.new)
-        (outflow N.written N.faults notes.old notes.new) result }
-    ensures noted { NotesEarly result (outflow N.written N.faults notes.old notes.new) }
-    ensures in_turn { OpensInTurn (F.files shelf.old) result
-        (names_inputs (loading_meaning loading.now).names
-        ++ inputs_of (libraries_meaning loading.now.libraries))
-        (F.opened shelf.old) (F.opened shelf.new) }
+        (shelf_flow F.Shelf shelf.old shelf.new)
+        (outflow O.Sink out.old out.new)
+        (outflow N.Sink notes.old notes.new) result }
+    ensures noted { NotesEarly result (outflow N.Sink notes.old notes.new) }
+    ensures in_turn { OpensInTurnAt F.Shelf shelf.old shelf.new (load_files (loading_meaning loading.now)) result }
 {
     match names_of(host.alloc, host.hashing, loading.names, shelf) {
         Ok(names) => {
@@ -231,14 +228,11 @@ fn run_watch<R: Threads + Wait + Sync, F: Shelf, O: Sink, N: Sink, G: Gate>(
     notes: &mut N,
 ) -> Status
     ensures run { IsWatchRun (watch_of asks.now (loading_meaning loading.now))
-        (shelf_flow F.files F.faults shelf.old shelf.new)
-        (outflow O.written O.faults out.old out.new)
-        (outflow N.written N.faults notes.old notes.new) result }
-    ensures noted { NotesEarly result (outflow N.written N.faults notes.old notes.new) }
-    ensures in_turn { OpensInTurn (F.files shelf.old) result
-        (first_files (watch_of asks.now (loading_meaning loading.now))
-        ++ inputs_of (libraries_meaning loading.now.libraries))
-        (F.opened shelf.old) (F.opened shelf.new) }
+        (shelf_flow F.Shelf shelf.old shelf.new)
+        (outflow O.Sink out.old out.new)
+        (outflow N.Sink notes.old notes.new) result }
+    ensures noted { NotesEarly result (outflow N.Sink notes.old notes.new) }
+    ensures in_turn { OpensInTurnAt F.Shelf shelf.old shelf.new (ask_files asks.now (loading_meaning loading.now)) result }
 {
     match read_asks(host.alloc, asks, shelf) {
         Ok(text) => match names_of(host.alloc, host.hashing, loading.names, shelf) {
@@ -262,14 +256,11 @@ fn run_follow<R: Threads + Wait + Sync, F: Shelf, O: Sink, N: Sink, G>(
     notes: &mut N,
 ) -> Status
     ensures run { IsFollowRun asks.now (libraries_meaning libraries.now)
-        (shelf_flow F.files F.faults shelf.old shelf.new)
-        (outflow O.written O.faults out.old out.new)
-        (outflow N.written N.faults notes.old notes.new) result }
-    ensures noted { NotesEarly result (outflow N.written N.faults notes.old notes.new) }
-    ensures in_turn { OpensInTurn (F.files shelf.old) result
-        (first_files (followed asks.now (libraries_meaning libraries.now))
-        ++ inputs_of (libraries_meaning libraries.now))
-        (F.opened shelf.old) (F.opened shelf.new) }
+        (shelf_flow F.Shelf shelf.old shelf.new)
+        (outflow O.Sink out.old out.new)
+        (outflow N.Sink notes.old notes.new) result }
+    ensures noted { NotesEarly result (outflow N.Sink notes.old notes.new) }
+    ensures in_turn { OpensInTurnAt F.Shelf shelf.old shelf.new (follow_files asks.now libraries.now) result }
 {
     match read_asks(host.alloc, asks, shelf) {
         Ok(text) => match follow_and_answer(host, text.as_slice(), libraries, shelf) {
@@ -289,13 +280,12 @@ fn run_words<R: Threads + Wait + Sync, F: Shelf, O: Sink, N: Sink, G: Gate>(
     notes: &mut N,
 ) -> Status
     ensures has { HasDone HELP.now VERSION.now (shelf.new ≡ shelf.old)
-        (shelf_flow F.files F.faults shelf.old shelf.new)
-        (outflow O.written O.faults out.old out.new)
-        (outflow N.written N.faults notes.old notes.new)
+        (shelf_flow F.Shelf shelf.old shelf.new)
+        (outflow O.Sink out.old out.new)
+        (outflow N.Sink notes.old notes.new)
         result (F.opened shelf.old) (F.opened shelf.new) (Words.job_of words.now) }
-    ensures noted { NotesEarly result (outflow N.written N.faults notes.old notes.new) }
-    ensures quiet { option_map_or Words.has_report (Words.job_of words.now) true ≡ false
-        → is_early result ≡ false → Keeps (N.written notes.old) (N.written notes.new) }
+    ensures noted { NotesEarly result (outflow N.Sink notes.old notes.new) }
+    ensures quiet { HasNoReport words.now → IsQuiet result (outflow N.Sink notes.old notes.new) }
 {
     match Job::read(words) {
         None => end(notes, Status::Usage),
@@ -358,66 +348,62 @@ pub fn union_run<R: Threads + Wait + Sync, F: Shelf, O: Sink, N: Sink, G: Gate>(
 
     // what each form of words does
     ensures check { (file : Words.LibraryFile) → Words.job_of words.now ≡ Some (Words.Check file)
-        → IsCheck file.library (file_flow (shelf_flow F.files F.faults shelf.old shelf.new)
+        → IsCheck file.library (file_flow (shelf_flow F.Shelf shelf.old shelf.new)
         file.path)
-        (outflow O.written O.faults out.old out.new)
+        (outflow O.Sink out.old out.new)
         result }
     ensures to_json { (file : Words.LibraryFile) → Words.job_of words.now ≡ Some (Words.ToJson file)
-        → IsToJsonRun file.library (file_flow (shelf_flow F.files F.faults shelf.old shelf.new)
+        → IsToJsonRun file.library (file_flow (shelf_flow F.Shelf shelf.old shelf.new)
         file.path)
-        (outflow O.written O.faults out.old out.new)
-        (outflow N.written N.faults notes.old notes.new)
+        (outflow O.Sink out.old out.new)
+        (outflow N.Sink notes.old notes.new)
         result }
     ensures from_json { (file : Words.LibraryFile)
         → Words.job_of words.now ≡ Some (Words.FromJson file)
-        → IsFromJsonRun file.library (file_flow (shelf_flow F.files F.faults shelf.old shelf.new)
+        → IsFromJsonRun file.library (file_flow (shelf_flow F.Shelf shelf.old shelf.new)
         file.path)
-        (outflow O.written O.faults out.old out.new)
-        (outflow N.written N.faults notes.old notes.new)
+        (outflow O.Sink out.old out.new)
+        (outflow N.Sink notes.old notes.new)
         result }
     ensures export { (exporting : Exporting) (loading : Words.Loading)
         → Words.job_of words.now ≡ Some (Words.Export exporting loading)
-        → IsUnionRun (exported_as exporting) loading (shelf_flow F.files F.faults shelf.old shelf.new)
-        (outflow O.written O.faults out.old out.new)
-        (outflow N.written N.faults notes.old notes.new) result }
+        → IsUnionRun (exported_as exporting) loading (shelf_flow F.Shelf shelf.old shelf.new)
+        (outflow O.Sink out.old out.new)
+        (outflow N.Sink notes.old notes.new) result }
     ensures works { (loading : Words.Loading) → Words.job_of words.now ≡ Some (Words.Works loading)
-        → IsUnionRun listed loading (shelf_flow F.files F.faults shelf.old shelf.new)
-        (outflow O.written O.faults out.old out.new)
-        (outflow N.written N.faults notes.old notes.new) result }
+        → IsUnionRun listed loading (shelf_flow F.Shelf shelf.old shelf.new)
+        (outflow O.Sink out.old out.new)
+        (outflow N.Sink notes.old notes.new) result }
     ensures watch { (asks : List ℕ) (loading : Words.Loading)
         → Words.job_of words.now ≡ Some (Words.Watch asks loading)
-        → IsWatchRun (watch_of asks loading) (shelf_flow F.files F.faults shelf.old shelf.new)
-        (outflow O.written O.faults out.old out.new)
-        (outflow N.written N.faults notes.old notes.new) result }
+        → IsWatchRun (watch_of asks loading) (shelf_flow F.Shelf shelf.old shelf.new)
+        (outflow O.Sink out.old out.new)
+        (outflow N.Sink notes.old notes.new) result }
     ensures follow { (asks : List ℕ) (libraries : List Words.LibraryFile)
         → Words.job_of words.now ≡ Some (Words.Follow asks libraries)
-        → IsFollowRun asks libraries (shelf_flow F.files F.faults shelf.old shelf.new)
-        (outflow O.written O.faults out.old out.new)
-        (outflow N.written N.faults notes.old notes.new) result }
+        → IsFollowRun asks libraries (shelf_flow F.Shelf shelf.old shelf.new)
+        (outflow O.Sink out.old out.new)
+        (outflow N.Sink notes.old notes.new) result }
     ensures script { (path : List ℕ) → Words.job_of words.now ≡ Some (Words.Script path)
         → IsScript path
-        (shelf_flow F.files F.faults shelf.old shelf.new)
-        (outflow O.written O.faults out.old out.new)
+        (shelf_flow F.Shelf shelf.old shelf.new)
+        (outflow O.Sink out.old out.new)
         result }
     ensures trial { (seed count workers : ℕ) → Words.job_of words.now
         ≡ Some (Words.Trial seed count workers) → IsTrial seed count
-        (outflow O.written O.faults out.old out.new)
+        (outflow O.Sink out.old out.new)
         result }
     ensures help { Words.job_of words.now ≡ Some Words.Help → IsTold HELP.now
-        (outflow O.written O.faults out.old out.new) result }
+        (outflow O.Sink out.old out.new) result }
     ensures version { Words.job_of words.now ≡ Some Words.Version → IsTold VERSION.now
-        (outflow O.written O.faults out.old out.new) result }
+        (outflow O.Sink out.old out.new) result }
 
     // the second output, where that is no report
-    ensures noted { NotesEarly result (outflow N.written N.faults notes.old notes.new) }
-    ensures quiet { (job : Words.Job) → Words.job_of words.now ≡ Some job
-        → Words.has_report job ≡ false
-        → is_early result ≡ false → Keeps (N.written notes.old) (N.written notes.new) }
+    ensures noted { NotesEarly result (outflow N.Sink notes.old notes.new) }
+    ensures quiet { (job : Words.Job) → Words.job_of words.now ≡ Some job → Words.has_report job ≡ false → IsQuiet result (outflow N.Sink notes.old notes.new) }
 
     // the order in which files are opened
-    ensures in_turn { (job : Words.Job) → Words.job_of words.now ≡ Some job
-        → IfSome (loaded_files job) (λ files. OpensInTurn (F.files shelf.old) result files
-        (F.opened shelf.old) (F.opened shelf.new)) }
+    ensures in_turn { (job : Words.Job) → Words.job_of words.now ≡ Some job → IfSome (loaded_files job) (λ files. OpensInTurnAt F.Shelf shelf.old shelf.new files result) }
 
     // A run of words in no form writes nothing else. The shelf is left alone where the words name no file; and of files only one
     // that the words name can be at fault: of an export, of works, of watch and of a script their own clauses say which.
