@@ -15,6 +15,10 @@ use Rattle.union_keys.specs.declared.standing.Standing.{Standing}
 abbrev pub word_in : List ℕ → ℕ
 word_in bytes = from_le_bytes w64 (take 8 bytes)
 
+-- the record of that number, if there is one
+abbrev pub of_number : List Standing → ℕ → List Standing
+of_number all number = option_to_list (slice_get all number)
+
 -- what comes after a word, in a group that has these records already: a 0 ends the group, and n names the n-th record of the files
 abbrev pub groups_by : List Standing → ℕ → List Standing → (List Standing → List (List Standing)) → List (List Standing)
 groups_by all zero members later = members ∷ later []

@@ -8,6 +8,7 @@ use Rattle.std.specs.Option.{option_to_list}
 use Rattle.union_base.specs.RecordIds.{id_cmp}
 use Rattle.union_base.specs.declared.record_id.RecordId.{RecordId}
 use Rattle.union_base.specs.LibraryCodes.{is_library_code}
+use Rattle.union_words.specs.Lines.{lines_of}
 use Rattle.union_keys.specs.declared.standing.Standing.{Standing}
 
 -- records under their ids
@@ -46,3 +47,7 @@ groups_from table ([] ∷ lines) begun members =
     (if begun then members ∷ groups_from table lines false [] else groups_from table lines false members)
 groups_from table ((b ∷ line) ∷ lines) begun members =
     groups_from table lines true (members ++ option_to_list (named_by table (b ∷ line)))
+
+-- the groups that a text names
+abbrev pub groups_in : Table → List ℕ → List (List Standing)
+groups_in table text = groups_from table (lines_of text) false []

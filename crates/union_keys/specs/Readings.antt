@@ -1,13 +1,22 @@
 -- What is taken of the frames of libraries' files.
-use Rattle.std.specs.Prelude.{◌≡◌, ℕ, suc, List, [], ◌∷◌, ◌++◌, Option, Some, None, decimal, codes}
+use Rattle.std.specs.Prelude.{◌≡◌, ℕ, suc, List, [], ◌∷◌, ◌++◌, Option, Some, None, Result, decimal, codes}
+use Rattle.iso2709_frame.specs.declared.cut.Cut.{Cut}
 use Rattle.marc_fields.specs.Spelling.{Spells}
 use Rattle.marc_parts.specs.declared.marc_record.Record.{Record}
 use Rattle.marc_fields.specs.declared.rules.Failure.{Failure}
 use Rattle.marc_rules.specs.NineteenRules.{first_rule}
 use Rattle.marc_fields.specs.RuleNames.{rule_name}
+use Rattle.union_files.specs.Readings.{ReadsFile, ReadsInTurn}
+use Rattle.union_io.specs.declared.shelf.Shelf.{Ghosts as ShelfGhosts}
+use Rattle.union_words.specs.Flows.{shelf_flow}
+use Rattle.union_words.specs.Meanings.{libraries_meaning}
+use Rattle.union_words.specs.Stops.{input_of, inputs_of}
 use Rattle.union_words.specs.Words.{LibraryFile}
-use Rattle.union_keys.specs.Placed.{Placed, placed}
-use Rattle.union_keys.specs.Standings.{standing_of, refused_of}
+use Rattle.union_words.specs.declared.libraries.Libraries.{Libraries}
+use Rattle.union_words.specs.declared.status.Status.{Status}
+use Rattle.union_keys.specs.Placed.{Placed, placed, placed_at, placed_piece}
+use Rattle.union_keys.specs.Standings.{standing_of, refused_at, refused_of}
+use Rattle.union_keys.specs.declared.place.Place.{Place}
 use Rattle.union_keys.specs.declared.refused.Refused.{Refused}
 use Rattle.union_keys.specs.declared.standing.Standing.{Standing}
 
@@ -58,3 +67,28 @@ abbrev pub ReadsFiles : (List ℕ → List ℕ) → List LibraryFile → Read �
 ReadsFiles contents [] before after = after ≡ before
 ReadsFiles contents (file ∷ rest) before after =
     (between : Read) × TakesAll file.library 1 (placed (contents file.path)) before between × ReadsFiles contents rest between after
+
+-- the frame of that place breaks a rule: it is kept as refused, and gets a line
+abbrev pub Refuses : Place → List ℕ → Failure → Read → Read → Type 0
+Refuses place text failure before after =
+    after ≡ with_refused before (refused_at place text failure) (refused_line place.library.now place.number failure)
+
+-- the frame of that place is taken, which was cut so
+abbrev pub TakesAt : Place → List ℕ → Cut × List ℕ → Read → Read → Type 0
+TakesAt place text cut before after =
+    Takes place.library.now place.number (placed_at place.first text cut) (first_rule cut.0 cut.1) before after
+
+-- the frames are taken of the piece of that place
+abbrev pub TakesPiece : Place → List ℕ → Read → Read → Type 0
+TakesPiece place piece before after = TakesAll place.library.now place.number (placed_piece place.first piece) before after
+
+-- a library's file was read to its end and its frames were taken, or a run stops there
+abbrev pub TakesFile : {F S T : Type 0} → ShelfGhosts F S → F → F → LibraryFile → Read → Read → Result T Status → Type 0
+TakesFile shelf old new file before after result =
+    ReadsFile result (input_of file) (shelf_flow shelf old new) (λ _ bytes. TakesAll file.library 1 (placed bytes) before after)
+
+-- the files of the libraries were read in their order, by a preference among libraries, or the run stops at one of them
+abbrev pub ReadsLibraries : {F S : Type 0} → ShelfGhosts F S → F → F → List (List ℕ) → Libraries → Result Read Status → Type 0
+ReadsLibraries shelf old new prefer libraries result =
+    ReadsInTurn result (inputs_of (libraries_meaning libraries)) (shelf_flow shelf old new)
+    (λ reading contents. ReadsFiles contents (libraries_meaning libraries) (none_read prefer) reading)

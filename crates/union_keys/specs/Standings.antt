@@ -7,6 +7,7 @@ use Rattle.marc_parts.specs.Loads.{is_deleted}
 use Rattle.record_editions.specs.Records.{edition}
 use Rattle.catalogue_editions.specs.declared.edition.Edition.{Edition}
 use Rattle.union_explain.specs.Glances.{control_number_of}
+use Rattle.union_keys.specs.declared.place.Place.{Place}
 use Rattle.union_keys.specs.declared.refused.Refused.{Refused}
 use Rattle.union_keys.specs.declared.standing.Standing.{Standing}
 
@@ -32,3 +33,10 @@ refused_of library number first text failure = record {
   first = first;
   failure = failure;
 }
+
+-- the record, and the frame that breaks a rule, of that place
+abbrev pub standing_at : List (List ℕ) → Place → ℕ → Record → Standing
+standing_at prefer place size r = standing_of prefer place.library.now place.number place.first size r
+
+abbrev pub refused_at : Place → List ℕ → Failure → Refused
+refused_at place text failure = refused_of place.library.now place.number place.first text failure

@@ -28,6 +28,10 @@ unfoldable pub key_rows : ℕ → Edition → List ℕ
 key_rows number e =
     flat_map (key_row number 1) (sought e.features) ++ flat_map (key_row number 2) (posted e.features)
 
+-- those of what a record loads
+abbrev pub loaded_rows : ℕ → Standing → List ℕ
+loaded_rows number s = flat_map (key_rows number) (option_to_list s.edition)
+
 -- the sixteen bytes of an id: the MD5 of `LIB.CTL`
 abbrev pub id_number : RecordId → List ℕ
 id_number id = md5 (id.library ++ (0x2E ∷ id.control))

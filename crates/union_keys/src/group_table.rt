@@ -1,9 +1,9 @@
 //! The keys of groups of records as numbers.
 ghost use Rattle.std.specs.Prelude.{◌≡◌, ◌++◌, ◌+◌, ◌-◌, ◌^◌, ◌<◌, ◌≤◌, [], length, IfOk, OnOk, List, ℕ, slice_get};
-ghost use Rattle.std.specs.Option.{option_to_list};
 ghost use Rattle.union_keys.specs.Tables.{record_rows};
-ghost use Rattle.union_keys.specs.GroupTables.{word_in, groups_by, groups_of, last_of_each, AddsGroup, AddsGroups};
+ghost use Rattle.union_keys.specs.GroupTables.{word_in, groups_by, groups_of, last_of_each, AddsGroup, AddsGroups, of_number};
 ghost use Rattle.union_keys.specs.declared.standing.Standing.{Standing};
+ghost use Rattle.std.specs.Option.{option_to_list};
 
 use crate::groups::table_of;
 use crate::line::resolved;
@@ -61,8 +61,7 @@ fn add_member(
     standings: &[Standing],
     number: u64,
 ) -> Result<(), Memory>
-    ensures { OnOk result (members.new.items
-        ≡ members.old.items ++ option_to_list (slice_get standings.now number)) }
+    ensures { OnOk result (members.new.items ≡ members.old.items ++ of_number standings.now number) }
 {
     match standings.get(number as usize) {
         Some(standing) => {

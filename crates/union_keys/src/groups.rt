@@ -1,9 +1,9 @@
 //! The lines of groups of records.
-ghost use Rattle.std.specs.Prelude.{◌≡◌, ◌==◌, ◌++◌, ◌∷◌, [], true, false, ℕ, List, length, IfOk, OnOk};
+ghost use Rattle.std.specs.Prelude.{◌≡◌, ◌++◌, [], true, false, ℕ, IfOk, OnOk, ◌==◌, ◌∷◌, List, length};
 ghost use Rattle.std.specs.Option.{option_to_list};
-ghost use Rattle.union_words.specs.Lines.{lines_of};
-ghost use Rattle.union_keys.specs.Groups.{table_of, id_in, named_by, groups_from};
+ghost use Rattle.union_keys.specs.Groups.{table_of, id_in, named_by, groups_in, groups_from};
 ghost use Rattle.union_keys.specs.Lines.{AddsLine, AddsLines};
+ghost use Rattle.union_words.specs.Lines.{lines_of};
 
 use crate::line::add_line;
 use crate::standing::Standing;
@@ -135,9 +135,7 @@ pub fn group_lines(
     table: &BTreeMap<RecordId, Standing>,
     groups: &[u8],
 ) -> Result<(Vec<u8>, Vec<u8>), Memory>
-    ensures { IfOk result (λ written.
-        AddsLines (groups_from table.now.entries (lines_of groups.now) false []) []
-        written.0.items) }
+    ensures { IfOk result (λ written. AddsLines (groups_in table.now.entries groups.now) [] written.0.items) }
 {
     let mut written = Written {
         text: Vec::new(alloc),

@@ -1,10 +1,10 @@
 //! What is taken of the frames of a library's file.
-ghost use Rattle.std.specs.Prelude.{◌≡◌, ◌+◌, ◌-◌, ◌<◌, ◌≤◌, ◌++◌, ◌^◌, [], IfOk, OnOk, length, codes, decimal};
+ghost use Rattle.std.specs.Prelude.{◌≡◌, ◌+◌, ◌-◌, ◌<◌, ◌≤◌, ◌++◌, ◌^◌, IfOk, OnOk, length, codes, decimal, []};
 ghost use Rattle.iso2709_frame.specs.Frames.{IsWhole, first_piece, skip_breaks};
+ghost use Rattle.union_keys.specs.Placed.{placed, placed_piece, placed_at};
+ghost use Rattle.union_keys.specs.Readings.{TakesAll, none_read, refused_line, Refuses, TakesAt, TakesPiece, Takes, with_refused};
 ghost use Rattle.marc_fields.specs.declared.rules.Failure.{Failure as FailureModel};
 ghost use Rattle.marc_rules.specs.NineteenRules.{first_rule};
-ghost use Rattle.union_keys.specs.Placed.{placed, placed_at, placed_piece};
-ghost use Rattle.union_keys.specs.Readings.{Takes, TakesAll, none_read, refused_line, with_refused};
 ghost use Rattle.union_keys.specs.Standings.{refused_of};
 
 use crate::frame_cut::{behind_breaks, cut_frame, piece_size};
@@ -95,10 +95,7 @@ impl Reading {
         frame: &[u8],
         failure: Failure,
     ) -> Result<(), Memory>
-        ensures { OnOk result (self.new ≡ with_refused self.old
-            (refused_of place.entry.library.now place.entry.number place.entry.first frame.now
-            failure)
-            (refused_line place.entry.library.now place.entry.number failure)) }
+        ensures { OnOk result (Refuses place.entry frame.now failure self.old self.new) }
     {
         let refused = Refused::of(alloc, place, frame, failure)?;
         self.refused.push(refused)?;
@@ -121,9 +118,7 @@ impl Reading {
         bytes: &[u8],
     ) -> Result<(), Memory>
         requires { cut ≡ Cut.Whole → IsWhole bytes.now }
-        ensures { OnOk result (Takes place.entry.library.now place.entry.number
-            (placed_at place.entry.first frame.now (cut, bytes.now))
-            (first_rule cut bytes.now) self.old self.new) }
+        ensures { OnOk result (TakesAt place.entry frame.now (cut, bytes.now) self.old self.new) }
     {
         match check_frame(alloc, cut, bytes) {
             Ok(rec) => {
@@ -148,8 +143,7 @@ impl Reading {
         ensures next { IfOk result (λ next.
             next ≡ place.entry.number + length (placed_piece place.entry.first piece.now)) }
         ensures few { IfOk result (λ next. next ≤ place.entry.number + length piece.now) }
-        ensures taken { OnOk result (TakesAll place.entry.library.now place.entry.number
-            (placed_piece place.entry.first piece.now) self.old self.new) }
+        ensures taken { OnOk result (TakesPiece place.entry piece.now self.old self.new) }
     {
         let frame = behind_breaks(piece);
         if frame.is_empty() {

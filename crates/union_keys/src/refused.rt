@@ -1,6 +1,6 @@
 //! A refused frame and its place.
 ghost use Rattle.std.specs.Prelude.{◌≡◌, IfOk};
-ghost use Rattle.union_keys.specs.Standings.{refused_of};
+ghost use Rattle.union_keys.specs.Standings.{refused_at, refused_of};
 
 use crate::place::Place;
 use marc_fields::rules::Failure;
@@ -31,8 +31,7 @@ impl Refused {
         frame: &[u8],
         failure: Failure,
     ) -> Result<Refused, Memory>
-        ensures { IfOk result (λ r. r ≡ refused_of place.entry.library.now place.entry.number
-            place.entry.first frame.now failure) }
+        ensures { IfOk result (λ r. r ≡ refused_at place.entry frame.now failure) }
     {
         let control = Bytes::of(alloc, control_number(frame))?;
         Ok(Refused {

@@ -1,12 +1,12 @@
 //! The files of a command, read one after the other, and a line for each of their records.
 ghost use Rattle.std.specs.Prelude.{◌≡◌, [], IfOk};
-ghost use Rattle.union_files.specs.Readings.{ReadsFile, ReadsInTurn};
+ghost use Rattle.union_files.specs.Readings.{ReadsText, ReadsFile, ReadsInTurn};
 ghost use Rattle.union_words.specs.Flows.{shelf_flow};
 ghost use Rattle.union_words.specs.Meanings.{file_meaning, libraries_meaning};
 ghost use Rattle.union_words.specs.Stops.{input_of, inputs_of};
 ghost use Rattle.union_keys.specs.Lines.{AddsLines, alone};
+ghost use Rattle.union_keys.specs.Readings.{TakesFile, ReadsLibraries, TakesAll, ReadsFiles, none_read};
 ghost use Rattle.union_keys.specs.Placed.{placed};
-ghost use Rattle.union_keys.specs.Readings.{TakesAll, ReadsFiles, none_read};
 
 use crate::line::add_line;
 use crate::reading::Reading;
@@ -29,9 +29,7 @@ fn text_of<F: Shelf>(
     shelf: &mut F,
 ) -> Result<Vec<u8>, Status>
     ensures files { F.files shelf.new ≡ F.files shelf.old }
-    ensures reads { ReadsFile result (input_of (file_meaning file.now))
-        (shelf_flow F.files F.faults shelf.old shelf.new)
-        (λ text bytes. text.items ≡ bytes) }
+    ensures reads { ReadsText result (input_of (file_meaning file.now)) (shelf_flow F.Shelf shelf.old shelf.new) }
 {
     match Bytes::of(alloc, file.path) {
         Ok(path) => read_text_file(alloc, &path, Input::Library(file.library), shelf),
@@ -47,9 +45,7 @@ fn read_file<F: Shelf>(
     reading: &mut Reading,
 ) -> Result<(), Status>
     ensures files { F.files shelf.new ≡ F.files shelf.old }
-    ensures reads { ReadsFile result (input_of (file_meaning file.now))
-        (shelf_flow F.files F.faults shelf.old shelf.new)
-        (λ _ bytes. TakesAll file.now.library 1 (placed bytes) reading.old reading.new) }
+    ensures reads { TakesFile F.Shelf shelf.old shelf.new (file_meaning file.now) reading.old reading.new result }
 {
     match text_of(alloc, file, shelf) {
         Ok(text) => match reading.take_text(alloc, &file.library, text.as_slice()) {
@@ -74,10 +70,7 @@ pub fn read_files<F: Shelf>(
     libraries: &Libraries<'_>,
     shelf: &mut F,
 ) -> Result<Reading, Status>
-    ensures reads { ReadsInTurn result (inputs_of (libraries_meaning libraries.now))
-        (shelf_flow F.files F.faults shelf.old shelf.new)
-        (λ reading contents. ReadsFiles contents (libraries_meaning libraries.now)
-        (none_read prefer.now) reading) }
+    ensures reads { ReadsLibraries F.Shelf shelf.old shelf.new prefer.now libraries.now result }
 {
     let mut reading = Reading::begun(alloc, prefer);
     for place in 0..libraries.len() {

@@ -1,7 +1,7 @@
 //! A record and its place.
 ghost use Rattle.std.specs.Prelude.{◌≡◌, IfOk};
 ghost use Rattle.marc_rules.specs.Accepted.{IsAccepted};
-ghost use Rattle.union_keys.specs.Standings.{edition_by, standing_of};
+ghost use Rattle.union_keys.specs.Standings.{edition_by, standing_at, standing_of};
 
 use crate::place::Place;
 use catalogue_editions::edition::Edition;
@@ -59,8 +59,7 @@ impl Standing {
         rec: Record,
     ) -> Result<Standing, Memory>
         requires { IsAccepted rec }
-        ensures { IfOk result (λ s. s ≡ standing_of prefer.now place.entry.library.now
-            place.entry.number place.entry.first size rec) }
+        ensures { IfOk result (λ s. s ≡ standing_at prefer.now place.entry size rec) }
     {
         let control = control_of(alloc, &rec)?;
         let edition = edition_by(alloc, prefer, place.library, rec)?;

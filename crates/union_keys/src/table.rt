@@ -1,11 +1,11 @@
 //! Records and their keys as numbers, in rows of a fixed width.
-ghost use Rattle.std.specs.Prelude.{◌≡◌, ◌++◌, ◌∷◌, ◌≤◌, length, take, IfOk, OnOk, ℕ};
-ghost use Rattle.std.specs.Int.{w64, to_le_bytes};
+ghost use Rattle.std.specs.Prelude.{◌≡◌, ◌++◌, IfOk, OnOk, ◌∷◌, ◌≤◌, length, take, ℕ};
+ghost use Rattle.std.specs.Int.{to_le_bytes, w64};
 ghost use Rattle.std.specs.List.{flat_map};
-ghost use Rattle.std.specs.Option.{option_to_list};
 ghost use Rattle.md5.specs.Md5.{md5};
+ghost use Rattle.union_keys.specs.Tables.{word, key_number, key_row, key_rows, id_number, code_cell, loads, record_row, record_rows, table, loaded_rows, keys_from};
+ghost use Rattle.std.specs.Option.{option_to_list};
 ghost use Rattle.union_base.specs.LibraryCodes.{longest-is_library_code};
-ghost use Rattle.union_keys.specs.Tables.{word, key_number, key_row, key_rows, id_number, code_cell, loads, record_row, record_rows, keys_from, table};
 
 use crate::key_text::add_key;
 use crate::standing::Standing;
@@ -125,8 +125,7 @@ fn add_loaded(
     number: u64,
     standing: &Standing,
 ) -> Result<(), Memory>
-    ensures { OnOk result (text.new.items ≡ text.old.items
-        ++ flat_map (key_rows number) (option_to_list standing.now.edition)) }
+    ensures { OnOk result (text.new.items ≡ text.old.items ++ loaded_rows number standing.now) }
 {
     match &standing.edition {
         Some(edition) => add_edition(alloc, text, number, edition),
