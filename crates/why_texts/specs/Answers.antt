@@ -9,6 +9,7 @@ use Rattle.edition_derivations.specs.declared.step.Step.{Step}
 use Rattle.why_texts.specs.Ids.{id_text, count_text}
 use Rattle.why_texts.specs.Steps.{steps_text}
 use Rattle.why_texts.specs.Differences.{differences_text}
+use Rattle.why_texts.specs.declared.steps.Told.{Told}
 
 -- how many records the edition has
 abbrev pub size_text : Edition → List ℕ
@@ -27,6 +28,13 @@ pair_text one other = id_text one ++ (codes " and " ++ id_text other)
 unfoldable pub same_text : RecordId → RecordId → Edition → List Edition → List Step → List ℕ
 same_text one other e records steps =
     pair_text one other ++ (codes ": one edition of " ++ (size_text e ++ (codes "\n" ++ steps_text records 1 steps)))
+
+-- the same by the steps and records that the code holds
+abbrev pub alone_told : RecordId → Edition → Told → List ℕ
+alone_told id e told = alone_text id e told.records.now told.steps.now
+
+abbrev pub same_told : RecordId → RecordId → Edition → Told → List ℕ
+same_told one other e told = same_text one other e told.records.now told.steps.now
 
 -- two editions, and what they have in common and what not
 unfoldable pub apart_text : RecordId → RecordId → Edition → Edition → List ℕ

@@ -1,3 +1,4 @@
+pub mod Adding
 pub mod Ids
 pub mod FieldTexts
 pub mod Reasons

@@ -10,6 +10,7 @@ use Rattle.edition_derivations.specs.Common.{first_common, first_common_but_seri
 use Rattle.edition_sources.specs.Values.{Value, Control, Isbn, Issn, Title, Date, Name, Kind, bearer, field_with}
 use Rattle.why_texts.specs.FieldTexts.{place_text, field_text}
 use Rattle.why_texts.specs.Reasons.{of_some}
+use Rattle.why_texts.specs.declared.sources.Sides.{Sides}
 
 -- where a record has a value that no field gives that is kept as it is: a control number in its 001, a date in its 008, a type in its
 -- leader
@@ -26,6 +27,10 @@ fixed_text (Kind kind) id = place_text (codes "leader/06-07") id kind
 abbrev pub given_text : Value → RecordId → Option Field → List ℕ
 given_text value id (Some f) = field_text id f
 given_text value id None = fixed_text value id
+
+-- the field that gives that record the value
+abbrev pub given_of : Value → Edition → List ℕ
+given_of value r = given_text value (least r) (field_with value r.content)
 
 -- the record that brings the value to an edition, with its field
 abbrev pub source_text : List Edition → Edition → Value → List ℕ
@@ -78,3 +83,7 @@ rules_text records left right x y =
 -- those of each rule that holds of the two
 unfoldable pub sources_text : List Edition → Edition → Edition → List ℕ
 sources_text records left right = rules_text records left right left.features right.features
+
+-- by two editions and their records, as the code holds them
+abbrev pub both : {A : Type 0} → (List Edition → Edition → Edition → A) → Sides → A
+both told sides = told sides.records.now sides.left.now sides.right.now

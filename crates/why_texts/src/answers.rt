@@ -1,6 +1,7 @@
 //! What is told of one record, and of two, as text.
 ghost use Rattle.std.specs.Prelude.{◌≡◌, ◌++◌, OnOk};
-ghost use Rattle.why_texts.specs.Answers.{size_text, alone_text, pair_text, same_text, apart_text, answer_text};
+ghost use Rattle.why_texts.specs.Answers.{size_text, pair_text, apart_text, answer_text, alone_told, same_told, alone_text, same_text};
+ghost use Rattle.why_texts.specs.Adding.{Adds};
 
 use crate::differences::add_differences;
 use crate::ids::add_id;
@@ -30,8 +31,7 @@ pub fn add_alone(
     edition: &Edition,
     told: &Told<'_>,
 ) -> Result<(), Memory>
-    ensures { OnOk result (text.new.items ≡ text.old.items
-        ++ alone_text id.now edition.now told.now.records.now told.now.steps.now) }
+    ensures { OnOk result (text.new.items ≡ text.old.items ++ alone_told id.now edition.now told.now) }
 {
     add_id(text, id)?;
     text.extend_from_slice(b": an edition of ")?;
@@ -60,8 +60,7 @@ fn add_same(
     edition: &Edition,
     told: &Told<'_>,
 ) -> Result<(), Memory>
-    ensures { OnOk result (text.new.items ≡ text.old.items ++ same_text one.now other.now
-        edition.now told.now.records.now told.now.steps.now) }
+    ensures { OnOk result (text.new.items ≡ text.old.items ++ same_told one.now other.now edition.now told.now) }
 {
     add_pair(text, one, other)?;
     text.extend_from_slice(b": one edition of ")?;
@@ -101,8 +100,7 @@ pub fn add_answer(
     records: &[Edition],
     answer: &Answer,
 ) -> Result<(), Memory>
-    ensures { OnOk result (text.new.items ≡ text.old.items
-        ++ answer_text one.now other.now records.now answer.now) }
+    ensures { OnOk result (Adds text.old text.new (answer_text one.now other.now records.now answer.now)) }
 {
     match answer {
         Answer::Same(edition, derivation) => {

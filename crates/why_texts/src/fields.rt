@@ -6,6 +6,7 @@ ghost use Rattle.std.specs.List.{flat_map};
 ghost use Rattle.std.specs.Option.{option_copied};
 ghost use Rattle.why_texts.specs.Fields.{reason_name, rank_text, other_text, other_in, tag_text, words_text, line_text, winner_text, part_text};
 ghost use Rattle.why_texts.specs.Fields.{parts_text, having_text, united_text, contents_of, content_text, fields_text};
+ghost use Rattle.why_texts.specs.Adding.{Adds};
 
 use crate::answers::add_size;
 use crate::field_texts::add_body;
@@ -156,8 +157,7 @@ fn add_winner(
     contents: &[SharedContent],
     winner: &Rank,
 ) -> Result<(), AllocError>
-    ensures { OnOk result (text.new.items
-        ≡ text.old.items ++ winner_text part content.now contents.now winner.now) }
+    ensures { OnOk result (Adds text.old text.new (winner_text part content.now contents.now winner.now)) }
 {
     let field = part.field(content);
     add_line(text, part, content, contents, winner, field)?;

@@ -2,6 +2,7 @@
 ghost use Rattle.std.specs.Prelude.{◌≡◌, ◌++◌, OnOk};
 ghost use Rattle.why_texts.specs.Reasons.{control_text, number_text, description_text};
 ghost use Rattle.why_texts.specs.Reasons.{control_reason, isbn_reason, issn_reason, title_reason, reasons_text};
+ghost use Rattle.why_texts.specs.Adding.{Adds};
 
 use edition_derivations::common::{first_common, first_common_but_serials};
 use match_features::features::Features;
@@ -39,8 +40,7 @@ fn add_description(
     name: &[u8],
     kind: &[u8],
 ) -> Result<(), AllocError>
-    ensures { OnOk result (text.new.items
-        ≡ text.old.items ++ description_text title.now date.now name.now kind.now) }
+    ensures { OnOk result (Adds text.old text.new (description_text title.now date.now name.now kind.now)) }
 {
     text.extend_from_slice(b"  title ")?;
     text.extend_from_slice(title)?;

@@ -3,8 +3,9 @@ ghost use Rattle.std.specs.Prelude.{◌≡◌, ◌++◌, OnOk};
 ghost use Rattle.std.specs.Option.{option_copied};
 ghost use Rattle.catalogue_editions.specs.Ids.{least};
 ghost use Rattle.edition_sources.specs.Values.{value_meaning, field_with};
-ghost use Rattle.why_texts.specs.Sources.{fixed_text, given_text, source_text, value_line, number_lines, three_lines};
+ghost use Rattle.why_texts.specs.Sources.{fixed_text, given_text, source_text, value_line, number_lines, three_lines, both, given_of};
 ghost use Rattle.why_texts.specs.Sources.{control_lines, isbn_lines, issn_lines, title_lines, rules_text, sources_text};
+ghost use Rattle.why_texts.specs.Adding.{Adds};
 
 use crate::field_texts::{add_field, add_place};
 use catalogue_editions::edition::Edition;
@@ -45,8 +46,7 @@ fn add_given(
     id: &RecordId,
     field: Option<&Field>,
 ) -> Result<(), AllocError>
-    ensures { OnOk result (text.new.items ≡ text.old.items
-        ++ given_text (value_meaning value.now) id.now (option_copied field.entry)) }
+    ensures { OnOk result (Adds text.old text.new (given_text (value_meaning value.now) id.now (option_copied field.entry))) }
 {
     match field {
         Some(field) => add_field(text, id, field),
@@ -61,9 +61,7 @@ fn add_record(
     value: &Value<'_>,
     rec: &Edition,
 ) -> Result<(), Memory>
-    ensures { OnOk result (text.new.items ≡ text.old.items ++ given_text
-        (value_meaning value.now) (least rec.now)
-        (field_with (value_meaning value.now) rec.now.content)) }
+    ensures { OnOk result (text.new.items ≡ text.old.items ++ given_of (value_meaning value.now) rec.now) }
 {
     let content = rec.content(alloc)?;
     let field = value.field(alloc, content.content())?;
@@ -79,8 +77,7 @@ fn add_source(
     edition: &Edition,
     value: &Value<'_>,
 ) -> Result<(), Memory>
-    ensures { OnOk result (text.new.items ≡ text.old.items
-        ++ source_text records.now edition.now (value_meaning value.now)) }
+    ensures { OnOk result (Adds text.old text.new (source_text records.now edition.now (value_meaning value.now))) }
 {
     match value.bearer(records, edition) {
         Some(rec) => add_record(alloc, text, value, rec),
@@ -91,8 +88,7 @@ fn add_source(
 impl<'a> Sides<'a> {
     /// Adds a line with the sources of the value on either side.
     fn add_value(&self, alloc: Global, text: &mut Vec<u8>, value: &Value<'_>) -> Result<(), Memory>
-        ensures { OnOk result (text.new.items ≡ text.old.items ++ value_line
-            self.now.records.now self.now.left.now self.now.right.now (value_meaning value.now)) }
+        ensures { OnOk result (text.new.items ≡ text.old.items ++ both value_line self.now (value_meaning value.now)) }
     {
         text.extend_from_slice(b"   ")?;
         add_source(alloc, text, self.records, self.left, value)?;
@@ -110,9 +106,7 @@ impl<'a> Sides<'a> {
         number: &Value<'_>,
         kind: &[u8; 2],
     ) -> Result<(), Memory>
-        ensures { OnOk result (text.new.items ≡ text.old.items ++ number_lines
-            self.now.records.now self.now.left.now self.now.right.now
-            (value_meaning number.now) kind.now) }
+        ensures { OnOk result (Adds text.old text.new (both number_lines self.now (value_meaning number.now) kind.now)) }
     {
         self.add_value(alloc, text, number)?;
         self.add_value(alloc, text, &Value::Kind(kind))
@@ -126,8 +120,7 @@ impl<'a> Sides<'a> {
         x: &Features,
         y: &Features,
     ) -> Result<(), Memory>
-        ensures { OnOk result (text.new.items ≡ text.old.items ++ control_lines
-            self.now.records.now self.now.left.now self.now.right.now x.now y.now) }
+        ensures { OnOk result (text.new.items ≡ text.old.items ++ both control_lines self.now x.now y.now) }
     {
         match first_common(&x.control, &y.control) {
             Some(pair) => self.add_value(alloc, text, &Value::Control(pair)),
@@ -143,8 +136,7 @@ impl<'a> Sides<'a> {
         x: &Features,
         y: &Features,
     ) -> Result<(), Memory>
-        ensures { OnOk result (text.new.items ≡ text.old.items ++ isbn_lines
-            self.now.records.now self.now.left.now self.now.right.now x.now y.now) }
+        ensures { OnOk result (text.new.items ≡ text.old.items ++ both isbn_lines self.now x.now y.now) }
     {
         match first_common(&x.types, &y.types) {
             Some(kind) => match first_common(&x.isbns, &y.isbns) {
@@ -163,8 +155,7 @@ impl<'a> Sides<'a> {
         x: &Features,
         y: &Features,
     ) -> Result<(), Memory>
-        ensures { OnOk result (text.new.items ≡ text.old.items ++ issn_lines
-            self.now.records.now self.now.left.now self.now.right.now x.now y.now) }
+        ensures { OnOk result (text.new.items ≡ text.old.items ++ both issn_lines self.now x.now y.now) }
     {
         match first_common(&x.types, &y.types) {
             Some(kind) => match first_common(&x.issns, &y.issns) {
@@ -184,9 +175,7 @@ impl<'a> Sides<'a> {
         date: &[u8; 4],
         name: &Bytes,
     ) -> Result<(), Memory>
-        ensures { OnOk result (text.new.items ≡ text.old.items ++ three_lines
-            self.now.records.now self.now.left.now self.now.right.now
-            title.now date.now name.now) }
+        ensures { OnOk result (Adds text.old text.new (both three_lines self.now title.now date.now name.now)) }
     {
         self.add_value(alloc, text, &Value::Title(title))?;
         self.add_value(alloc, text, &Value::Date(date))?;
@@ -202,8 +191,7 @@ impl<'a> Sides<'a> {
         x: &Features,
         y: &Features,
     ) -> Result<(), Memory>
-        ensures { OnOk result (text.new.items ≡ text.old.items ++ title_lines
-            self.now.records.now self.now.left.now self.now.right.now x.now y.now) }
+        ensures { OnOk result (text.new.items ≡ text.old.items ++ both title_lines self.now x.now y.now) }
     {
         let Some(kind) = first_common_but_serials(&x.types, &y.types) else {
             return Ok(());
@@ -230,8 +218,7 @@ impl<'a> Sides<'a> {
         x: &Features,
         y: &Features,
     ) -> Result<(), Memory>
-        ensures { OnOk result (text.new.items ≡ text.old.items ++ rules_text
-            self.now.records.now self.now.left.now self.now.right.now x.now y.now) }
+        ensures { OnOk result (text.new.items ≡ text.old.items ++ both rules_text self.now x.now y.now) }
     {
         self.add_control(alloc, text, x, y)?;
         self.add_isbn(alloc, text, x, y)?;
@@ -242,8 +229,7 @@ impl<'a> Sides<'a> {
 
     /// Adds the lines of each rule that holds of the two. Returns `Memory` if allocation fails.
     pub fn add_sources(&self, alloc: Global, text: &mut Vec<u8>) -> Result<(), Memory>
-        ensures { OnOk result (text.new.items ≡ text.old.items ++ sources_text
-            self.now.records.now self.now.left.now self.now.right.now) }
+        ensures { OnOk result (text.new.items ≡ text.old.items ++ both sources_text self.now) }
     {
         let x = self.left.features();
         let y = self.right.features();
