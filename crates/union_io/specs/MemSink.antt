@@ -1,7 +1,7 @@
 -- A sink in memory, as contracts see it.
-use Rattle.std.specs.Prelude.{ℕ, ◌-◌, List, ◌++◌, Bool, ◌==◌, ◌||◌, length, min, take}
+use Rattle.std.specs.Prelude.{ℕ, ◌-◌, List, ◌++◌, Bool, ◌==◌, ◌||◌, length, min, take, []}
 use Rattle.union_io.specs.Causes.{next_count}
-use Rattle.union_io.specs.Script.{Script, fails_next, after_call}
+use Rattle.union_io.specs.Script.{Script, fails_next, after_call, new_script}
 
 -- what was written, how many bytes it takes in all, which writes fail, and how many failed
 pub record SinkState : Type 0 where
@@ -25,3 +25,7 @@ after_write sink piece count = record sink { written = sink.written ++ take coun
 -- the sink after a write that failed
 abbrev pub after_failed_write : SinkState → SinkState
 after_failed_write sink = record sink { script = after_call sink.script; faults = next_count sink.faults }
+
+-- a sink on which nothing was written
+abbrev pub new_sink : List ℕ → ℕ → SinkState
+new_sink fails limit = record { written = []; limit = limit; script = new_script fails; faults = 0 }

@@ -5,11 +5,11 @@ ghost use Rattle.union_io.specs.Counts.{SameCounts, SameElsewhere};
 ghost use Rattle.union_io.specs.Files.{told_file};
 ghost use Rattle.union_io.specs.Names.{AddsName, is_among};
 ghost use Rattle.union_io.specs.Opening.{CountsOpen, ListsOpen};
-ghost use Rattle.union_io.specs.Opened.{names_in, count_in};
+ghost use Rattle.union_io.specs.Opened.{names_in, count_in, CountsOnce};
 ghost use Rattle.union_io.specs.Script.{after_call, new_script};
-ghost use Rattle.union_io.specs.Store.{at_name};
+ghost use Rattle.union_io.specs.Store.{at_name, KeepsOthers};
 ghost use Rattle.union_io.specs.MemSource.{new_source};
-ghost use Rattle.union_io.specs.MemShelf.{content_at, open_fails};
+ghost use Rattle.union_io.specs.MemShelf.{content_at, open_fails, mem_file, FindsFile, AnswersOpen, OpensFile};
 
 use crate::mem_source::MemSource;
 use crate::opened_names::OpenedNames;
@@ -96,10 +96,8 @@ impl MemShelf {
         most: usize,
     ) -> Result<(), Memory>
         requires { 0 < most }
-        ensures file { OnOk result (at_name self.new.files name
-            ≡ Some (record { content = content; fails = fails.items; most = most })) }
-        ensures others { OnOk result ((other : List ℕ) → other ≢ name
-            → at_name self.new.files other ≡ at_name self.old.files other) }
+        ensures file { OnOk result (at_name self.new.files name ≡ Some (mem_file content fails.items most)) }
+        ensures others { OnOk result (KeepsOthers self.old.files self.new.files name) }
         ensures names { self.new.names ≡ self.old.names }
         ensures script { self.new.script ≡ self.old.script }
         ensures err { OnErr result (self.new ≡ self.old) }
@@ -124,10 +122,7 @@ impl MemShelf {
 
     /// The file of that name, opened, if there is one.
     fn source_of(&self, alloc: Global, name: &Bytes) -> Result<Option<MemSource>, Memory>
-        ensures { IfOk result (λ found. MatchOption found
-            (at_name self.now.files name.now ≡ None)
-            (λ source. IsSomeAnd (at_name self.now.files name.now)
-            (λ file. source ≡ new_source name.now file.content file.fails file.most))) }
+        ensures { IfOk result (FindsFile self.now.files name.now) }
     {
         match self.files.get(name) {
             Some(file) => Ok(Some(file.opened(alloc, name)?)),
@@ -144,11 +139,7 @@ impl MemShelf {
             path.now) }
         ensures script { OnOk result (self.new.script ≡ after_call self.old.script) }
         ensures err { OnErr result (self.new ≡ self.old) }
-        ensures found { IfOk result (λ found. MatchOption found
-            (IsTrue (open_fails self.old path.now))
-            (λ source. (open_fails self.old path.now ≡ false)
-            × IsSomeAnd (at_name self.old.files path.now)
-            (λ file. source ≡ new_source path.now file.content file.fails file.most))) }
+        ensures found { IfOk result (AnswersOpen self.old path.now) }
     {
         let source = self.source_of(alloc, path)?;
         self.names.add(path.copied(alloc)?)?;
@@ -190,9 +181,7 @@ impl Shelf for MemShelf {
         // no file changes, exactly these opens fail, and each other gives the file from its beginning
         ensures same { self.new.files ≡ self.old.files }
         ensures fails { IsErrOf result OpenFail.Failed → IsTrue (open_fails self.old path.now) }
-        ensures ok { IfOk result (λ source. (open_fails self.old path.now ≡ false)
-            × IsSomeAnd (at_name self.old.files path.now)
-            (λ file. source ≡ new_source path.now file.content file.fails file.most)) }
+        ensures ok { IfOk result (OpensFile self.old path.now) }
         ensures counted { result ≢ Err OpenFail.Memory
             → self.new.script ≡ after_call self.old.script }
         ensures uncounted { IsErrOf result OpenFail.Memory → self.new.script ≡ self.old.script }
@@ -223,8 +212,7 @@ impl Shelf for MemShelf {
 
         ensures same { self.new.files ≡ self.old.files }
         ensures script { self.new.script ≡ self.old.script }
-        ensures once { 0 < source.faults → count_in self.new.names source.name
-            ≡ next_count (count_in self.old.names source.name) }
+        ensures once { 0 < source.faults → CountsOnce self.old.names self.new.names source.name }
     {
         self.names.take_back(source.name(), source.faults());
     }

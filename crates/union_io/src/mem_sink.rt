@@ -4,7 +4,7 @@ ghost use Rattle.std.specs.Io.{WritesAtMost};
 ghost use Rattle.std.specs.Io.KnownBytes.{WriteAppends};
 ghost use Rattle.union_io.specs.Causes.{HasCause};
 ghost use Rattle.union_io.specs.Script.{new_script};
-ghost use Rattle.union_io.specs.MemSink.{taken_of, write_fails, after_write, after_failed_write};
+ghost use Rattle.union_io.specs.MemSink.{taken_of, write_fails, after_write, after_failed_write, new_sink};
 
 use crate::failed::Failed;
 use crate::script::FailScript;
@@ -41,13 +41,7 @@ impl MemSink {
     /// An empty sink that writes into `room`, of which what it held is dropped. It takes at most `limit` bytes in all, and
     /// no more than the room was reserved for. The writes with the numbers `fails` fail, counted from 1. Takes no memory.
     pub fn new(fails: Vec<u64>, room: Vec<u8>, limit: usize) -> MemSink
-        ensures { result ≡ record {
-          written = [];
-          limit = min limit (vec_capacity room);
-          script =
-              new_script fails.items;
-          faults = 0;
-        } }
+        ensures { result ≡ new_sink fails.items (min limit (vec_capacity room)) }
     {
         let mut content = room;
         content.clear();

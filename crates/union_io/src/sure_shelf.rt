@@ -3,8 +3,9 @@ ghost use Rattle.std.specs.Prelude.{◌≡◌, ◌≢◌, ◌<◌, ℕ, List, []
 ghost use Rattle.union_io.specs.Files.{told_file};
 ghost use Rattle.union_io.specs.Opening.{ListsOpen};
 ghost use Rattle.union_io.specs.Opened.{names_in};
-ghost use Rattle.union_io.specs.Store.{at_name};
-ghost use Rattle.union_io.specs.SureShelf.{sure_content_at};
+ghost use Rattle.union_io.specs.SureSource.{sure_source};
+ghost use Rattle.union_io.specs.Store.{at_name, KeepsOthers};
+ghost use Rattle.union_io.specs.SureShelf.{sure_content_at, IsSureOf};
 
 use crate::opened_names::OpenedNames;
 use crate::shelf::{OpenFail, Shelf};
@@ -37,8 +38,7 @@ impl Model for SureFile {
 impl SureFile {
     /// The file, opened under that name.
     fn opened(&self, alloc: Global, name: &Bytes) -> Result<SureSource, Memory>
-        ensures { IfOk result (λ source. source
-            ≡ record { name = name.now; left = self.now.content; most = self.now.most }) }
+        ensures { IfOk result (λ source. source ≡ sure_source name.now self.now.content self.now.most) }
     {
         Ok(SureSource::named(name.copied(alloc)?, self.content.copied(alloc)?, self.most))
     }
@@ -76,8 +76,7 @@ impl SureShelf {
         requires { 0 < most }
         ensures file { OnOk result (at_name self.new.files name
             ≡ Some (record { content = content; most = most })) }
-        ensures others { OnOk result ((other : List ℕ) → other ≢ name
-            → at_name self.new.files other ≡ at_name self.old.files other) }
+        ensures others { OnOk result (KeepsOthers self.old.files self.new.files name) }
         ensures names { self.new.names ≡ self.old.names }
         ensures err { OnErr result (self.new ≡ self.old) }
     {
@@ -87,9 +86,7 @@ impl SureShelf {
 
     /// The file of that name, opened: an empty one where there is none.
     fn source_of(&self, alloc: Global, name: &Bytes) -> Result<SureSource, Memory>
-        ensures { IfOk result (λ source. MatchOption (at_name self.now.files name.now)
-            (source ≡ record { name = name.now; left = []; most = 1 })
-            (λ file. source ≡ record { name = name.now; left = file.content; most = file.most })) }
+        ensures { IfOk result (IsSureOf self.now.files name.now) }
     {
         match self.files.get(name) {
             Some(file) => file.opened(alloc, name),
