@@ -1,5 +1,5 @@
 -- A table of names as a value: what it has at each heading that stands in a record.
-use Rattle.std.specs.Prelude.{◌≡◌, ℕ, true, List, [], ◌∷◌, Option, None, Some, if◌then◌else◌, map, unwrap_or}
+use Rattle.std.specs.Prelude.{◌≡◌, ℕ, true, List, [], ◌∷◌, Option, None, Some, if◌then◌else◌, map, unwrap_or, ◌++◌}
 use Rattle.std.specs.Ordering.{nat_cmp}
 use Rattle.std.specs.Cmp.Lexicographic.{slice_cmp}
 use Rattle.std.specs.FinMap as finite
@@ -27,6 +27,10 @@ lead_of records x = if is_established records x then Some None else lead_among (
 -- the table is that of the records, at each heading
 abbrev pub IsTableOf : Table → List Authority → Type 0
 IsTableOf table records = (x : List ℕ) → finite.get table x ≡ lead_of records x
+
+-- whichever records the table was of, it is of these too
+abbrev pub TakesMore : Table → Table → List Authority → Type 0
+TakesMore old new more = (records : List Authority) → IsTableOf old records → IsTableOf new (records ++ more)
 
 -- the heading that x leads to
 abbrev pub led_from : Table → List ℕ → Option (List ℕ)

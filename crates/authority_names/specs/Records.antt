@@ -10,6 +10,7 @@ use Rattle.marc_parts.specs.Parts.{has_tag}
 use Rattle.naco_normal.specs.Words.{is_empty, where_not_empty}
 use Rattle.workset_keys.specs.Names.{name_of}
 use Rattle.authority_names.specs.Names.{Authority, authority}
+use Rattle.authority_names.specs.declared.authority.RecordNames.{RecordNames}
 use Rattle.authority_names.specs.declared.refusal.NameRefusal.{NameRefusal}
 use Rattle.authority_names.specs.declared.refusal.NameRefusal.TheVariants.{Kind, Coding, NotUtf8, Heading, Memory}
 
@@ -84,3 +85,11 @@ IsNameRefusal refusal first = first ≡ Some refusal
 abbrev pub AnswersNames : {T : Type 0} → Result T NameRefusal → Option NameRefusal → (T → Type 0) → Type 0
 AnswersNames result first P =
     MatchResult result (λ value. (first ≡ None) × P value) (λ refusal. IsNameRefusal refusal first)
+
+-- the headings that were found are these
+abbrev pub HasHeadings : List ℕ → List (List ℕ) → RecordNames → Type 0
+HasHeadings established variants found = (found.established ≡ established) × (found.variants.items ≡ variants)
+
+-- they are those of the fields
+abbrev pub AreHeadingsOf : List Field → RecordNames → Type 0
+AreHeadingsOf fields found = HasHeadings (established_in fields) (variants_in fields) found

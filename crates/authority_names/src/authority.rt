@@ -1,7 +1,7 @@
 //! What an authority record gives, and why it is refused.
 ghost use Rattle.std.specs.Prelude.{◌≡◌, ◌++◌, All, IfOk, OnOk, None, count_by, find, option_copied};
 ghost use Rattle.workset_keys.specs.Names.{HasTexts};
-ghost use Rattle.authority_names.specs.Records.{is_heading, is_see_from, is_coded, variant_in, established_in, variants_in, heading_refusal, refusal_of, AnswersNames};
+ghost use Rattle.authority_names.specs.Records.{is_heading, is_see_from, is_coded, variant_in, established_in, variants_in, heading_refusal, refusal_of, AnswersNames, AreHeadingsOf, HasHeadings};
 ghost use Rattle.naco_normal.specs.Words.{where_not_empty};
 
 use crate::refusal::NameRefusal;
@@ -31,9 +31,7 @@ pub(crate) struct RecordNames {
 
 /// What the record gives, or the first reason to refuse it. Returns `Memory` if allocation fails.
 pub(crate) fn names_of(alloc: Global, rec: &Record) -> Result<RecordNames, NameRefusal>
-    ensures { AnswersNames result (refusal_of rec.now) (λ found.
-        (found.established ≡ established_in rec.now.fields)
-        × (found.variants.items ≡ variants_in rec.now.fields)) }
+    ensures { AnswersNames result (refusal_of rec.now) (AreHeadingsOf rec.now.fields) }
 {
     if rec.leader.kind != AUTHORITY_DATA {
         return Err(NameRefusal::Kind);
@@ -59,9 +57,7 @@ fn is_coded(rec: &Record) -> bool
 /// What the fields give, or `Heading` where the established heading is empty.
 fn headings_of(alloc: Global, fields: &[Field]) -> Result<RecordNames, NameRefusal>
     requires { All HasTexts fields.now }
-    ensures { AnswersNames result (heading_refusal fields.now) (λ found.
-        (found.established ≡ established_in fields.now)
-        × (found.variants.items ≡ variants_in fields.now)) }
+    ensures { AnswersNames result (heading_refusal fields.now) (AreHeadingsOf fields.now) }
 {
     match established_in(alloc, fields) {
         Ok(established) => {
@@ -82,8 +78,7 @@ fn with_variants(
     fields: &[Field],
 ) -> Result<RecordNames, NameRefusal>
     requires { All HasTexts fields.now }
-    ensures { AnswersNames result None (λ found. (found.established ≡ established)
-        × (found.variants.items ≡ variants_in fields.now)) }
+    ensures { AnswersNames result None (HasHeadings established (variants_in fields.now)) }
 {
     match variants_in(alloc, fields) {
         Ok(variants) => Ok(RecordNames {

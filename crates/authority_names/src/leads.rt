@@ -9,7 +9,7 @@ ghost use Rattle.indexmap.specs.IndexMap.{keys, spare, IsUnique};
 ghost use Rattle.std.specs.Cmp.Lexicographic.{pointwise};
 ghost use Rattle.authority_names.specs.Names.{is_same};
 ghost use Rattle.authority_names.specs.Leads.{joined_lead, seen_from};
-ghost use Rattle.authority_names.specs.Places.{leads, joined_place, table_of, HasPlaces};
+ghost use Rattle.authority_names.specs.Places.{leads, joined_place, table_of, HasPlaces, Establishes, KeepsPlace, LeadTo, is_any};
 
 use indexmap::IndexMap;
 use key_hashing::hashing::Hashing;
@@ -49,8 +49,7 @@ pub(crate) fn establish(headings: &mut Headings, heading: Bytes) -> usize
     ensures room { spare headings.old ≤ spare headings.new + 1 }
     ensures places { HasPlaces headings.new.entries }
     ensures place { slice_get (keys headings.new) result ≡ Some heading }
-    ensures table { (x : List ℕ) → get (table_of headings.new.entries) x
-        ≡ (if is_same heading x then Some None else get (table_of headings.old.entries) x) }
+    ensures table { Establishes heading headings.old.entries headings.new.entries }
 {
     match headings.insert_full(heading, Lead::Nowhere) {
         Ok((place, _)) => place,
@@ -66,12 +65,8 @@ fn lead_to(headings: &mut Headings, heading: Bytes, place: usize)
     ensures room { spare headings.old ≤ spare headings.new + 1 }
     ensures places { HasPlaces headings.new.entries }
     ensures longer { length headings.old.entries ≤ length headings.new.entries }
-    ensures kept { (t : List ℕ) → slice_get (keys headings.old) place ≡ Some t
-        → slice_get (keys headings.new) place ≡ Some t }
-    ensures table { (t : List ℕ) → slice_get (keys headings.old) place ≡ Some t → (x : List ℕ)
-        → get (table_of headings.new.entries) x
-        ≡ (if is_same heading x then Some (joined_lead (get (table_of headings.old.entries) x) t)
-        else get (table_of headings.old.entries) x) }
+    ensures kept { KeepsPlace place (keys headings.old) (keys headings.new) }
+    ensures table { LeadTo (is_same heading) place (keys headings.old) headings.old.entries headings.new.entries }
 {
     let joined = joined(headings.get(&heading), place);
     match headings.insert(heading, joined) {
@@ -86,11 +81,7 @@ pub(crate) fn lead_all(headings: &mut Headings, variants: Vec<Bytes>, place: usi
     requires places { HasPlaces headings.old.entries }
     requires place { place < length headings.old.entries }
     ensures places { HasPlaces headings.new.entries }
-    ensures table { (t : List ℕ) → slice_get (keys headings.old) place ≡ Some t → (x : List ℕ)
-        → get (table_of headings.new.entries) x
-        ≡ (if list_any (λ v. is_same v x) variants.items
-        then Some (joined_lead (get (table_of headings.old.entries) x) t)
-        else get (table_of headings.old.entries) x) }
+    ensures table { LeadTo (is_any variants.items) place (keys headings.old) headings.old.entries headings.new.entries }
 {
     for variant in variants {
         lead_to(headings, variant, place);

@@ -2,7 +2,7 @@
 ghost use Rattle.std.specs.Prelude.{◌≡◌, ◌++◌, ⊤, List, [], ◌∷◌, IfOk, IsTrue, OnOk, OnErr, unwrap_or};
 ghost use Rattle.std.specs.FinMap as finite;
 ghost use Rattle.authority_names.specs.Names.{Authority, authority, IsSize, name_at};
-ghost use Rattle.authority_names.specs.Leads.{AreTexts, IsTableOf, led_from, seen_from, used_for};
+ghost use Rattle.authority_names.specs.Leads.{AreTexts, IsTableOf, led_from, seen_from, used_for, TakesMore};
 ghost use Rattle.workset_keys.specs.Texts.{is_key_text};
 ghost use Rattle.authority_names.specs.Records.{AnswersNames, refusal_of, taken_of};
 
@@ -85,8 +85,7 @@ impl NameTable {
     /// table is then as before.
     pub fn add(&mut self, alloc: Global, rec: &Record) -> Result<(), NameRefusal>
         ensures answer { AnswersNames result (refusal_of rec.now) (λ _. ⊤) }
-        ensures added { OnOk result ((records : List Authority) → IsTableOf self.old records
-            → IsTableOf self.new (records ++ taken_of rec.now)) }
+        ensures added { OnOk result (TakesMore self.old self.new (taken_of rec.now)) }
         ensures refused { OnErr result (self.new ≡ self.old) }
     {
         match names_of(alloc, rec) {
@@ -107,8 +106,7 @@ impl NameTable {
     /// Takes in what a record gives. Returns `Memory` if allocation fails, and then the table is as before.
     fn take(&mut self, established: Bytes, variants: Vec<Bytes>) -> Result<(), Memory>
         requires { IsTrue (is_key_text established) }
-        ensures added { OnOk result ((records : List Authority) → IsTableOf self.old records
-            → IsTableOf self.new (records ++ authority established variants.items ∷ [])) }
+        ensures added { OnOk result (TakesMore self.old self.new (authority established variants.items ∷ [])) }
         ensures refused { OnErr result (self.new ≡ self.old) }
     {
         self.headings.reserve(variants.len() + 1)?;
