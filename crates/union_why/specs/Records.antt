@@ -1,6 +1,7 @@
 -- The current records, and what is told of them.
-use Rattle.std.specs.Prelude.{◌≡◌, ℕ, IsTrue, List, Some, reverse}
+use Rattle.std.specs.Prelude.{◌≡◌, ℕ, IsTrue, List, Some, reverse, Contains}
 use Rattle.std.specs.Map.{values_of}
+use Rattle.std.specs.FinMap.{empty}
 use Rattle.union_base.specs.declared.record_id.RecordId.{RecordId}
 use Rattle.merge_laws.specs.Resolution.{IsResolution}
 use Rattle.catalogue_editions.specs.Joining.{join}
@@ -14,6 +15,7 @@ use Rattle.union_keys.specs.Groups.{Table}
 use Rattle.union_keys.specs.Lines.{editions_in}
 use Rattle.why_texts.specs.Answers.{members, alone_text, answer_text}
 use Rattle.why_texts.specs.Fields.{fields_text}
+use Rattle.why_texts.specs.Works.{told_work, told_works}
 
 -- what the last records of their ids load, in descending order of the ids
 abbrev pub records_in : Table → List Edition
@@ -42,3 +44,22 @@ pub record TellsTwo (records : List Edition) (one other : RecordId) (text : List
   pub answer : AnswerInPlace
   pub answers : Answers records editions one other (Some answer)
   pub told : text ≡ answer_text one other records answer
+
+-- the work of one of the editions to which the records resolve, which has the record, is told by the records that match it, without names
+pub record TellsWork (records : List Edition) (id : RecordId) (text : List ℕ) : Type 0 where
+  pub edition : Edition
+  pub of : IsEditionOf records edition
+  pub has : IsTrue (holds edition id)
+  pub told : text ≡ told_work empty records id edition
+
+-- the works of the editions to which the records resolve that have the one and the other record are told so
+pub record TellsWorks (records : List Edition) (one other : RecordId) (text : List ℕ) : Type 0 where
+  pub editions : List Edition
+  pub resolved : IsResolution match join records editions
+  pub left : Edition
+  pub right : Edition
+  pub left_of : Contains editions left
+  pub right_of : Contains editions right
+  pub left_has : IsTrue (holds left one)
+  pub right_has : IsTrue (holds right other)
+  pub told : text ≡ told_works empty records one other left right

@@ -7,12 +7,13 @@ use Rattle.union_words.specs.Words.{LibraryFile, alone_of, same_text, are_librar
 use Rattle.doubt_texts.specs.declared.form.Form.{Form}
 use Rattle.doubt_texts.specs.declared.form.Form.TheVariants.{Lines, Table}
 use Rattle.union_why.specs.declared.request.Request.{Request as RequestInPlace}
-use Rattle.union_why.specs.declared.request.Request.TheVariants.{Why as WhyInPlace, Fields as FieldsInPlace, Doubtful as DoubtfulInPlace, Help as HelpInPlace, Version as VersionInPlace}
+use Rattle.union_why.specs.declared.request.Request.TheVariants.{Why as WhyInPlace, Fields as FieldsInPlace, Works as WorksInPlace, Doubtful as DoubtfulInPlace, Help as HelpInPlace, Version as VersionInPlace}
 
 -- what the words ask for
 pub data Request : Type 0 where
   Why : (libraries : List LibraryFile) (ids : List (List ℕ)) → Request
   Fields : (prefer : List (List ℕ)) (libraries : List LibraryFile) (ids : List (List ℕ)) → Request
+  Works : (prefer : List (List ℕ)) (libraries : List LibraryFile) (ids : List (List ℕ)) → Request
   Doubtful : (form : Form) (libraries : List LibraryFile) → Request
   Help : Request
   Version : Request
@@ -21,6 +22,7 @@ pub data Request : Type 0 where
 abbrev pub request_meaning : RequestInPlace → Request
 request_meaning (WhyInPlace libraries ids) = Why (libraries_meaning libraries) ids.now
 request_meaning (FieldsInPlace prefer libraries ids) = Fields prefer (libraries_meaning libraries) ids.now
+request_meaning (WorksInPlace prefer libraries ids) = Works prefer (libraries_meaning libraries) ids.now
 request_meaning (DoubtfulInPlace form libraries) = Doubtful form (libraries_meaning libraries)
 request_meaning HelpInPlace = Help
 request_meaning VersionInPlace = Version
@@ -59,6 +61,17 @@ fields_by prefer words =
 abbrev pub fields_of : List (List ℕ) → Option Request
 fields_of words = fields_by (prefer_in words).0 (prefer_in words).1
 
+-- by a preference: one to 64 words `LIB=PATH`, no library twice, and then one or two ids
+abbrev pub works_by : List (List ℕ) → List (List ℕ) → Option Request
+works_by prefer words =
+    (if are_ids (drop (library_count words) words) && are_libraries (take (library_count words) words)
+    then Some (Works prefer (libraries_of (take (library_count words) words)) (drop (library_count words) words))
+    else None)
+
+-- after `--works`: the same behind `--prefer=LIB,..` where there is such a word
+abbrev pub works_of : List (List ℕ) → Option Request
+works_of words = works_by (prefer_in words).0 (prefer_in words).1
+
 -- one to 64 words `LIB=PATH`, no library twice
 abbrev pub listed_as : Form → List (List ℕ) → Option Request
 listed_as form words = (if are_libraries words then Some (Doubtful form (libraries_of words)) else None)
@@ -75,5 +88,6 @@ request_of (word ∷ rest) =
     (if same_text word (codes "--help") then alone_of Help rest
     else (if same_text word (codes "--version") then alone_of Version rest
     else (if same_text word (codes "--fields") then fields_of rest
+    else (if same_text word (codes "--works") then works_of rest
     else (if same_text word (codes "--doubtful") then doubtful_of rest
-    else why_of (word ∷ rest)))))
+    else why_of (word ∷ rest))))))

@@ -2,7 +2,8 @@
 //!
 //! `records::tell_one` and `tell_two` tell of the current records, which `records_in` takes of the files' records: the text is
 //! that of an edition to which the records resolve and of steps by which it derives from them, or of two editions and of what
-//! these have in common and what not. A value that is named is one of both sides (`edition_derivations::laws`). `fates::add_fate`
+//! these have in common and what not. `tell_fields`, `tell_work` and `tell_works` tell which records and fields an edition's record and
+//! its work key come from. A value that is named is one of both sides (`edition_derivations::laws`). `fates::add_fate`
 //! tells of an id that is not current, `listings::tell_doubtful` lists the merged editions that deserve a look, and `request::Request`
 //! reads the words.
 //!

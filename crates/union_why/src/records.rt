@@ -1,8 +1,9 @@
 //! The current records, and what is told of them.
 ghost use Rattle.std.specs.Prelude.{◌≡◌, ◌++◌, IfOk, IfSome, OnOk};
 ghost use Rattle.std.specs.Option.{option_to_list};
-ghost use Rattle.union_why.specs.Records.{records_in, TellsOne, TellsFields, TellsTwo};
+ghost use Rattle.union_why.specs.Records.{records_in, TellsOne, TellsFields, TellsTwo, TellsWork, TellsWorks};
 
+use authority_names::name_table::NameTable;
 use catalogue_editions::edition::Edition;
 use edition_derivations::asking::answer_of;
 use edition_derivations::holding::holder;
@@ -18,6 +19,7 @@ use union_keys::standing::Standing;
 use why_texts::answers::{add_alone, add_answer};
 use why_texts::fields::add_fields;
 use why_texts::steps::Told;
+use why_texts::works::{add_work, add_works};
 
 /// Pushes what the record loads. Returns `Memory` if allocation fails.
 fn push_loaded(records: &mut Vec<Edition>, standing: Standing) -> Result<(), Memory>
@@ -140,4 +142,62 @@ pub fn tell_two<Rt: Threads + Sync>(
             Ok(Some(text))
         }
     }
+}
+
+/// What is told of the work of a record's edition: None where no record has the id.
+///
+/// Returns `Memory` if allocation fails.
+pub fn tell_work<Rt: Threads + Sync>(
+    rt: &Rt,
+    hashing: Hashing,
+    alloc: Global,
+    records: &[Edition],
+    id: &RecordId,
+) -> Result<Option<Vec<u8>>, Memory>
+    ensures { IfOk result (λ told. IfSome told (λ text. TellsWork records.now id.now text.items)) }
+{
+    let editions = resolve_halves(rt, hashing, shared_each(alloc, records)?, 1)?;
+    match holder(editions.as_slice(), id) {
+        None => Ok(None),
+        Some(edition) => {
+            let names = NameTable::empty(alloc, hashing);
+            let mut text = Vec::new(alloc);
+            add_work(alloc, &mut text, &names, records, id, edition)?;
+            Ok(Some(text))
+        }
+    }
+}
+
+/// What is told of the works of two of the records: None where no record has one of the ids.
+///
+/// Returns `Memory` if allocation fails.
+pub fn tell_works<Rt: Threads + Sync>(
+    rt: &Rt,
+    hashing: Hashing,
+    alloc: Global,
+    records: &[Edition],
+    one: &RecordId,
+    other: &RecordId,
+) -> Result<Option<Vec<u8>>, Memory>
+    ensures { IfOk result (λ told. IfSome told (λ text.
+        TellsWorks records.now one.now other.now text.items)) }
+{
+    let editions = resolve_halves(rt, hashing, shared_each(alloc, records)?, 1)?;
+    let Some(left) = holder(editions.as_slice(), one) else {
+        return Ok(None);
+    };
+    let Some(right) = holder(editions.as_slice(), other) else {
+        return Ok(None);
+    };
+    let names = NameTable::empty(alloc, hashing);
+    let mut text = Vec::new(alloc);
+    add_works(
+        alloc,
+        &mut text,
+        &names,
+        records,
+        (one, other),
+        (left, right),
+    )?;
+    Ok(Some(text))
 }

@@ -3,7 +3,7 @@ ghost use Rattle.std.specs.Prelude.{◌≡◌, ◌≤◌, IfOk, length, position
 ghost use Rattle.std.specs.List.{list_all};
 ghost use Rattle.std.specs.Option.{option_map};
 ghost use Rattle.union_keys.specs.Groups.{id_in};
-ghost use Rattle.union_why.specs.Requests.{request_meaning, why_of, fields_by, fields_of, listed_as, doubtful_of, request_of};
+ghost use Rattle.union_why.specs.Requests.{request_meaning, why_of, fields_by, fields_of, works_by, works_of, listed_as, doubtful_of, request_of};
 ghost use Rattle.union_why.specs.Requests.{is_id_word, are_ids, is_one_id, library_count};
 
 use crate::options::prefer_in;
@@ -27,6 +27,7 @@ union-why - say why records are one edition, and why they are not
 USAGE
     union-why LIB=PATH .. ID [ID]
     union-why --fields [--prefer=LIB,..] LIB=PATH .. ID
+    union-why --works [--prefer=LIB,..] LIB=PATH .. ID [ID]
     union-why --doubtful [--csv] LIB=PATH ..
     union-why --help          show this help
     union-why --version       show the program's name and version
@@ -67,6 +68,24 @@ WHAT IS WRITTEN
     them. --prefer=LIB,.. names the libraries whose fields come first, the best
     first, as union export has it. It changes no merge, nor does a file of names
     (--names of union), which is not taken here.
+
+    With --works, of one record: the work key of its edition, as union works has
+    it without a file of names, and the author and the title of which that is
+    made, each with the fields that it was read from, told as with --fields. Of
+    two records of two editions: whether these are one work, and which parts of
+    the two keys are the same, such as
+
+        LIBA.a1 and LIBB.b1: two works, two editions (1 record, 2 records)
+        work      differs: hill, ann/cat and hill, ann/red ships
+        author    same: hill, ann
+           100 of LIBA.a1: $aHill, Ann
+           100 of LIBB.b1, before LIBC.c1 by id: $aHill, Ann.
+        title     differs: cat and red ships
+           245 of LIBA.a1: $aCat
+           240 of LIBB.b1: $aRed ships
+
+    Where the main entry is a uniform title, there is no author. Where no name
+    is there, the id of the edition's least record stands in its place.
 
     Of an ID that is not current the lines say why: the number and the offset of
     the frame that withdraws it, or of each refused frame that shows it, with
@@ -126,6 +145,8 @@ pub enum Request<'a> {
     Why(Libraries<'a>, &'a [Bytes]),
     /// `--fields [--prefer=LIB,..] LIB=PATH .. ID`: tell where the fields of one record's edition come from.
     Fields(Preference, Libraries<'a>, &'a [Bytes]),
+    /// `--works [--prefer=LIB,..] LIB=PATH .. ID [ID]`: tell of the works of one or two records.
+    Works(Preference, Libraries<'a>, &'a [Bytes]),
     /// `--doubtful [--csv] LIB=PATH ..`: list the merged editions that deserve a look.
     Doubtful(Form, Libraries<'a>),
     /// `--help`: tell the forms of words.
@@ -155,6 +176,8 @@ impl<'a> Request<'a> {
                     }
                 } else if word.bytes() == b"--fields".as_slice() {
                     fields(rest)
+                } else if word.bytes() == b"--works".as_slice() {
+                    works(rest)
                 } else if word.bytes() == b"--doubtful".as_slice() {
                     doubtful(rest)
                 } else {
@@ -243,6 +266,28 @@ fn fields<'a>(words: &'a [Bytes]) -> Option<Request<'a>>
 {
     let (prefer, rest) = prefer_in(words);
     fields_by(&prefer, rest)
+}
+
+/// The libraries and the ids that the words name, by a preference.
+fn works_by<'a>(prefer: &Preference, words: &'a [Bytes]) -> Option<Request<'a>>
+    ensures { option_map request_meaning result ≡ works_by prefer.now words.now }
+{
+    let (front, ids) = words.split_at(library_count(words));
+    if !are_ids(ids) {
+        return None;
+    }
+    match Libraries::read(front) {
+        Some(libraries) => Some(Request::Works(*prefer, libraries, ids)),
+        None => None,
+    }
+}
+
+/// The same, where the first word may be a preference.
+fn works<'a>(words: &'a [Bytes]) -> Option<Request<'a>>
+    ensures { option_map request_meaning result ≡ works_of words.now }
+{
+    let (prefer, rest) = prefer_in(words);
+    works_by(&prefer, rest)
 }
 
 /// The list of the libraries that the words name.

@@ -1,6 +1,7 @@
 //! The program that tells why records are one edition: the real files and streams, handed to the crate that does the work.
 #![tactic(auto)]
 
+use catalogue_editions::edition::Edition;
 use doubt_texts::form::Form;
 use field_merge::preference::Preference;
 use key_hashing::hashing::Hashing;
@@ -25,7 +26,7 @@ use union_keys::run::read_files;
 use union_keys::standing::Standing;
 use union_why::fates::add_fate;
 use union_why::listings::tell_doubtful;
-use union_why::records::{records_in, tell_fields, tell_one, tell_two};
+use union_why::records::{records_in, tell_fields, tell_one, tell_two, tell_work, tell_works};
 use union_why::request::{HELP, Request, VERSION, id_in};
 use union_words::libraries::Libraries;
 use union_words::status::Status;
@@ -113,7 +114,7 @@ fn done<Rt: Threads + Sync, F: Shelf, O: Sink>(
                 prefer: &Preference::none(),
                 libraries: *libraries,
                 ids: *ids,
-                of_fields: false,
+                subject: Subject::Steps,
             };
             tell_files(rt, hashing, alloc, &asked, shelf, out)
         }
@@ -122,7 +123,16 @@ fn done<Rt: Threads + Sync, F: Shelf, O: Sink>(
                 prefer,
                 libraries: *libraries,
                 ids: *ids,
-                of_fields: true,
+                subject: Subject::Fields,
+            };
+            tell_files(rt, hashing, alloc, &asked, shelf, out)
+        }
+        Request::Works(prefer, libraries, ids) => {
+            let asked = Asked {
+                prefer,
+                libraries: *libraries,
+                ids: *ids,
+                subject: Subject::Works,
             };
             tell_files(rt, hashing, alloc, &asked, shelf, out)
         }
@@ -136,13 +146,24 @@ fn done<Rt: Threads + Sync, F: Shelf, O: Sink>(
     }
 }
 
-/// The libraries, and which of them are preferred, the ids that are asked for, and whether the fields of their edition are.
+/// What is asked of the ids' editions.
+#[derive(Clone, Copy, PartialEq, Eq)]
+enum Subject {
+    /// How they came together, or what keeps them apart.
+    Steps,
+    /// Where their fields come from.
+    Fields,
+    /// Which works they are.
+    Works,
+}
+
+/// The libraries, and which of them are preferred, the ids that are asked for, and what is asked of their editions.
 #[derive(Clone, Copy)]
 struct Asked<'a> {
     prefer: &'a Preference,
     libraries: Libraries<'a>,
     ids: &'a [Bytes],
-    of_fields: bool,
+    subject: Subject,
 }
 
 /// Reads the libraries' files, and tells what is asked.
@@ -248,20 +269,51 @@ fn tell<Rt: Threads + Sync>(
         });
     }
     let records = records_in(alloc, table)?;
+    let records = records.as_slice();
     let told = match ids.as_slice() {
         [one, other] if one != other => {
-            tell_two(rt, hashing, alloc, records.as_slice(), one, other)?
+            told_of_two(rt, hashing, alloc, records, (one, other), asked.subject)?
         }
-        [one, ..] if asked.of_fields => {
-            tell_fields(rt, hashing, alloc, records.as_slice(), one)?
-        }
-        [one, ..] => tell_one(rt, hashing, alloc, records.as_slice(), one)?,
+        [one, ..] => told_of_one(rt, hashing, alloc, records, one, asked.subject)?,
         [] => None,
     };
     Ok(Telling {
         text: told.unwrap_or(fates),
         is_current: true,
     })
+}
+
+/// What is told of one of the records.
+fn told_of_one<Rt: Threads + Sync>(
+    rt: &Rt,
+    hashing: Hashing,
+    alloc: Global,
+    records: &[Edition],
+    id: &RecordId,
+    subject: Subject,
+) -> Result<Option<Vec<u8>>, Memory> {
+    match subject {
+        Subject::Steps => tell_one(rt, hashing, alloc, records, id),
+        Subject::Fields => tell_fields(rt, hashing, alloc, records, id),
+        Subject::Works => tell_work(rt, hashing, alloc, records, id),
+    }
+}
+
+/// What is told of two of the records. The fields are asked of one alone.
+fn told_of_two<Rt: Threads + Sync>(
+    rt: &Rt,
+    hashing: Hashing,
+    alloc: Global,
+    records: &[Edition],
+    ids: (&RecordId, &RecordId),
+    subject: Subject,
+) -> Result<Option<Vec<u8>>, Memory> {
+    match subject {
+        Subject::Works => tell_works(rt, hashing, alloc, records, ids.0, ids.1),
+        Subject::Steps | Subject::Fields => {
+            tell_two(rt, hashing, alloc, records, ids.0, ids.1)
+        }
+    }
 }
 
 /// The ids of the words.

@@ -165,7 +165,7 @@ fn add_winner(
 }
 
 /// Adds the line of a field of which an edition shows one, where there is one.
-fn add_part(
+pub(crate) fn add_part(
     text: &mut Vec<u8>,
     part: Part,
     content: &Content,
@@ -225,7 +225,7 @@ fn add_each_having(
 }
 
 /// Adds the line of a field of which an edition shows all.
-fn add_united(
+pub(crate) fn add_united(
     text: &mut Vec<u8>,
     contents: &[SharedContent],
     field: &Field,
@@ -256,7 +256,7 @@ fn add_each_united(
 }
 
 /// What the records say. Returns `Memory` if allocation fails.
-fn contents_of(alloc: Global, records: &[Edition]) -> Result<Vec<SharedContent>, Memory>
+pub(crate) fn contents_of(alloc: Global, records: &[Edition]) -> Result<Vec<SharedContent>, Memory>
     ensures { IfOk result (λ contents. contents.items ≡ contents_of records.now) }
 {
     let mut contents = Vec::with_capacity(alloc, records.len())?;
