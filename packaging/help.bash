@@ -24,7 +24,7 @@ options_of() {
     follow) echo "--ask=PATH" ;;
     union-explain) echo "--csv" ;;
     union-keys) echo "--table --groups=PATH" ;;
-    union-why) echo "--fields --prefer=LIB,.. --doubtful --csv" ;;
+    union-why) echo "--fields --works --prefer=LIB,.. --doubtful --csv" ;;
   esac
 }
 
@@ -140,8 +140,8 @@ wrong_why() {
   local count=0 word wrong ids=wrong_ids
   local LC_ALL=C
   case ${1-} in
-    --fields)
-      ids=wrong_one_id
+    --fields | --works)
+      [ "$1" = --works ] || ids=wrong_one_id
       shift
       if [[ ${1-} == --prefer=* ]]; then
         wrong=$(wrong_preference "${1#*=}")

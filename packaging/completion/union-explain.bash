@@ -14,10 +14,10 @@ _union_tools() {
     union-explain:1) options="--csv --help --version" ;;
     union-keys:1) options="--table --groups= --help --version" ;;
     union-keys:2) options="--groups=" ;;
-    union-why:1) options="--fields --doubtful --help --version" ;;
+    union-why:1) options="--fields --works --doubtful --help --version" ;;
     union-why:2)
       [ "${COMP_WORDS[1]}" != --doubtful ] || options="--csv"
-      [ "${COMP_WORDS[1]}" != --fields ] || options="--prefer="
+      [[ ${COMP_WORDS[1]} != --@(fields|works) ]] || options="--prefer="
       ;;
     union-overlap:*)
       if [[ $word == -* ]]; then

@@ -310,9 +310,7 @@ fn told_of_two<Rt: Threads + Sync>(
 ) -> Result<Option<Vec<u8>>, Memory> {
     match subject {
         Subject::Works => tell_works(rt, hashing, alloc, records, ids.0, ids.1),
-        Subject::Steps | Subject::Fields => {
-            tell_two(rt, hashing, alloc, records, ids.0, ids.1)
-        }
+        Subject::Steps | Subject::Fields => { tell_two(rt, hashing, alloc, records, ids.0, ids.1) }
     }
 }
 

@@ -6,5 +6,4 @@ pub mod Steps
 pub mod Differences
 pub mod Answers
 pub mod Fields
-pub mod WorkParts
 pub mod Works

@@ -1,25 +1,24 @@
 -- What is told of the works of editions: their work keys, and the fields that the parts of these come from, as text.
-use Rattle.std.specs.Prelude.{◌≡◌, ℕ, if◌then◌else◌, List, [], ◌++◌, codes}
+use Rattle.std.specs.Prelude.{ℕ, if◌then◌else◌, List, [], ◌++◌, codes}
 use Rattle.std.specs.List.{flat_map}
 use Rattle.union_base.specs.Alike as alike
 use Rattle.union_base.specs.declared.field.Field.{Field}
 use Rattle.union_base.specs.declared.record_id.RecordId.{RecordId}
-use Rattle.workset_keys.specs.Names.{name_of}
-use Rattle.authority_names.specs.Leads.{Table, used_for}
+use Rattle.authority_names.specs.Leads.{Table}
 use Rattle.field_merge.specs.declared.content.Content.{Content}
 use Rattle.catalogue_editions.specs.declared.edition.Edition.{Edition}
-use Rattle.record_editions.specs.EditionKeys.{is_added_entry, work_key_by}
+use Rattle.record_editions.specs.EditionKeys.{work_key_by}
 use Rattle.edition_sources.specs.declared.shown_once.Part.{Part}
 use Rattle.edition_sources.specs.declared.shown_once.Part.TheVariants as shown_parts
 use Rattle.edition_derivations.specs.Steps.{holds}
 use Rattle.why_texts.specs.Answers.{members, size_text, pair_text}
 use Rattle.why_texts.specs.Fields.{contents_of, part_text, united_text}
 use Rattle.why_texts.specs.Ids.{id_text}
-use Rattle.why_texts.specs.WorkParts.{parts_of}
-use Rattle.why_texts.specs.declared.work_parts.KeyPart.{KeyPart}
-use Rattle.why_texts.specs.declared.work_parts.KeyParts.{KeyParts}
-use Rattle.why_texts.specs.declared.work_parts.Place.{Place}
-use Rattle.why_texts.specs.declared.work_parts.Place.TheVariants.{MainEntry, UniformTitle, Title, AddedEntry, Nowhere, Itself}
+use Rattle.work_key_parts.specs.Parts.{added_name, parts_of}
+use Rattle.work_key_parts.specs.declared.parts.KeyPart.{KeyPart}
+use Rattle.work_key_parts.specs.declared.parts.KeyParts.{KeyParts}
+use Rattle.work_key_parts.specs.declared.parts.Place.{Place}
+use Rattle.work_key_parts.specs.declared.parts.Place.TheVariants.{MainEntry, UniformTitle, Title, AddedEntry, Nowhere, Itself}
 use Rattle.why_texts.specs.declared.works.Keyed.{Keyed as KeyedInPlace}
 
 -- an edition with its work key, the parts of that, the content that its records merge to, and what each of them says
@@ -53,10 +52,6 @@ value_text p = value_of p.place p.text
 -- a field of which an edition shows one, as `--fields` tells it
 abbrev pub shown_text : Part → Content → List Content → List ℕ
 shown_text part c contents = codes "   " ++ part_text part c contents
-
--- the name of a 700, 710 or 711, as the table has it
-abbrev pub added_name : Table → Field → List ℕ
-added_name names f = (if is_added_entry f then used_for names (name_of f) else [])
 
 -- a field that is a 700, 710 or 711 of that name
 unfoldable pub entry_text : List Content → Field → List ℕ

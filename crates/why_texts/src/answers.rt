@@ -42,7 +42,11 @@ pub fn add_alone(
 }
 
 /// Adds both ids.
-pub(crate) fn add_pair(text: &mut Vec<u8>, one: &RecordId, other: &RecordId) -> Result<(), AllocError>
+pub(crate) fn add_pair(
+    text: &mut Vec<u8>,
+    one: &RecordId,
+    other: &RecordId,
+) -> Result<(), AllocError>
     ensures { OnOk result (text.new.items ≡ text.old.items ++ pair_text one.now other.now) }
 {
     add_id(text, one)?;

@@ -9,11 +9,9 @@ ghost use Rattle.why_texts.specs.Works.{keyed_by, keyed_meaning, value_of, value
 ghost use Rattle.why_texts.specs.Works.{likeness_text, alike_text, both_lines, keys_text, compared_lines, verdict_text};
 ghost use Rattle.why_texts.specs.Works.{work_text, one_work_text, two_editions_text, told_work, told_works};
 
-use crate::added_names::added_name;
 use crate::answers::{add_pair, add_size};
 use crate::fields::{add_part, add_united, contents_of};
 use crate::ids::add_id;
-use crate::work_parts::{KeyPart, KeyParts, Place, parts_of};
 use authority_names::name_table::NameTable;
 use catalogue_editions::edition::Edition;
 use catalogue_editions::shared_content::SharedContent;
@@ -26,6 +24,8 @@ use union_base::bytes::Bytes;
 use union_base::field::Field;
 use union_base::memory::Memory;
 use union_base::record_id::RecordId;
+use work_key_parts::added_names::added_name;
+use work_key_parts::parts::{KeyPart, KeyParts, Place, parts_of};
 
 /// An edition with its work key, the parts of that, the content that its records merge to, and what each of them says.
 pub struct Keyed {
@@ -333,7 +333,7 @@ impl Keyed {
     ) -> Result<(), Memory>
         ensures { OnOk result (text.new.items ≡ text.old.items
             ++ both_lines names.now (keyed_meaning self.now) (keyed_meaning other.now) name.now
-                parts.0.now parts.1.now) }
+            parts.0.now parts.1.now) }
     {
         let (one, two) = parts;
         text.extend_from_slice(name)?;
@@ -430,7 +430,7 @@ impl Keyed {
     ) -> Result<(), Memory>
         ensures { OnOk result (text.new.items ≡ text.old.items
             ++ two_editions_text names.now ids.0.now ids.1.now editions.0.now editions.1.now
-                (keyed_meaning self.now) (keyed_meaning other.now)) }
+            (keyed_meaning self.now) (keyed_meaning other.now)) }
     {
         let (one, two) = ids;
         let (x, y) = editions;
@@ -473,7 +473,7 @@ fn add_one_work(
 ) -> Result<(), Memory>
     ensures { OnOk result (text.new.items ≡ text.old.items
         ++ one_work_text names.now ids.0.now ids.1.now edition.now
-            (keyed_by names.now edition.now (members records.now edition.now))) }
+        (keyed_by names.now edition.now (members records.now edition.now))) }
 {
     let found = keyed_of(alloc, names, records, edition)?;
     found.add_together(alloc, text, names, ids, edition)?;
@@ -491,8 +491,8 @@ fn add_two_editions(
 ) -> Result<(), Memory>
     ensures { OnOk result (text.new.items ≡ text.old.items
         ++ two_editions_text names.now ids.0.now ids.1.now editions.0.now editions.1.now
-            (keyed_by names.now editions.0.now (members records.now editions.0.now))
-            (keyed_by names.now editions.1.now (members records.now editions.1.now))) }
+        (keyed_by names.now editions.0.now (members records.now editions.0.now))
+        (keyed_by names.now editions.1.now (members records.now editions.1.now))) }
 {
     let (x, y) = editions;
     let first = keyed_of(alloc, names, records, x)?;
@@ -512,7 +512,7 @@ pub fn add_works(
 ) -> Result<(), Memory>
     ensures { OnOk result (text.new.items ≡ text.old.items
         ++ told_works names.now records.now ids.0.now ids.1.now
-            editions.0.now editions.1.now) }
+        editions.0.now editions.1.now) }
 {
     if holds(editions.0, ids.1) {
         add_one_work(alloc, text, names, records, ids, editions.0)

@@ -1,17 +1,17 @@
 -- The two parts of an edition's work key, and where each comes from.
-use Rattle.std.specs.Prelude.{◌≡◌, ℕ, if◌then◌else◌, List, ◌++◌, codes}
-use Rattle.union_base.specs.declared.record_id.RecordId.{RecordId}
+use Rattle.std.specs.Prelude.{◌≡◌, ℕ, if◌then◌else◌, List, [], ◌++◌, codes}
+use Rattle.union_base.specs.declared.field.Field.{Field}
 use Rattle.naco_normal.specs.Words.{is_empty}
-use Rattle.workset_keys.specs.Names.{title245_of}
+use Rattle.workset_keys.specs.Names.{name_of, title245_of}
 use Rattle.workset_keys.specs.WorkKeys.{main_name, main_title, uniform_title, least_of, own_name}
 use Rattle.authority_names.specs.Leads.{Table, used_for}
 use Rattle.catalogue_editions.specs.Ids.{least}
 use Rattle.catalogue_editions.specs.declared.edition.Edition.{Edition}
-use Rattle.record_editions.specs.EditionKeys.{added_names, field_in, work_key_by}
-use Rattle.why_texts.specs.declared.work_parts.KeyPart.{KeyPart}
-use Rattle.why_texts.specs.declared.work_parts.KeyParts.{KeyParts}
-use Rattle.why_texts.specs.declared.work_parts.Place.{Place}
-use Rattle.why_texts.specs.declared.work_parts.Place.TheVariants.{MainEntry, UniformTitle, Title, AddedEntry, Nowhere, Itself}
+use Rattle.record_editions.specs.EditionKeys.{added_names, field_in, is_added_entry, work_key_by}
+use Rattle.work_key_parts.specs.declared.parts.KeyPart.{KeyPart}
+use Rattle.work_key_parts.specs.declared.parts.KeyParts.{KeyParts}
+use Rattle.work_key_parts.specs.declared.parts.Place.{Place}
+use Rattle.work_key_parts.specs.declared.parts.Place.TheVariants.{MainEntry, UniformTitle, Title, AddedEntry, Nowhere, Itself}
 
 -- a part of a key, and where it comes from
 abbrev pub key_part : List ℕ → Place → KeyPart
@@ -48,6 +48,10 @@ uniform_in e = uniform_title (field_in e.content.f240)
 -- that in its 245
 abbrev pub title_in : Edition → List ℕ
 title_in e = title245_of e.content.f245.field
+
+-- the name of a field that is a 700, 710 or 711, as the table has it
+abbrev pub added_name : Table → Field → List ℕ
+added_name names f = (if is_added_entry f then used_for names (name_of f) else [])
 
 -- the least name of its 700, 710 and 711, each as the table has it
 abbrev pub added_in : Table → Edition → List ℕ

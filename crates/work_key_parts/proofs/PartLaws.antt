@@ -7,8 +7,7 @@ use Rattle.workset_keys.specs.WorkKeys.{lesser, or_else, own_name, key_of}
 use Rattle.authority_names.specs.Leads.{Table, used_for}
 use Rattle.catalogue_editions.specs.Ids.{least}
 use Rattle.record_editions.specs.EditionKeys.{is_added_entry, added_names}
-use Rattle.why_texts.specs.WorkParts.{author_by, title_by, name_in, whole_in, uniform_in, title_in, added_in, key_of_parts, IsOfParts}
-use Rattle.why_texts.specs.Works.{added_name}
+use Rattle.work_key_parts.specs.Parts.{added_name, author_by, title_by, name_in, whole_in, uniform_in, title_in, added_in, key_of_parts, IsOfParts}
 
 -- the key that the author and the title make
 key-by-parts : (name whole uniform title added own : List ℕ)

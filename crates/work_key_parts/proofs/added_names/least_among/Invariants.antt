@@ -1,8 +1,8 @@
 use Rattle.std.proofs.Common.{◌≡◌, [], map, take}
 use Rattle.std.specs.List.{fold}
 use Rattle.workset_keys.specs.WorkKeys.{lesser}
-use Rattle.why_texts.specs.Works.{added_name}
-use Rattle.why_texts.proofs.added_names.least_among.Given as goal
+use Rattle.work_key_parts.specs.Parts.{added_name}
+use Rattle.work_key_parts.proofs.added_names.least_among.Given as goal
 
 -- the least name of the fields so far
 abbrev pub invariant-loop-field : goal.invariant-loop-field

@@ -2,10 +2,10 @@
 ghost use Rattle.std.specs.Prelude.{◌≡◌, IfOk};
 ghost use Rattle.std.specs.Option.{option_copied};
 ghost use Rattle.record_editions.specs.EditionKeys.{field_in};
-ghost use Rattle.why_texts.specs.WorkParts.{author_by, title_by, name_in, whole_in, uniform_in, title_in, author_of, title_of, parts_of};
+ghost use Rattle.work_key_parts.specs.Parts.{author_by, title_by, name_in, whole_in, uniform_in, title_in, author_of, title_of, parts_of};
 
 use crate::added_names::added_in;
-use crate::work_titles::{is_empty, main_title, uniform_title};
+use crate::titles::{is_empty, main_title, uniform_title};
 use authority_names::name_table::NameTable;
 use catalogue_editions::edition::Edition;
 use field_merge::slot::Slot;

@@ -3,10 +3,9 @@ ghost use Rattle.std.specs.Prelude.{◌≡◌, [], IfOk};
 ghost use Rattle.workset_keys.specs.Names.{HasTexts};
 ghost use Rattle.workset_keys.specs.WorkKeys.{lesser, least_of};
 ghost use Rattle.record_editions.specs.EditionKeys.{added_names, is_added_entry};
-ghost use Rattle.why_texts.specs.WorkParts.{added_in};
-ghost use Rattle.why_texts.specs.Works.{added_name};
+ghost use Rattle.work_key_parts.specs.Parts.{added_in, added_name};
 
-use crate::work_titles::{empty, is_empty};
+use crate::titles::{empty, is_empty};
 use authority_names::name_table::NameTable;
 use catalogue_editions::edition::Edition;
 use catalogue_editions::shared_content::SharedContent;
@@ -26,7 +25,7 @@ fn is_added_entry(field: &Field) -> bool
 
 /// The name of the field where it is an added entry, as the table has it; an empty one where it is none. Returns `Memory` if
 /// allocation fails.
-pub(crate) fn added_name(alloc: Global, names: &NameTable, field: &Field) -> Result<Bytes, Memory>
+pub fn added_name(alloc: Global, names: &NameTable, field: &Field) -> Result<Bytes, Memory>
     requires { HasTexts field.now }
     ensures { IfOk result (λ b. b ≡ added_name names.now field.now) }
 {

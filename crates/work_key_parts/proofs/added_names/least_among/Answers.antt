@@ -3,7 +3,7 @@ use Rattle.union_base.specs.declared.field.Field.{Field}
 use Rattle.workset_keys.specs.Names.{HasTexts}
 use Rattle.field_merge.specs.declared.content.Content.{Content}
 use Rattle.record_editions.proofs.EditionTexts.{united_texts}
-use Rattle.why_texts.proofs.added_names.least_among.Goals as goal
+use Rattle.work_key_parts.proofs.added_names.least_among.Goals as goal
 
 pub added_name-requires : goal.added_name-requires
 added_name-requires c =
