@@ -1,0 +1,15 @@
+use Rattle.std.proofs.Common.{append_assoc}
+use Rattle.why_texts.specs.Works.{one_work_text}
+use Rattle.why_texts.proofs.works.Keyed.add_together.Goals as goal
+
+pub returns : goal.returns
+unfolding one_work_text
+returns c =
+    rw (
+      c.in_ok-add_key_lines.ensures,
+      c.in_ok-extend_from_slice-2.ensures.items,
+      c.in_ok-add_size.ensures,
+      c.in_ok-extend_from_slice.ensures.items,
+      c.in_ok-add_pair.ensures,
+    )
+    (simp append_assoc)
