@@ -1,7 +1,7 @@
 //! A caller of each library, of ten lines at most: how it is called, and what its contract gives the caller.
 //!
-//! Each module is named for the library that it calls, in the order of crates.txt. Its one function calls the public call that carries
-//! the library's claim, and its clauses are proved of what that call says, so a reader sees a library used before reading its contracts.
+//! Each module is named for the library that it calls. Its one function calls the public call that carries the library's claim, and its
+//! clauses follow from what that call says: a reader sees a library used before reading its contracts.
 #![tactic(auto)]
 
 pub mod authority_names_example;
@@ -12,8 +12,11 @@ pub mod catalogue_lock_example;
 pub mod catalogue_query_example;
 pub mod change_notices_example;
 pub mod cluster_reopen_example;
+pub mod doubt_texts_example;
 pub mod edition_blocks_example;
 pub mod edition_derivations_example;
+pub mod edition_doubts_example;
+pub mod edition_sources_example;
 pub mod feature_index_example;
 pub mod field_merge_example;
 pub mod gathered_catalogue_example;
@@ -44,9 +47,18 @@ pub mod turn_plans_example;
 pub mod union_base_example;
 pub mod union_explain_example;
 pub mod union_files_example;
+pub mod union_follow_example;
 pub mod union_io_example;
+pub mod union_json_example;
+pub mod union_keys_example;
 pub mod union_load_example;
+pub mod union_program_example;
+pub mod union_progress_example;
+pub mod union_script_example;
+pub mod union_trial_example;
 pub mod union_watch_example;
+pub mod union_why_example;
 pub mod union_words_example;
+pub mod why_texts_example;
 pub mod work_clusters_example;
 pub mod workset_keys_example;

@@ -1,6 +1,6 @@
 //! How load_sessions is called.
 ghost use Rattle.std.specs.Prelude.{◌≤◌, All};
-ghost use Rattle.load_sessions.specs.Askers.{Asks, IsAsker};
+ghost use Rattle.load_sessions.specs.Askers.{IsAsker};
 ghost use Rattle.load_sessions.specs.Sessions.{IsReady, RunsEach};
 
 use catalogue_lock::desk::Desk;

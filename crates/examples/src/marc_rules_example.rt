@@ -12,7 +12,8 @@ use std::alloc::Global;
 /// The record of a frame that breaks none of the nineteen rules.
 pub fn accepted_record(alloc: Global, frame: &[u8]) -> Result<Record, Refusal>
     requires { IsWhole frame.now }
-    ensures { IfOk result (λ found. Spells frame.now found × IsAccepted found) }
+    ensures spells { IfOk result (λ found. Spells frame.now found) }
+    ensures accepted { IfOk result (λ found. IsAccepted found) }
 {
     check_frame(alloc, Cut::Whole, frame)
 }

@@ -1,6 +1,5 @@
 //! How union_load is called.
-ghost use Rattle.std.specs.Prelude.{IfErr};
-ghost use Rattle.union_files.specs.Inputs.{Gathers, OpensInOrder, deliveries};
+ghost use Rattle.union_files.specs.Inputs.{Gathers, deliveries};
 ghost use Rattle.union_files.specs.Unions.{HasUnited};
 ghost use Rattle.union_words.specs.Flows.{shelf_flow};
 ghost use Rattle.union_words.specs.Meanings.{libraries_meaning};

@@ -11,7 +11,12 @@ use union_base::record_id::RecordId;
 use workset_keys::work_key::work_key;
 
 /// The work key of a record by its main entry and its title alone.
-pub fn key_by_title(alloc: Global, main: &Field, title: &Field, id: &RecordId) -> Result<Bytes, Memory>
+pub fn key_by_title(
+    alloc: Global,
+    main: &Field,
+    title: &Field,
+    id: &RecordId,
+) -> Result<Bytes, Memory>
     requires main { HasTexts main.now }
     requires title { HasTexts title.now }
     ensures { IfOk result (λ key. key ≡ work_key (Some main.now) None title.now [] id.now) }
