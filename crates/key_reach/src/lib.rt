@@ -1,0 +1,4 @@
+//! Laws only.
+#![tactic(auto)]
+
+pub mod laws;
