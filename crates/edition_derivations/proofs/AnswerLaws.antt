@@ -18,7 +18,7 @@ use Rattle.edition_derivations.specs.Steps.{holds}
 use Rattle.edition_derivations.specs.Answers.{AreApart}
 
 -- editions that match are one
-one-of : (records editions : List Edition) → IsResolution match join records editions → (x y : Edition) → Contains editions x → Contains editions y
+pub one-of : (records editions : List Edition) → IsResolution match join records editions → (x y : Edition) → Contains editions x → Contains editions y
     → IsTrue (match x y) → x ≡ y
 one-of records editions r x y cx cy m =
     same-from_related (λ x y. IsTrue (match x y)) editions (apart-from_resolution edition_join_laws edition_match_laws records editions r) x y cx cy m

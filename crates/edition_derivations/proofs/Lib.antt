@@ -4,3 +4,4 @@ pub mod DerivingLaws
 pub mod ShortLaws
 pub mod AnswerLaws
 pub mod CommonLaws
+pub mod KeptLaws
