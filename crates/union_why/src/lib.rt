@@ -11,6 +11,7 @@
 #![tactic(auto)]
 
 pub mod fates;
+pub mod laws;
 pub mod listings;
 mod options;
 pub mod records;
