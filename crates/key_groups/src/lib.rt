@@ -9,7 +9,7 @@
 
 pub mod groups;
 mod labels;
-mod links;
-mod notes;
-mod pairs;
+pub mod links;
+pub mod notes;
+pub mod pairs;
 mod shares;

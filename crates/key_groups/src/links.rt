@@ -97,7 +97,7 @@ fn firsts_of_groups(alloc: Global, links: &[usize]) -> Result<Vec<usize>, Memory
 
 /// A label for each of `count` places, the first place of its group: the two places of each pair have one label, and so have those that
 /// are joined through others, and no more. Returns `Memory` if allocation fails.
-pub(crate) fn labels_by_pairs(
+pub fn labels_by_pairs(
     alloc: Global,
     count: usize,
     pairs: Vec<(usize, usize)>,

@@ -17,9 +17,9 @@ use union_base::memory::Memory;
 
 /// A place under a hash.
 #[derive(Clone, Copy)]
-pub(crate) struct Noted {
-    pub(crate) hash: u64,
-    pub(crate) place: usize,
+pub struct Noted {
+    pub hash: u64,
+    pub place: usize,
 }
 
 /// The hash of the key by these numbers.

@@ -47,7 +47,7 @@ fn add_neighbours(sorted: &[Noted], pairs: &mut Vec<(usize, usize)>) -> Result<(
 }
 
 /// The pairs of the parts. Returns `Memory` if allocation fails.
-fn pairs_of(alloc: Global, parts: Vec<Vec<Noted>>) -> Result<Vec<(usize, usize)>, Memory>
+pub fn pairs_of(alloc: Global, parts: Vec<Vec<Noted>>) -> Result<Vec<(usize, usize)>, Memory>
     ensures { IfOk result (λ pairs. ArePairs (map (λ part. part.items) parts.items)
         pairs.items) }
 {
